@@ -12,5 +12,7 @@ pub mod place;
 pub mod program;
 pub mod reading;
 pub mod tables;
+#[cfg(test)]
+mod tests;
 pub mod tree;
 pub mod units;
