@@ -13,6 +13,8 @@ use thiserror::Error;
 mod fault_count;
 mod file_host;
 mod memory_host;
+#[cfg(test)]
+mod tests;
 mod transfer;
 
 pub use file_host::FileHost;
@@ -28,7 +30,7 @@ pub enum HostFault {
     Memory,
 }
 
-/// Files by name, and an ear. After `Failed` in `write` the file may hold anything.
+/// Files by name, and an output that is told text. After `Failed` in `write` the file may hold anything.
 pub trait Host {
     /// What contracts see of the host.
     ghost view: { Self → View };

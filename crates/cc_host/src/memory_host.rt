@@ -50,10 +50,7 @@ impl MemoryHost {
     pub fn file(&self, name: &str) -> Option<&[u8]>
         ensures { option_copied result ≡ file_of (contents_of self.now) name.now }
     {
-        match self.files.get(name) {
-            Some(bytes) => Some(bytes.as_slice()),
-            None => None,
-        }
+        self.files.get(name).map(Vec::as_slice)
     }
 
     /// Makes a file hold these bytes. This is no call of the host.
