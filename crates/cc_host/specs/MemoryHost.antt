@@ -19,7 +19,7 @@ abbrev pub view_of : MemoryHost → View
 view_of host = record {
   faults = host.count;
   tell_faults = host.tell_count;
-  shown = Some (contents_of host)
+  shown = Some (contents_of host);
 }
 
 -- the next call of the host is one that fails

@@ -1,5 +1,6 @@
 //! What no clause says: that calls succeed where there is memory, and what the system does with files.
-ghost use Rattle.std.specs.Prelude.{◌≡◌, OnOk};
+ghost use Rattle.std.specs.Prelude.{◌≡◌, ◌⊎◌, ◌++◌, Some, OnOk, IsErrOf};
+ghost use Rattle.cc_host.specs.Count.{Rose};
 ghost use Rattle.cc_host.specs.Host.{IfShown, file_of};
 
 use crate::transfer::{read_up_to, write_whole};
@@ -14,7 +15,12 @@ fn copy_and_tell<H: Host>(
     from: &str,
     to: &str,
     bytes: &mut Vec<u8>,
-) -> Result<(), HostFault> {
+) -> Result<(), HostFault>
+    ensures done { OnOk result (IfShown (H.view host.old).shown (H.view host.new).shown (λ before after.
+        (file_of after to.now ≡ Some bytes.new.items) × (after.told ≡ before.told ++ bytes.new.items))) }
+    ensures failed { IsErrOf result HostFault.Failed →
+        Rose (H.view host.old).faults (H.view host.new).faults ⊎ Rose (H.view host.old).tell_faults (H.view host.new).tell_faults }
+{
     host.read(from, bytes)?;
     host.write(to, bytes.as_slice())?;
     host.tell(bytes.as_slice())
@@ -28,16 +34,18 @@ fn memory_keeps_files_and_what_was_told(rt: HostRuntime) -> Result<(), Fail> {
     let mut bytes = Vec::from_slice(rt.alloc(), b"//")?;
     copy_and_tell(&mut host, "in.js", "out.js", &mut bytes)?;
     assert_eq!(rt; bytes.as_slice(), b"//alert".as_slice());
-    assert_eq!(rt; host.file("in.js"), Some(b"alert".as_slice()));
-    assert_eq!(rt; host.file("out.js"), Some(b"//alert".as_slice()));
-    assert_eq!(rt; host.file("other.js"), None);
+    assert_eq!(rt; host.file("in.js").ok_or("in.js")?, b"alert".as_slice());
+    assert_eq!(rt; host.file("out.js").ok_or("out.js")?, b"//alert".as_slice());
+    assert!(rt; host.file("other.js").is_none());
     assert_eq!(rt; host.told.as_slice(), b"begun //alert".as_slice());
     assert_eq!(rt; (host.calls, host.count, host.tell_count), (5, 0, 0));
     Ok(())
 }
 
 #[test]
-fn memory_fails_at_the_calls_that_are_picked_and_at_missing_files(rt: HostRuntime) -> Result<(), Fail> {
+fn memory_fails_at_the_calls_that_are_picked_and_at_missing_files(
+    rt: HostRuntime,
+) -> Result<(), Fail> {
     let mut host = MemoryHost::new(rt.alloc());
     host.set_file("in.js", b"1")?;
     for call in [0, 1, 2] {
@@ -70,10 +78,16 @@ fn the_edge_reads_back_what_it_wrote_and_counts_its_failures(rt: HostRuntime) ->
     assert_eq!(rt; bytes.get(65_538), text.get(65_536));
     assert_eq!(rt; bytes.get(2..), Some(text.as_slice()));
     assert_eq!(rt; host.faults(), 0);
-    assert_eq!(rt; host.read("cc_host_edge.tmp", &mut bytes), Err(HostFault::Failed));
+    assert_eq!(rt;
+        host.read("cc_host_edge.tmp", &mut bytes),
+        Err(HostFault::Failed)
+    );
     assert_eq!(rt; host.read(".", &mut bytes), Err(HostFault::Failed));
     assert_eq!(rt; host.write(".", b"1"), Err(HostFault::Failed));
-    assert_eq!(rt; host.write("no_folder.tmp/out.js", b"1"), Err(HostFault::Failed));
+    assert_eq!(rt;
+        host.write("no_folder.tmp/out.js", b"1"),
+        Err(HostFault::Failed)
+    );
     assert_eq!(rt; (host.faults(), host.tell_faults()), (4, 0));
     host.tell(b"told\n")?;
     assert_eq!(rt; (host.faults(), host.tell_faults()), (4, 0));
@@ -112,7 +126,11 @@ impl Read for Slow {
 
 impl Write for Slow {
     fn write(&mut self, buf: &[u8]) -> io::Result<usize> {
-        if self.goes_on() && !buf.is_empty() { Ok(1) } else { Ok(0) }
+        if self.goes_on() && !buf.is_empty() {
+            Ok(1)
+        } else {
+            Ok(0)
+        }
     }
 
     fn flush(&mut self) -> io::Result<()> {
@@ -123,17 +141,32 @@ impl Write for Slow {
 #[test]
 fn a_failure_in_mid_stream_is_not_tried_again(rt: HostRuntime) -> Result<(), Fail> {
     let mut bytes = Vec::from_slice(rt.alloc(), b"//")?;
-    let mut slow = Slow { calls: 0, fails_at: 2 };
-    assert_eq!(rt; read_up_to(&mut slow, 9, &mut bytes), Err(HostFault::Failed));
+    let mut slow = Slow {
+        calls: 0,
+        fails_at: 2,
+    };
+    assert_eq!(rt;
+        read_up_to(&mut slow, 9, &mut bytes),
+        Err(HostFault::Failed)
+    );
     assert_eq!(rt; bytes.as_slice(), b"//xx".as_slice());
     assert_eq!(rt; slow.calls, 3);
-    let mut slow = Slow { calls: 0, fails_at: 9 };
+    let mut slow = Slow {
+        calls: 0,
+        fails_at: 9,
+    };
     read_up_to(&mut slow, 2, &mut bytes)?;
     assert_eq!(rt; (slow.calls, bytes.len()), (2, 6));
-    let mut slow = Slow { calls: 0, fails_at: 2 };
+    let mut slow = Slow {
+        calls: 0,
+        fails_at: 2,
+    };
     assert_eq!(rt; write_whole(&mut slow, b"123"), Err(HostFault::Failed));
     assert_eq!(rt; slow.calls, 3);
-    let mut slow = Slow { calls: 0, fails_at: 3 };
+    let mut slow = Slow {
+        calls: 0,
+        fails_at: 3,
+    };
     write_whole(&mut slow, b"123")?;
     assert_eq!(rt; slow.calls, 3);
     Ok(())
