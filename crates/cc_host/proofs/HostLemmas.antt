@@ -1,7 +1,6 @@
 -- How the promises of several calls of a host join: for the proofs of whoever calls one more than once.
-use Rattle.std.proofs.Common.{◌≡◌, ℕ, ◌<◌, ◌≤◌, ◌^◌, ◌-◌, Option, None, Some, Err, arith, sym, subst}
-use Rattle.cc_host.specs.declared.HostFault.TheVariants.{Failed}
-use Rattle.cc_host.specs.Count.{Answer, Rose}
+use Rattle.std.proofs.Common.{◌≡◌, ℕ, ◌<◌, ◌≤◌, ◌^◌, ◌-◌, Option, None, Some, arith, sym, subst}
+use Rattle.cc_host.specs.Count.{Rose}
 use Rattle.cc_host.specs.Host.{Contents, IfShown}
 
 -- what relates contents to themselves holds where they stayed

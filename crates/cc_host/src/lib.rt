@@ -26,6 +26,7 @@ pub enum HostFault {
     /// The host failed, and its count of faults rose.
     #[error("the host failed")]
     Failed,
+    /// There was no memory for it, and the host is as it was.
     #[error("out of memory")]
     Memory,
 }
@@ -37,7 +38,8 @@ pub trait Host {
 
     /// Appends the bytes of a file to `into`.
     fn read(&mut self, name: &str, into: &mut Vec<u8>) -> Result<(), HostFault>
-        ensures reads { Reads name.now (view self.old) (view self.new) into.old.items into.new.items result };
+        ensures reads { Reads name.now (view self.old) (view self.new)
+            into.old.items into.new.items result };
 
     /// Makes the file hold exactly these bytes, whether or not it was there before.
     fn write(&mut self, name: &str, bytes: &[u8]) -> Result<(), HostFault>

@@ -27,7 +27,7 @@ pub struct MemoryHost {
 }
 
 impl MemoryHost {
-    /// A host with no file, none of whose calls fail but those that read.
+    /// A host with no files, at which no call is picked to fail.
     pub fn new(alloc: Global) -> MemoryHost
         ensures files { result.files.entries ≡ [] }
         ensures fail { result.fail.items ≡ [] }
@@ -82,9 +82,14 @@ impl Host for MemoryHost {
     ghost view = { view_of };
 
     fn read(&mut self, name: &str, into: &mut Vec<u8>) -> Result<(), HostFault>
-        ensures reads { Reads name.now (view_of self.old) (view_of self.new) into.old.items into.new.items result }
-        ensures fails { IsErrOf result HostFault.Failed ↔ (FailsNext self.old ⊎ IsNone (file_of (contents_of self.old) name.now)) }
-        ensures after { self.new ≡ record self.old { calls = one_more self.old.calls; count = count_after result self.old.count } }
+        ensures reads { Reads name.now (view_of self.old) (view_of self.new)
+            into.old.items into.new.items result }
+        ensures fails { IsErrOf result HostFault.Failed ↔
+            (FailsNext self.old ⊎ IsNone (file_of (contents_of self.old) name.now)) }
+        ensures after { self.new ≡ record self.old {
+          calls = one_more self.old.calls;
+          count = count_after result self.old.count;
+        } }
         ensures err { OnErr result (into.new.items ≡ into.old.items) }
     {
         let fails = self.begin_call();
@@ -99,7 +104,11 @@ impl Host for MemoryHost {
     fn write(&mut self, name: &str, bytes: &[u8]) -> Result<(), HostFault>
         ensures writes { Writes name.now bytes.now (view_of self.old) (view_of self.new) result }
         ensures fails { IsErrOf result HostFault.Failed ↔ FailsNext self.old }
-        ensures after { self.new ≡ record self.old { files = self.new.files; calls = one_more self.old.calls; count = count_after result self.old.count } }
+        ensures after { self.new ≡ record self.old {
+          files = self.new.files;
+          calls = one_more self.old.calls;
+          count = count_after result self.old.count;
+        } }
         ensures err { OnErr result (self.new.files.entries ≡ self.old.files.entries) }
     {
         let fails = self.begin_call();
@@ -115,7 +124,11 @@ impl Host for MemoryHost {
     fn tell(&mut self, bytes: &[u8]) -> Result<(), HostFault>
         ensures tells { Tells bytes.now (view_of self.old) (view_of self.new) result }
         ensures fails { IsErrOf result HostFault.Failed ↔ FailsNext self.old }
-        ensures after { self.new ≡ record self.old { told = self.new.told; calls = one_more self.old.calls; tell_count = count_after result self.old.tell_count } }
+        ensures after { self.new ≡ record self.old {
+          told = self.new.told;
+          calls = one_more self.old.calls;
+          tell_count = count_after result self.old.tell_count;
+        } }
         ensures err { OnErr result (self.new.told.items ≡ self.old.told.items) }
     {
         let fails = self.begin_call();

@@ -16,7 +16,8 @@ pub(crate) fn read_up_to<R: Read>(
     limit: usize,
     into: &mut Vec<u8>,
 ) -> Result<(), HostFault>
-    ensures ok { OnOk result (IfSome (R.remaining reader.old) (λ rest. into.new.items ≡ into.old.items ++ take limit rest)) }
+    ensures ok { OnOk result (IfSome (R.remaining reader.old) (λ rest.
+        into.new.items ≡ into.old.items ++ take limit rest)) }
     ensures begins { StartsWith into.new.items into.old.items }
     ensures limit { vec_len into.new ≤ vec_len into.old + limit }
 {
@@ -38,7 +39,9 @@ fn append_chunk<R: Read>(
     into: &mut Vec<u8>,
 ) -> Result<usize, HostFault>
     requires { 0 < most }
-    ensures ok { IfOk result (λ n. (bytes : List ℕ) × (length bytes ≡ n) × (into.new.items ≡ into.old.items ++ bytes) × Consumes (R.remaining reader.old) (R.remaining reader.new) bytes) }
+    ensures ok { IfOk result (λ n. (bytes : List ℕ) × (length bytes ≡ n) ×
+        (into.new.items ≡ into.old.items ++ bytes) ×
+        Consumes (R.remaining reader.old) (R.remaining reader.new) bytes) }
     ensures most { IfOk result (λ n. n ≤ most) }
     ensures end { IfOk result (λ n. n ≡ 0 → IsAtEnd (R.remaining reader.new)) }
     ensures err { OnErr result (into.new.items ≡ into.old.items) }

@@ -1,4 +1,4 @@
-use Rattle.std.proofs.Common.{rules, Some, ap, ◌∙◌}
+use Rattle.std.proofs.Common.{Some, ap, ◌∙◌}
 use Rattle.cc_host.proofs.MemoryHostLemmas.{lookup-set_same, lookup-set_other}
 use Rattle.cc_host.proofs.memory_host.MemoryHost.set_file.Goals as goal
 
