@@ -1,0 +1,4 @@
+pub mod Count
+pub mod Host
+pub mod MemoryHost
+pub mod FileHost
