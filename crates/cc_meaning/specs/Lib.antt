@@ -1,1 +1,5 @@
 pub mod Values
+pub mod Operators
+pub mod Names
+pub mod Builtins
+pub mod Types
