@@ -6,3 +6,6 @@ pub mod Types
 pub mod State
 pub mod Monad
 pub mod Store
+pub mod Typed
+pub mod Built
+pub mod Judge
