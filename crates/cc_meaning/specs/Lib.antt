@@ -9,3 +9,4 @@ pub mod Store
 pub mod Typed
 pub mod Built
 pub mod Judge
+pub mod Acts

@@ -41,6 +41,10 @@ M A = State → Res A
 unfoldable pub ret : {A : Type 0} → A → M A
 ret a s = ok [] a s
 
+-- nothing happens
+abbrev pub skip : M (Unit {0})
+skip = ret tt
+
 unfoldable pub raise : {A : Type 0} → Val → M A
 raise v s = threw [] v s
 
