@@ -10,3 +10,8 @@ pub mod Typed
 pub mod Built
 pub mod Judge
 pub mod Acts
+pub mod Shapes
+pub mod Calls
+pub mod Meaning
+pub mod Script
+pub mod Same
