@@ -1,3 +1,9 @@
 pub mod Opened
 pub mod Trees
 pub mod RowsWorked
+pub mod RowsApplication
+pub mod RowsMended
+pub mod RowsStatements
+pub mod RowsCalls
+pub mod RowsStore
+pub mod RowsTypes

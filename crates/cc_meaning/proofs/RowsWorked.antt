@@ -72,6 +72,94 @@ exported_run : run checked exported (record { turns = (load 0 ∷ call_turn (rec
 unfolding opened
 exported_run = refl
 
+exported_plain : run plain exported (record { turns = (load 0 ∷ call_turn (record { callee = 0; this = undef; args = ((shown_prim (whole (pos 4))) ∷ []) }) ∷ []); replies = [] }) 40 ≡ ((put (shown_out 0) (codes "f") (handle 0) ∷ ended undef ∷ ended (shown_prim (whole (pos 5))) ∷ []), finished)
+unfolding opened
+exported_plain = refl
+
+--     /** @constructor */
+--     function Cat(){}
+--     Cat.prototype.draw=function(){alert('c');};
+--     /** @constructor */
+--     function Dog(){}
+--     Dog.prototype.draw=function(){alert('d');};
+--     function show(p){p.draw();}show(new Cat());show(new Dog());
+abbrev draws : Program
+draws = record {
+  scopes =
+    (record { params = 0; names = 0; own = false; body = stmts ((fun_decl 2001 (Ref.Global 4) 1) ∷ (simple 3001 (assign 3019 None (to_member 3014 (member 3004 (var 3001 (Ref.Global 4)) 0) 1) (fun 3020 2))) ∷ (fun_decl 5001 (Ref.Global 5) 3) ∷ (simple 6001 (assign 6019 None (to_member 6014 (member 6004 (var 6001 (Ref.Global 5)) 0) 1) (fun 6020 4))) ∷ (fun_decl 7001 (Ref.Global 6) 5) ∷ (simple 7028 (call 7032 (var 7028 (Ref.Global 6)) (exprs ((new 7033 (var 7037 (Ref.Global 4)) (exprs [])) ∷ [])))) ∷ (simple 7044 (call 7048 (var 7044 (Ref.Global 6)) (exprs ((new 7049 (var 7053 (Ref.Global 5)) (exprs [])) ∷ [])))) ∷ []); parent = None; doc = 0 })
+    ∷ (record { params = 0; names = 0; own = false; body = stmts []; parent = None; doc = 1 })
+    ∷ (record { params = 0; names = 0; own = false; body = stmts ((simple 3031 (call 3036 (var 3031 (Ref.Global 0)) (exprs ((lit 3037 (text (codes "c"))) ∷ [])))) ∷ []); parent = None; doc = 0 })
+    ∷ (record { params = 0; names = 0; own = false; body = stmts []; parent = None; doc = 2 })
+    ∷ (record { params = 0; names = 0; own = false; body = stmts ((simple 6031 (call 6036 (var 6031 (Ref.Global 0)) (exprs ((lit 6037 (text (codes "d"))) ∷ [])))) ∷ []); parent = None; doc = 0 })
+    ∷ (record { params = 1; names = 0; own = false; body = stmts ((simple 7018 (call 7024 (member 7019 (var 7018 (Ref.Frame 0 0)) 1) (exprs []))) ∷ []); parent = None; doc = 0 }) ∷ [];
+  chunks = (chunk_of [] ∷ []);
+  globals = ((record { name = (codes "alert"); chunk = None; doc = 0; flat = [] }) ∷ (record { name = (codes "Object"); chunk = None; doc = 0; flat = [] }) ∷ (record { name = (codes "Math"); chunk = None; doc = 0; flat = [] }) ∷ (record { name = (codes "String"); chunk = None; doc = 0; flat = [] }) ∷ (record { name = (codes "Cat"); chunk = Some 0; doc = 0; flat = [] }) ∷ (record { name = (codes "Dog"); chunk = Some 0; doc = 0; flat = [] }) ∷ (record { name = (codes "show"); chunk = Some 0; doc = 0; flat = [] }) ∷ []);
+  props = (kept_prop (codes "prototype") ∷ prop (codes "draw") ∷ []);
+  kept = always_kept;
+  classes = ((record { name = (codes "Cat"); function = Some 1; external = false; interface = false; extends = None; implements = []; methods = ((1, 2) ∷ []); fields = [] }) ∷ (record { name = (codes "Dog"); function = Some 3; external = false; interface = false; extends = None; implements = []; methods = ((1, 4) ∷ []); fields = [] }) ∷ []);
+  places = [];
+  docs = (no_doc ∷ (record no_doc { params = []; result = None; receiver = None; vars = [] }) ∷ (record no_doc { params = []; result = None; receiver = None; vars = [] }) ∷ []);
+}
+
+draws_run : run checked draws (record { turns = (load 0 ∷ []); replies = ((record { first = []; answer = gives undef }) ∷ (record { first = []; answer = gives undef }) ∷ []) }) 40 ≡ ((called (shown_out 0) undef ((stext (codes "c")) ∷ []) ∷ called (shown_out 0) undef ((stext (codes "d")) ∷ []) ∷ ended undef ∷ []), finished)
+unfolding opened
+draws_run = refl
+
+--     /** @constructor */
+--     function Base(){}
+--     Base.prototype.go=function(){alert(1);};
+--     /** @constructor @extends {Base} */
+--     function Sub(){}
+--     Sub.prototype=Object.create(Base.prototype);
+--     Sub.prototype.go=function(){alert(2);};
+--     /** @param {Base} b */
+--     function run(b){b.go();}
+--     run(new Sub());
+abbrev prototypes : Program
+prototypes = record {
+  scopes =
+    (record { params = 0; names = 0; own = false; body = stmts ((fun_decl 2001 (Ref.Global 4) 1) ∷ (simple 3001 (assign 3018 None (to_member 3015 (member 3005 (var 3001 (Ref.Global 4)) 0) 1) (fun 3019 2))) ∷ (fun_decl 5001 (Ref.Global 5) 3) ∷ (simple 6001 (assign 6014 None (to_member 6004 (var 6001 (Ref.Global 5)) 0) (call 6028 (member 6021 (var 6015 (Ref.Global 1)) 2) (exprs ((member 6033 (var 6029 (Ref.Global 4)) 0) ∷ []))))) ∷ (simple 7001 (assign 7017 None (to_member 7014 (member 7004 (var 7001 (Ref.Global 5)) 0) 1) (fun 7018 4))) ∷ (fun_decl 9001 (Ref.Global 6) 5) ∷ (simple 10001 (call 10004 (var 10001 (Ref.Global 6)) (exprs ((new 10005 (var 10009 (Ref.Global 5)) (exprs [])) ∷ [])))) ∷ []); parent = None; doc = 0 })
+    ∷ (record { params = 0; names = 0; own = false; body = stmts []; parent = None; doc = 1 })
+    ∷ (record { params = 0; names = 0; own = false; body = stmts ((simple 3030 (call 3035 (var 3030 (Ref.Global 0)) (exprs ((lit 3036 (whole (pos 1))) ∷ [])))) ∷ []); parent = None; doc = 0 })
+    ∷ (record { params = 0; names = 0; own = false; body = stmts []; parent = None; doc = 2 })
+    ∷ (record { params = 0; names = 0; own = false; body = stmts ((simple 7029 (call 7034 (var 7029 (Ref.Global 0)) (exprs ((lit 7035 (whole (pos 2))) ∷ [])))) ∷ []); parent = None; doc = 0 })
+    ∷ (record { params = 1; names = 0; own = false; body = stmts ((simple 9017 (call 9021 (member 9018 (var 9017 (Ref.Frame 0 0)) 1) (exprs []))) ∷ []); parent = None; doc = 3 }) ∷ [];
+  chunks = (chunk_of [] ∷ []);
+  globals = ((record { name = (codes "alert"); chunk = None; doc = 0; flat = [] }) ∷ (record { name = (codes "Object"); chunk = None; doc = 0; flat = [] }) ∷ (record { name = (codes "Math"); chunk = None; doc = 0; flat = [] }) ∷ (record { name = (codes "String"); chunk = None; doc = 0; flat = [] }) ∷ (record { name = (codes "Base"); chunk = Some 0; doc = 0; flat = [] }) ∷ (record { name = (codes "Sub"); chunk = Some 0; doc = 0; flat = [] }) ∷ (record { name = (codes "run"); chunk = Some 0; doc = 0; flat = [] }) ∷ []);
+  props = (kept_prop (codes "prototype") ∷ prop (codes "go") ∷ kept_prop (codes "create") ∷ []);
+  kept = always_kept;
+  classes = ((record { name = (codes "Base"); function = Some 1; external = false; interface = false; extends = None; implements = []; methods = ((1, 2) ∷ []); fields = [] }) ∷ (record { name = (codes "Sub"); function = Some 3; external = false; interface = false; extends = Some 0; implements = []; methods = ((1, 4) ∷ []); fields = [] }) ∷ []);
+  places = [];
+  docs = (no_doc ∷ (record no_doc { params = []; result = None; receiver = None; vars = [] }) ∷ (record no_doc { params = []; result = None; receiver = None; vars = [] }) ∷ (record no_doc { params = (Some (record { kinds = 0; classes = (0 ∷ []); unknown = false; element = None }) ∷ []); result = None; receiver = None; vars = [] }) ∷ []);
+}
+
+prototypes_run : run checked prototypes (record { turns = (load 0 ∷ []); replies = ((record { first = []; answer = gives undef }) ∷ []) }) 40 ≡ ((called (shown_out 0) undef ((shown_prim (whole (pos 2))) ∷ []) ∷ ended undef ∷ []), finished)
+unfolding opened
+prototypes_run = refl
+
+prototypes_plain : run plain prototypes (record { turns = (load 0 ∷ []); replies = ((record { first = []; answer = gives undef }) ∷ []) }) 40 ≡ ((called (shown_out 0) undef ((shown_prim (whole (pos 2))) ∷ []) ∷ ended undef ∷ []), finished)
+unfolding opened
+prototypes_plain = refl
+
+--     var ns={};ns.a={};ns.a.b=function(x){alert(x);};ns.a.b(1);
+abbrev paths : Program
+paths = record {
+  scopes =
+    (record { params = 0; names = 0; own = false; body = stmts ((vars 1001 ((record { site = 1005; variable = (Ref.Global 4); value = Some (object 1008 (fields [])) }) ∷ [])) ∷ (simple 1011 (assign 1015 None (to_member 1013 (var 1011 (Ref.Global 4)) 0) (object 1016 (fields [])))) ∷ (simple 1019 (assign 1025 None (to_member 1023 (member 1021 (var 1019 (Ref.Global 4)) 0) 1) (fun 1026 1))) ∷ (simple 1049 (call 1055 (member 1053 (member 1051 (var 1049 (Ref.Global 4)) 0) 1) (exprs ((lit 1056 (whole (pos 1))) ∷ [])))) ∷ []); parent = None; doc = 0 })
+    ∷ (record { params = 1; names = 0; own = false; body = stmts ((simple 1038 (call 1043 (var 1038 (Ref.Global 0)) (exprs ((var 1044 (Ref.Frame 0 0)) ∷ [])))) ∷ []); parent = None; doc = 0 }) ∷ [];
+  chunks = (chunk_of [] ∷ []);
+  globals = ((record { name = (codes "alert"); chunk = None; doc = 0; flat = [] }) ∷ (record { name = (codes "Object"); chunk = None; doc = 0; flat = [] }) ∷ (record { name = (codes "Math"); chunk = None; doc = 0; flat = [] }) ∷ (record { name = (codes "String"); chunk = None; doc = 0; flat = [] }) ∷ (record { name = (codes "ns"); chunk = Some 0; doc = 0; flat = ((record { props = (0 ∷ []); doc = 0 }) ∷ (record { props = (0 ∷ 1 ∷ []); doc = 0 }) ∷ []) }) ∷ []);
+  props = (prop (codes "a") ∷ prop (codes "b") ∷ []);
+  kept = always_kept;
+  classes = [];
+  places = [];
+  docs = (no_doc ∷ []);
+}
+
+paths_run : run checked paths (record { turns = (load 0 ∷ []); replies = ((record { first = []; answer = gives undef }) ∷ []) }) 40 ≡ ((called (shown_out 0) undef ((shown_prim (whole (pos 1))) ∷ []) ∷ ended undef ∷ []), finished)
+unfolding opened
+paths_run = refl
+
 --     /** @constructor */
 --     function F(){}
 --     F.n=1;
@@ -95,3 +183,339 @@ static_this = record {
 static_this_run : run checked static_this (record { turns = (load 0 ∷ []); replies = [] }) 40 ≡ ([], stopped (broken 4 (at_site 4025)))
 unfolding opened
 static_this_run = refl
+
+-- base
+--     function help(s){alert(s);}alert(0);
+-- x
+--     help(1);
+-- y
+--     alert(2);
+abbrev two_chunks : Program
+two_chunks = record {
+  scopes =
+    (record { params = 0; names = 0; own = false; body = stmts ((fun_decl 1001 (Ref.Global 4) 3) ∷ (simple 1028 (call 1033 (var 1028 (Ref.Global 0)) (exprs ((lit 1034 (whole (pos 0))) ∷ [])))) ∷ []); parent = None; doc = 0 })
+    ∷ (record { params = 0; names = 0; own = false; body = stmts ((simple 1001 (call 1005 (var 1001 (Ref.Global 4)) (exprs ((lit 1006 (whole (pos 1))) ∷ [])))) ∷ []); parent = None; doc = 0 })
+    ∷ (record { params = 0; names = 0; own = false; body = stmts ((simple 1001 (call 1006 (var 1001 (Ref.Global 0)) (exprs ((lit 1007 (whole (pos 2))) ∷ [])))) ∷ []); parent = None; doc = 0 })
+    ∷ (record { params = 1; names = 0; own = false; body = stmts ((simple 1018 (call 1023 (var 1018 (Ref.Global 0)) (exprs ((var 1024 (Ref.Frame 0 0)) ∷ [])))) ∷ []); parent = None; doc = 0 }) ∷ [];
+  chunks = (chunk_of [] ∷ chunk_of (0 ∷ []) ∷ chunk_of (0 ∷ []) ∷ []);
+  globals = ((record { name = (codes "alert"); chunk = None; doc = 0; flat = [] }) ∷ (record { name = (codes "Object"); chunk = None; doc = 0; flat = [] }) ∷ (record { name = (codes "Math"); chunk = None; doc = 0; flat = [] }) ∷ (record { name = (codes "String"); chunk = None; doc = 0; flat = [] }) ∷ (record { name = (codes "help"); chunk = Some 0; doc = 0; flat = [] }) ∷ []);
+  props = [];
+  kept = always_kept;
+  classes = [];
+  places = [];
+  docs = (no_doc ∷ []);
+}
+
+two_chunks_run : run checked two_chunks (record { turns = (load 0 ∷ load 2 ∷ []); replies = ((record { first = []; answer = gives undef }) ∷ (record { first = []; answer = gives undef }) ∷ []) }) 40 ≡ ((called (shown_out 0) undef ((shown_prim (whole (pos 0))) ∷ []) ∷ ended undef ∷ called (shown_out 0) undef ((shown_prim (whole (pos 2))) ∷ []) ∷ ended undef ∷ []), finished)
+unfolding opened
+two_chunks_run = refl
+
+-- base
+--     /** @constructor */
+--     function P(){}
+--     P.prototype.hi=function(){alert('hi');};
+--     P.prototype.lo=function(){alert('lo');};
+--     /** @type {P} */
+--     var p=new P();
+--     p.lo();
+-- x
+--     p.hi();
+-- y
+--     listen(function(){p.lo();});
+abbrev late_method : Program
+late_method = record {
+  scopes =
+    (record { params = 0; names = 0; own = false; body = stmts ((fun_decl 2001 (Ref.Global 5) 3) ∷ (simple 3001 (assign 3015 None (to_member 3012 (member 3002 (var 3001 (Ref.Global 5)) 0) 1) (fun 3016 4))) ∷ (simple 4001 (assign 4015 None (to_member 4012 (member 4002 (var 4001 (Ref.Global 5)) 0) 2) (fun 4016 5))) ∷ (vars 6001 ((record { site = 6005; variable = (Ref.Global 6); value = Some (new 6007 (var 6011 (Ref.Global 5)) (exprs [])) }) ∷ [])) ∷ (simple 7001 (call 7005 (member 7002 (var 7001 (Ref.Global 6)) 2) (exprs []))) ∷ []); parent = None; doc = 0 })
+    ∷ (record { params = 0; names = 0; own = false; body = stmts ((simple 1001 (call 1005 (member 1002 (var 1001 (Ref.Global 6)) 1) (exprs []))) ∷ []); parent = None; doc = 0 })
+    ∷ (record { params = 0; names = 0; own = false; body = stmts ((simple 1001 (call 1007 (var 1001 (Ref.Global 1)) (exprs ((fun 1008 6) ∷ [])))) ∷ []); parent = None; doc = 0 })
+    ∷ (record { params = 0; names = 0; own = false; body = stmts []; parent = None; doc = 1 })
+    ∷ (record { params = 0; names = 0; own = false; body = stmts ((simple 3027 (call 3032 (var 3027 (Ref.Global 0)) (exprs ((lit 3033 (text (codes "hi"))) ∷ [])))) ∷ []); parent = None; doc = 0 })
+    ∷ (record { params = 0; names = 0; own = false; body = stmts ((simple 4027 (call 4032 (var 4027 (Ref.Global 0)) (exprs ((lit 4033 (text (codes "lo"))) ∷ [])))) ∷ []); parent = None; doc = 0 })
+    ∷ (record { params = 0; names = 0; own = false; body = stmts ((simple 1019 (call 1023 (member 1020 (var 1019 (Ref.Global 6)) 2) (exprs []))) ∷ []); parent = None; doc = 0 }) ∷ [];
+  chunks = (chunk_of [] ∷ chunk_of (0 ∷ []) ∷ chunk_of (0 ∷ []) ∷ []);
+  globals = ((record { name = (codes "alert"); chunk = None; doc = 0; flat = [] }) ∷ (record { name = (codes "listen"); chunk = None; doc = 0; flat = [] }) ∷ (record { name = (codes "Object"); chunk = None; doc = 0; flat = [] }) ∷ (record { name = (codes "Math"); chunk = None; doc = 0; flat = [] }) ∷ (record { name = (codes "String"); chunk = None; doc = 0; flat = [] }) ∷ (record { name = (codes "P"); chunk = Some 0; doc = 0; flat = [] }) ∷ (record { name = (codes "p"); chunk = Some 0; doc = 2; flat = [] }) ∷ []);
+  props = (kept_prop (codes "prototype") ∷ prop (codes "hi") ∷ prop (codes "lo") ∷ []);
+  kept = always_kept;
+  classes = ((record { name = (codes "P"); function = Some 3; external = false; interface = false; extends = None; implements = []; methods = ((1, 4) ∷ (2, 5) ∷ []); fields = [] }) ∷ []);
+  places = [];
+  docs = (no_doc ∷ (record no_doc { params = []; result = None; receiver = None; vars = [] }) ∷ (record no_doc { value = Some (record { kinds = 0; classes = (0 ∷ []); unknown = false; element = None }); constant = false; define = false }) ∷ []);
+}
+
+late_method_run : run checked late_method (record { turns = (load 0 ∷ load 2 ∷ call_turn (record { callee = 0; this = undef; args = [] }) ∷ load 1 ∷ []); replies = ((record { first = []; answer = gives undef }) ∷ (record { first = []; answer = gives undef }) ∷ (record { first = []; answer = gives undef }) ∷ (record { first = []; answer = gives undef }) ∷ []) }) 40 ≡ ((called (shown_out 0) undef ((stext (codes "lo")) ∷ []) ∷ ended undef ∷ called (shown_out 1) undef ((handle 0) ∷ []) ∷ ended undef ∷ called (shown_out 0) undef ((stext (codes "lo")) ∷ []) ∷ ended undef ∷ called (shown_out 0) undef ((stext (codes "hi")) ∷ []) ∷ ended undef ∷ []), finished)
+unfolding opened
+late_method_run = refl
+
+--     function g(){try{throw 1;}finally{return 2;}}function h(){return g();}alert(h());
+abbrev finally_returns : Program
+finally_returns = record {
+  scopes =
+    (record { params = 0; names = 0; own = false; body = stmts ((fun_decl 1001 (Ref.Global 4) 1) ∷ (fun_decl 1046 (Ref.Global 5) 2) ∷ (simple 1071 (call 1076 (var 1071 (Ref.Global 0)) (exprs ((call 1078 (var 1077 (Ref.Global 5)) (exprs [])) ∷ [])))) ∷ []); parent = None; doc = 0 })
+    ∷ (record { params = 0; names = 0; own = false; body = stmts ((try 1014 (stmts ((throw 1018 (lit 1024 (whole (pos 1)))) ∷ [])) absent (present (stmts ((return 1035 (Some (lit 1042 (whole (pos 2))))) ∷ [])))) ∷ []); parent = None; doc = 0 })
+    ∷ (record { params = 0; names = 0; own = false; body = stmts ((return 1059 (Some (call 1067 (var 1066 (Ref.Global 4)) (exprs [])))) ∷ []); parent = None; doc = 0 }) ∷ [];
+  chunks = (chunk_of [] ∷ []);
+  globals = ((record { name = (codes "alert"); chunk = None; doc = 0; flat = [] }) ∷ (record { name = (codes "Object"); chunk = None; doc = 0; flat = [] }) ∷ (record { name = (codes "Math"); chunk = None; doc = 0; flat = [] }) ∷ (record { name = (codes "String"); chunk = None; doc = 0; flat = [] }) ∷ (record { name = (codes "g"); chunk = Some 0; doc = 0; flat = [] }) ∷ (record { name = (codes "h"); chunk = Some 0; doc = 0; flat = [] }) ∷ []);
+  props = [];
+  kept = always_kept;
+  classes = [];
+  places = [];
+  docs = (no_doc ∷ []);
+}
+
+finally_returns_run : run checked finally_returns (record { turns = (load 0 ∷ []); replies = ((record { first = []; answer = gives undef }) ∷ []) }) 40 ≡ ((called (shown_out 0) undef ((shown_prim (whole (pos 2))) ∷ []) ∷ ended undef ∷ []), finished)
+unfolding opened
+finally_returns_run = refl
+
+finally_returns_spent : run checked finally_returns (record { turns = (load 0 ∷ []); replies = ((record { first = []; answer = gives undef }) ∷ []) }) 2 ≡ ([], stopped spent)
+unfolding opened
+finally_returns_spent = refl
+
+--     alert(9007199254740990+1);
+abbrev greatest : Program
+greatest = record {
+  scopes =
+    (record { params = 0; names = 0; own = false; body = stmts ((simple 1001 (call 1006 (var 1001 (Ref.Global 0)) (exprs ((binary 1023 Add (lit 1007 (whole (pos 9007199254740990))) (lit 1024 (whole (pos 1)))) ∷ [])))) ∷ []); parent = None; doc = 0 }) ∷ [];
+  chunks = (chunk_of [] ∷ []);
+  globals = ((record { name = (codes "alert"); chunk = None; doc = 0; flat = [] }) ∷ (record { name = (codes "Object"); chunk = None; doc = 0; flat = [] }) ∷ (record { name = (codes "Math"); chunk = None; doc = 0; flat = [] }) ∷ (record { name = (codes "String"); chunk = None; doc = 0; flat = [] }) ∷ []);
+  props = [];
+  kept = always_kept;
+  classes = [];
+  places = [];
+  docs = (no_doc ∷ []);
+}
+
+greatest_run : run checked greatest (record { turns = (load 0 ∷ []); replies = ((record { first = []; answer = gives undef }) ∷ []) }) 40 ≡ ((called (shown_out 0) undef ((shown_prim (whole (pos 9007199254740991))) ∷ []) ∷ ended undef ∷ []), finished)
+unfolding opened
+greatest_run = refl
+
+--     alert(9007199254740991+1);
+abbrev past_greatest : Program
+past_greatest = record {
+  scopes =
+    (record { params = 0; names = 0; own = false; body = stmts ((simple 1001 (call 1006 (var 1001 (Ref.Global 0)) (exprs ((binary 1023 Add (lit 1007 (whole (pos 9007199254740991))) (lit 1024 (whole (pos 1)))) ∷ [])))) ∷ []); parent = None; doc = 0 }) ∷ [];
+  chunks = (chunk_of [] ∷ []);
+  globals = ((record { name = (codes "alert"); chunk = None; doc = 0; flat = [] }) ∷ (record { name = (codes "Object"); chunk = None; doc = 0; flat = [] }) ∷ (record { name = (codes "Math"); chunk = None; doc = 0; flat = [] }) ∷ (record { name = (codes "String"); chunk = None; doc = 0; flat = [] }) ∷ []);
+  props = [];
+  kept = always_kept;
+  classes = [];
+  places = [];
+  docs = (no_doc ∷ []);
+}
+
+past_greatest_run : run checked past_greatest (record { turns = (load 0 ∷ []); replies = [] }) 40 ≡ ([], stopped (broken 1 (at_site 1023)))
+unfolding opened
+past_greatest_run = refl
+
+--     function f(x){return;}var a=1,b=2;a;++b;alert(f(b));
+abbrev stepped : Program
+stepped = record {
+  scopes =
+    (record { params = 0; names = 0; own = false; body = stmts ((fun_decl 1001 (Ref.Global 4) 1) ∷ (vars 1023 ((record { site = 1027; variable = (Ref.Global 5); value = Some (lit 1029 (whole (pos 1))) }) ∷ (record { site = 1031; variable = (Ref.Global 6); value = Some (lit 1033 (whole (pos 2))) }) ∷ [])) ∷ (simple 1035 (var 1035 (Ref.Global 5))) ∷ (simple 1037 (step 1037 true true (to_var 1039 (Ref.Global 6)))) ∷ (simple 1041 (call 1046 (var 1041 (Ref.Global 0)) (exprs ((call 1048 (var 1047 (Ref.Global 4)) (exprs ((var 1049 (Ref.Global 6)) ∷ []))) ∷ [])))) ∷ []); parent = None; doc = 0 })
+    ∷ (record { params = 1; names = 0; own = false; body = stmts ((return 1015 None) ∷ []); parent = None; doc = 0 }) ∷ [];
+  chunks = (chunk_of [] ∷ []);
+  globals = ((record { name = (codes "alert"); chunk = None; doc = 0; flat = [] }) ∷ (record { name = (codes "Object"); chunk = None; doc = 0; flat = [] }) ∷ (record { name = (codes "Math"); chunk = None; doc = 0; flat = [] }) ∷ (record { name = (codes "String"); chunk = None; doc = 0; flat = [] }) ∷ (record { name = (codes "f"); chunk = Some 0; doc = 0; flat = [] }) ∷ (record { name = (codes "a"); chunk = Some 0; doc = 0; flat = [] }) ∷ (record { name = (codes "b"); chunk = Some 0; doc = 0; flat = [] }) ∷ []);
+  props = [];
+  kept = always_kept;
+  classes = [];
+  places = [];
+  docs = (no_doc ∷ []);
+}
+
+stepped_run : run checked stepped (record { turns = (load 0 ∷ []); replies = ((record { first = []; answer = gives undef }) ∷ []) }) 40 ≡ ((called (shown_out 0) undef (undef ∷ []) ∷ ended undef ∷ []), finished)
+unfolding opened
+stepped_run = refl
+
+--     var d={'2':1,'b':2,'1':3};for(var k in d)alert(k);
+abbrev name_order : Program
+name_order = record {
+  scopes =
+    (record { params = 0; names = 0; own = false; body = stmts ((vars 1001 ((record { site = 1005; variable = (Ref.Global 4); value = Some (object 1007 (fields ((Key.Quoted (codes "2"), (lit 1012 (whole (pos 1)))) ∷ (Key.Quoted (codes "b"), (lit 1018 (whole (pos 2)))) ∷ (Key.Quoted (codes "1"), (lit 1024 (whole (pos 3)))) ∷ []))) }) ∷ [])) ∷ (for_in 1027 (in_declared (record { site = 1035; variable = (Ref.Global 5); value = None })) (var 1040 (Ref.Global 4)) (stmts ((simple 1042 (call 1047 (var 1042 (Ref.Global 0)) (exprs ((var 1048 (Ref.Global 5)) ∷ [])))) ∷ []))) ∷ []); parent = None; doc = 0 }) ∷ [];
+  chunks = (chunk_of [] ∷ []);
+  globals = ((record { name = (codes "alert"); chunk = None; doc = 0; flat = [] }) ∷ (record { name = (codes "Object"); chunk = None; doc = 0; flat = [] }) ∷ (record { name = (codes "Math"); chunk = None; doc = 0; flat = [] }) ∷ (record { name = (codes "String"); chunk = None; doc = 0; flat = [] }) ∷ (record { name = (codes "d"); chunk = Some 0; doc = 0; flat = [] }) ∷ (record { name = (codes "k"); chunk = Some 0; doc = 0; flat = [] }) ∷ []);
+  props = [];
+  kept = always_kept;
+  classes = [];
+  places = [];
+  docs = (no_doc ∷ []);
+}
+
+name_order_run : run checked name_order (record { turns = (load 0 ∷ []); replies = ((record { first = []; answer = gives undef }) ∷ (record { first = []; answer = gives undef }) ∷ (record { first = []; answer = gives undef }) ∷ []) }) 40 ≡ ((called (shown_out 0) undef ((stext (codes "1")) ∷ []) ∷ called (shown_out 0) undef ((stext (codes "2")) ∷ []) ∷ called (shown_out 0) undef ((stext (codes "b")) ∷ []) ∷ ended undef ∷ []), finished)
+unfolding opened
+name_order_run = refl
+
+name_order_plain : run plain name_order (record { turns = (load 0 ∷ []); replies = ((record { first = []; answer = gives undef }) ∷ (record { first = []; answer = gives undef }) ∷ (record { first = []; answer = gives undef }) ∷ []) }) 40 ≡ ((called (shown_out 0) undef ((stext (codes "1")) ∷ []) ∷ called (shown_out 0) undef ((stext (codes "2")) ∷ []) ∷ called (shown_out 0) undef ((stext (codes "b")) ∷ []) ∷ ended undef ∷ []), finished)
+unfolding opened
+name_order_plain = refl
+
+--     var o={x:1};for(var k in o)alert(k);
+abbrev dotted_name : Program
+dotted_name = record {
+  scopes =
+    (record { params = 0; names = 0; own = false; body = stmts ((vars 1001 ((record { site = 1005; variable = (Ref.Global 4); value = Some (object 1007 (fields ((Key.Dotted 0, (lit 1010 (whole (pos 1)))) ∷ []))) }) ∷ [])) ∷ (for_in 1013 (in_declared (record { site = 1021; variable = (Ref.Global 5); value = None })) (var 1026 (Ref.Global 4)) (stmts ((simple 1028 (call 1033 (var 1028 (Ref.Global 0)) (exprs ((var 1034 (Ref.Global 5)) ∷ [])))) ∷ []))) ∷ []); parent = None; doc = 0 }) ∷ [];
+  chunks = (chunk_of [] ∷ []);
+  globals = ((record { name = (codes "alert"); chunk = None; doc = 0; flat = [] }) ∷ (record { name = (codes "Object"); chunk = None; doc = 0; flat = [] }) ∷ (record { name = (codes "Math"); chunk = None; doc = 0; flat = [] }) ∷ (record { name = (codes "String"); chunk = None; doc = 0; flat = [] }) ∷ (record { name = (codes "o"); chunk = Some 0; doc = 0; flat = [] }) ∷ (record { name = (codes "k"); chunk = Some 0; doc = 0; flat = [] }) ∷ []);
+  props = (prop (codes "x") ∷ []);
+  kept = always_kept;
+  classes = [];
+  places = [];
+  docs = (no_doc ∷ []);
+}
+
+dotted_name_run : run checked dotted_name (record { turns = (load 0 ∷ []); replies = [] }) 40 ≡ ([], stopped (broken 9 (at_site 1013)))
+unfolding opened
+dotted_name_run = refl
+
+--     var o={};o.foo=1;var k='a';alert(o[k]);
+abbrev keyed : Program
+keyed = record {
+  scopes =
+    (record { params = 0; names = 0; own = false; body = stmts ((vars 1001 ((record { site = 1005; variable = (Ref.Global 4); value = Some (object 1007 (fields [])) }) ∷ [])) ∷ (simple 1010 (assign 1015 None (to_member 1011 (var 1010 (Ref.Global 4)) 0) (lit 1016 (whole (pos 1))))) ∷ (vars 1018 ((record { site = 1022; variable = (Ref.Global 5); value = Some (lit 1024 (text (codes "a"))) }) ∷ [])) ∷ (simple 1028 (call 1033 (var 1028 (Ref.Global 0)) (exprs ((index 1035 (var 1034 (Ref.Global 4)) (var 1036 (Ref.Global 5))) ∷ [])))) ∷ []); parent = None; doc = 0 }) ∷ [];
+  chunks = (chunk_of [] ∷ []);
+  globals = ((record { name = (codes "alert"); chunk = None; doc = 0; flat = [] }) ∷ (record { name = (codes "Object"); chunk = None; doc = 0; flat = [] }) ∷ (record { name = (codes "Math"); chunk = None; doc = 0; flat = [] }) ∷ (record { name = (codes "String"); chunk = None; doc = 0; flat = [] }) ∷ (record { name = (codes "o"); chunk = Some 0; doc = 0; flat = [] }) ∷ (record { name = (codes "k"); chunk = Some 0; doc = 0; flat = [] }) ∷ []);
+  props = (prop (codes "foo") ∷ []);
+  kept = always_kept;
+  classes = [];
+  places = [];
+  docs = (no_doc ∷ []);
+}
+
+keyed_run : run checked keyed (record { turns = (load 0 ∷ []); replies = [] }) 40 ≡ ([], stopped (broken 8 (at_site 1035)))
+unfolding opened
+keyed_run = refl
+
+--     (true&&console.log)(1);
+abbrev value_callee : Program
+value_callee = record {
+  scopes =
+    (record { params = 0; names = 0; own = false; body = stmts ((simple 1001 (call 1020 (and 1006 (lit 1002 (truth true)) (member 1015 (var 1008 (Ref.Global 0)) 0)) (exprs ((lit 1021 (whole (pos 1))) ∷ [])))) ∷ []); parent = None; doc = 0 }) ∷ [];
+  chunks = (chunk_of [] ∷ []);
+  globals = ((record { name = (codes "console"); chunk = None; doc = 0; flat = [] }) ∷ (record { name = (codes "Object"); chunk = None; doc = 0; flat = [] }) ∷ (record { name = (codes "Math"); chunk = None; doc = 0; flat = [] }) ∷ (record { name = (codes "String"); chunk = None; doc = 0; flat = [] }) ∷ []);
+  props = (kept_prop (codes "log") ∷ []);
+  kept = ((codes "log") ∷ []) ++ always_kept;
+  classes = [];
+  places = [];
+  docs = (no_doc ∷ []);
+}
+
+value_callee_run : run checked value_callee (record { turns = (load 0 ∷ []); replies = ((record { first = []; answer = gives (shown_out 1) }) ∷ (record { first = []; answer = gives undef }) ∷ []) }) 40 ≡ ((got (shown_out 0) (codes "log") ∷ called (shown_out 1) undef ((shown_prim (whole (pos 1))) ∷ []) ∷ ended undef ∷ []), finished)
+unfolding opened
+value_callee_run = refl
+
+value_callee_plain : run plain value_callee (record { turns = (load 0 ∷ []); replies = ((record { first = []; answer = gives (shown_out 1) }) ∷ (record { first = []; answer = gives undef }) ∷ []) }) 40 ≡ ((got (shown_out 0) (codes "log") ∷ called (shown_out 1) undef ((shown_prim (whole (pos 1))) ∷ []) ∷ ended undef ∷ []), finished)
+unfolding opened
+value_callee_plain = refl
+
+--     function F(){}var o={'x':1};alert('x' in o);alert(typeof o);alert(o instanceof F);
+abbrev three_operators : Program
+three_operators = record {
+  scopes =
+    (record { params = 0; names = 0; own = false; body = stmts ((fun_decl 1001 (Ref.Global 4) 1) ∷ (vars 1015 ((record { site = 1019; variable = (Ref.Global 5); value = Some (object 1021 (fields ((Key.Quoted (codes "x"), (lit 1026 (whole (pos 1)))) ∷ []))) }) ∷ [])) ∷ (simple 1029 (call 1034 (var 1029 (Ref.Global 0)) (exprs ((binary 1039 Has (lit 1035 (text (codes "x"))) (var 1042 (Ref.Global 5))) ∷ [])))) ∷ (simple 1045 (call 1050 (var 1045 (Ref.Global 0)) (exprs ((unary 1051 Typeof (var 1058 (Ref.Global 5))) ∷ [])))) ∷ (simple 1061 (call 1066 (var 1061 (Ref.Global 0)) (exprs ((binary 1069 Instance (var 1067 (Ref.Global 5)) (var 1080 (Ref.Global 4))) ∷ [])))) ∷ []); parent = None; doc = 0 })
+    ∷ (record { params = 0; names = 0; own = false; body = stmts []; parent = None; doc = 0 }) ∷ [];
+  chunks = (chunk_of [] ∷ []);
+  globals = ((record { name = (codes "alert"); chunk = None; doc = 0; flat = [] }) ∷ (record { name = (codes "Object"); chunk = None; doc = 0; flat = [] }) ∷ (record { name = (codes "Math"); chunk = None; doc = 0; flat = [] }) ∷ (record { name = (codes "String"); chunk = None; doc = 0; flat = [] }) ∷ (record { name = (codes "F"); chunk = Some 0; doc = 0; flat = [] }) ∷ (record { name = (codes "o"); chunk = Some 0; doc = 0; flat = [] }) ∷ []);
+  props = [];
+  kept = always_kept;
+  classes = [];
+  places = [];
+  docs = (no_doc ∷ []);
+}
+
+three_operators_run : run checked three_operators (record { turns = (load 0 ∷ []); replies = ((record { first = []; answer = gives undef }) ∷ (record { first = []; answer = gives undef }) ∷ (record { first = []; answer = gives undef }) ∷ []) }) 40 ≡ ((called (shown_out 0) undef ((shown_prim (truth true)) ∷ []) ∷ called (shown_out 0) undef ((stext (codes "object")) ∷ []) ∷ called (shown_out 0) undef ((shown_prim (truth false)) ∷ []) ∷ ended undef ∷ []), finished)
+unfolding opened
+three_operators_run = refl
+
+--     alert(typeof 1);
+abbrev type_of_number : Program
+type_of_number = record {
+  scopes =
+    (record { params = 0; names = 0; own = false; body = stmts ((simple 1001 (call 1006 (var 1001 (Ref.Global 0)) (exprs ((unary 1007 Typeof (lit 1014 (whole (pos 1)))) ∷ [])))) ∷ []); parent = None; doc = 0 }) ∷ [];
+  chunks = (chunk_of [] ∷ []);
+  globals = ((record { name = (codes "alert"); chunk = None; doc = 0; flat = [] }) ∷ (record { name = (codes "Object"); chunk = None; doc = 0; flat = [] }) ∷ (record { name = (codes "Math"); chunk = None; doc = 0; flat = [] }) ∷ (record { name = (codes "String"); chunk = None; doc = 0; flat = [] }) ∷ []);
+  props = [];
+  kept = always_kept;
+  classes = [];
+  places = [];
+  docs = (no_doc ∷ []);
+}
+
+type_of_number_run : run checked type_of_number (record { turns = (load 0 ∷ []); replies = ((record { first = []; answer = gives undef }) ∷ []) }) 40 ≡ ((called (shown_out 0) undef ((stext (codes "number")) ∷ []) ∷ ended undef ∷ []), finished)
+unfolding opened
+type_of_number_run = refl
+
+--     var n=0;on(function(){n=n+1;});alert(n);
+abbrev calls_back : Program
+calls_back = record {
+  scopes =
+    (record { params = 0; names = 0; own = false; body = stmts ((vars 1001 ((record { site = 1005; variable = (Ref.Global 5); value = Some (lit 1007 (whole (pos 0))) }) ∷ [])) ∷ (simple 1009 (call 1011 (var 1009 (Ref.Global 1)) (exprs ((fun 1012 1) ∷ [])))) ∷ (simple 1032 (call 1037 (var 1032 (Ref.Global 0)) (exprs ((var 1038 (Ref.Global 5)) ∷ [])))) ∷ []); parent = None; doc = 0 })
+    ∷ (record { params = 0; names = 0; own = false; body = stmts ((simple 1023 (assign 1024 None (to_var 1023 (Ref.Global 5)) (binary 1026 Add (var 1025 (Ref.Global 5)) (lit 1027 (whole (pos 1)))))) ∷ []); parent = None; doc = 0 }) ∷ [];
+  chunks = (chunk_of [] ∷ []);
+  globals = ((record { name = (codes "alert"); chunk = None; doc = 0; flat = [] }) ∷ (record { name = (codes "on"); chunk = None; doc = 0; flat = [] }) ∷ (record { name = (codes "Object"); chunk = None; doc = 0; flat = [] }) ∷ (record { name = (codes "Math"); chunk = None; doc = 0; flat = [] }) ∷ (record { name = (codes "String"); chunk = None; doc = 0; flat = [] }) ∷ (record { name = (codes "n"); chunk = Some 0; doc = 0; flat = [] }) ∷ []);
+  props = [];
+  kept = always_kept;
+  classes = [];
+  places = [];
+  docs = (no_doc ∷ []);
+}
+
+calls_back_run : run checked calls_back (record { turns = (load 0 ∷ []); replies = ((record { first = ((record { callee = 0; this = undef; args = [] }) ∷ []); answer = gives undef }) ∷ (record { first = []; answer = gives undef }) ∷ []) }) 40 ≡ ((called (shown_out 1) undef ((handle 0) ∷ []) ∷ ended undef ∷ called (shown_out 0) undef ((shown_prim (whole (pos 1))) ∷ []) ∷ ended undef ∷ []), finished)
+unfolding opened
+calls_back_run = refl
+
+calls_back_not_given : run checked calls_back (record { turns = (load 0 ∷ []); replies = ((record { first = ((record { callee = 7; this = undef; args = [] }) ∷ []); answer = gives undef }) ∷ (record { first = []; answer = gives undef }) ∷ []) }) 40 ≡ ((called (shown_out 1) undef ((handle 0) ∷ []) ∷ []), stopped (broken 13 (at_site 1011)))
+unfolding opened
+calls_back_not_given = refl
+
+calls_back_not_given_plain : run plain calls_back (record { turns = (load 0 ∷ []); replies = ((record { first = ((record { callee = 7; this = undef; args = [] }) ∷ []); answer = gives undef }) ∷ (record { first = []; answer = gives undef }) ∷ []) }) 40 ≡ ((called (shown_out 1) undef ((handle 0) ∷ []) ∷ []), stopped (strayed (at_site 1011)))
+unfolding opened
+calls_back_not_given_plain = refl
+
+--     /** @type {Array<number>} */var a=[1];a[1]='x';
+abbrev element_type : Program
+element_type = record {
+  scopes =
+    (record { params = 0; names = 0; own = false; body = stmts ((vars 1029 ((record { site = 1033; variable = (Ref.Global 4); value = Some (list 1035 (exprs ((lit 1036 (whole (pos 1))) ∷ []))) }) ∷ [])) ∷ (simple 1039 (assign 1043 None (to_index 1040 (var 1039 (Ref.Global 4)) (lit 1041 (whole (pos 1)))) (lit 1044 (text (codes "x"))))) ∷ []); parent = None; doc = 0 }) ∷ [];
+  chunks = (chunk_of [] ∷ []);
+  globals = ((record { name = (codes "alert"); chunk = None; doc = 0; flat = [] }) ∷ (record { name = (codes "Object"); chunk = None; doc = 0; flat = [] }) ∷ (record { name = (codes "Math"); chunk = None; doc = 0; flat = [] }) ∷ (record { name = (codes "String"); chunk = None; doc = 0; flat = [] }) ∷ (record { name = (codes "a"); chunk = Some 0; doc = 1; flat = [] }) ∷ []);
+  props = [];
+  kept = always_kept;
+  classes = [];
+  places = [];
+  docs = (no_doc ∷ (record no_doc { value = Some (record { kinds = 16; classes = []; unknown = false; element = Some (record { kinds = 1; classes = [] }) }); constant = false; define = false }) ∷ []);
+}
+
+element_type_run : run checked element_type (record { turns = (load 0 ∷ []); replies = [] }) 40 ≡ ([], stopped (broken 6 (at_site 1040)))
+unfolding opened
+element_type_run = refl
+
+element_type_plain : run plain element_type (record { turns = (load 0 ∷ []); replies = [] }) 40 ≡ ((ended undef ∷ []), finished)
+unfolding opened
+element_type_plain = refl
+
+--     /** @constructor */
+--     function Cat(){}
+--     Cat.prototype.draw=function(){alert('c');};
+--     /** @constructor */
+--     function Dog(){}
+--     Dog.prototype.draw=function(){alert('d');};
+--     /** @type {Array<Cat>} */
+--     var cats=[new Cat()];
+--     cats[0].draw();new Dog().draw();
+abbrev cats : Program
+cats = record {
+  scopes =
+    (record { params = 0; names = 0; own = false; body = stmts ((fun_decl 2001 (Ref.Global 4) 1) ∷ (simple 3001 (assign 3019 None (to_member 3014 (member 3004 (var 3001 (Ref.Global 4)) 0) 1) (fun 3020 2))) ∷ (fun_decl 5001 (Ref.Global 5) 3) ∷ (simple 6001 (assign 6019 None (to_member 6014 (member 6004 (var 6001 (Ref.Global 5)) 0) 1) (fun 6020 4))) ∷ (vars 8001 ((record { site = 8005; variable = (Ref.Global 6); value = Some (list 8010 (exprs ((new 8011 (var 8015 (Ref.Global 4)) (exprs [])) ∷ []))) }) ∷ [])) ∷ (simple 9001 (call 9013 (member 9008 (index 9005 (var 9001 (Ref.Global 6)) (lit 9006 (whole (pos 0)))) 1) (exprs []))) ∷ (simple 9016 (call 9030 (member 9025 (new 9016 (var 9020 (Ref.Global 5)) (exprs [])) 1) (exprs []))) ∷ []); parent = None; doc = 0 })
+    ∷ (record { params = 0; names = 0; own = false; body = stmts []; parent = None; doc = 1 })
+    ∷ (record { params = 0; names = 0; own = false; body = stmts ((simple 3031 (call 3036 (var 3031 (Ref.Global 0)) (exprs ((lit 3037 (text (codes "c"))) ∷ [])))) ∷ []); parent = None; doc = 0 })
+    ∷ (record { params = 0; names = 0; own = false; body = stmts []; parent = None; doc = 2 })
+    ∷ (record { params = 0; names = 0; own = false; body = stmts ((simple 6031 (call 6036 (var 6031 (Ref.Global 0)) (exprs ((lit 6037 (text (codes "d"))) ∷ [])))) ∷ []); parent = None; doc = 0 }) ∷ [];
+  chunks = (chunk_of [] ∷ []);
+  globals = ((record { name = (codes "alert"); chunk = None; doc = 0; flat = [] }) ∷ (record { name = (codes "Object"); chunk = None; doc = 0; flat = [] }) ∷ (record { name = (codes "Math"); chunk = None; doc = 0; flat = [] }) ∷ (record { name = (codes "String"); chunk = None; doc = 0; flat = [] }) ∷ (record { name = (codes "Cat"); chunk = Some 0; doc = 0; flat = [] }) ∷ (record { name = (codes "Dog"); chunk = Some 0; doc = 0; flat = [] }) ∷ (record { name = (codes "cats"); chunk = Some 0; doc = 3; flat = [] }) ∷ []);
+  props = (kept_prop (codes "prototype") ∷ prop (codes "draw") ∷ []);
+  kept = always_kept;
+  classes = ((record { name = (codes "Cat"); function = Some 1; external = false; interface = false; extends = None; implements = []; methods = ((1, 2) ∷ []); fields = [] }) ∷ (record { name = (codes "Dog"); function = Some 3; external = false; interface = false; extends = None; implements = []; methods = ((1, 4) ∷ []); fields = [] }) ∷ []);
+  places = [];
+  docs = (no_doc ∷ (record no_doc { params = []; result = None; receiver = None; vars = [] }) ∷ (record no_doc { params = []; result = None; receiver = None; vars = [] }) ∷ (record no_doc { value = Some (record { kinds = 16; classes = []; unknown = false; element = Some (record { kinds = 0; classes = (0 ∷ []) }) }); constant = false; define = false }) ∷ []);
+}
+
+cats_run : run checked cats (record { turns = (load 0 ∷ []); replies = ((record { first = []; answer = gives undef }) ∷ (record { first = []; answer = gives undef }) ∷ []) }) 40 ≡ ((called (shown_out 0) undef ((stext (codes "c")) ∷ []) ∷ called (shown_out 0) undef ((stext (codes "d")) ∷ []) ∷ ended undef ∷ []), finished)
+unfolding opened
+cats_run = refl
