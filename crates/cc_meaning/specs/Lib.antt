@@ -15,3 +15,4 @@ pub mod Calls
 pub mod Meaning
 pub mod Script
 pub mod Same
+pub mod Alike
