@@ -258,6 +258,28 @@ do_once_spent : run checked do_once (record { turns = (load 0 ∷ []); replies =
 unfolding opened
 do_once_spent = refl
 
+--     do{X['n']=1;}while(false);
+abbrev do_before : Program
+do_before = record {
+  scopes =
+    (record { params = 0; names = 0; own = false; body = stmts ((do_while 1001 (stmts ((simple 1004 (assign 1010 None (to_index 1005 (var 1004 (Ref.Global 0)) (lit 1006 (text (codes "n")))) (lit 1011 (whole (pos 1))))) ∷ [])) (lit 1020 (truth false))) ∷ []); parent = None; doc = 0 }) ∷ [];
+  chunks = (chunk_of [] ∷ []);
+  globals = ((record { name = (codes "X"); chunk = None; doc = 0; flat = [] }) ∷ (record { name = (codes "Object"); chunk = None; doc = 0; flat = [] }) ∷ (record { name = (codes "Math"); chunk = None; doc = 0; flat = [] }) ∷ (record { name = (codes "String"); chunk = None; doc = 0; flat = [] }) ∷ []);
+  props = [];
+  kept = always_kept;
+  classes = [];
+  places = [];
+  docs = (no_doc ∷ []);
+}
+
+do_before_run : run checked do_before (record { turns = (load 0 ∷ []); replies = [] }) 0 ≡ ([], stopped spent)
+unfolding opened
+do_before_run = refl
+
+do_before_paid : run checked do_before (record { turns = (load 0 ∷ []); replies = [] }) 1 ≡ ((put (shown_out 0) (codes "n") (shown_prim (whole (pos 1))) ∷ ended undef ∷ []), finished)
+unfolding opened
+do_before_paid = refl
+
 --     for(var i=0;i<3;i++);alert(i);
 abbrev loop_costs : Program
 loop_costs = record {

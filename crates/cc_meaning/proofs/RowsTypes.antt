@@ -461,6 +461,48 @@ entered_by_param_run : run checked entered_by_param (record { turns = (load 0 �
 unfolding opened
 entered_by_param_run = refl
 
+--     /** @constructor */
+--     function F(){/** @type {Array<number>} */this.n;}
+--     var f=new F(),a=[];f['n']=a;a.push('x');alert(f['n'].length);
+abbrev quoted_field : Program
+quoted_field = record {
+  scopes =
+    (record { params = 0; names = 0; own = false; body = stmts ((fun_decl 2001 (Ref.Global 4) 1) ∷ (vars 3001 ((record { site = 3005; variable = (Ref.Global 5); value = Some (new 3007 (var 3011 (Ref.Global 4)) (exprs [])) }) ∷ (record { site = 3015; variable = (Ref.Global 6); value = Some (list 3017 (exprs [])) }) ∷ [])) ∷ (simple 3020 (assign 3026 None (to_index 3021 (var 3020 (Ref.Global 5)) (lit 3022 (text (codes "n")))) (var 3027 (Ref.Global 6)))) ∷ (simple 3029 (call 3035 (member 3030 (var 3029 (Ref.Global 6)) 1) (exprs ((lit 3036 (text (codes "x"))) ∷ [])))) ∷ (simple 3041 (call 3046 (var 3041 (Ref.Global 0)) (exprs ((member 3053 (index 3048 (var 3047 (Ref.Global 5)) (lit 3049 (text (codes "n")))) 2) ∷ [])))) ∷ []); parent = None; doc = 0 })
+    ∷ (record { params = 0; names = 0; own = false; body = stmts ((simple 2042 (member 2046 (this 2042) 0)) ∷ []); parent = None; doc = 2 }) ∷ [];
+  chunks = (chunk_of [] ∷ []);
+  globals = ((record { name = (codes "alert"); chunk = None; doc = 0; flat = [] }) ∷ (record { name = (codes "Object"); chunk = None; doc = 0; flat = [] }) ∷ (record { name = (codes "Math"); chunk = None; doc = 0; flat = [] }) ∷ (record { name = (codes "String"); chunk = None; doc = 0; flat = [] }) ∷ (record { name = (codes "F"); chunk = Some 0; doc = 0; flat = [] }) ∷ (record { name = (codes "f"); chunk = Some 0; doc = 0; flat = [] }) ∷ (record { name = (codes "a"); chunk = Some 0; doc = 0; flat = [] }) ∷ []);
+  props = (prop (codes "n") ∷ kept_prop (codes "push") ∷ kept_prop (codes "length") ∷ []);
+  kept = always_kept;
+  classes = ((record { name = (codes "F"); function = Some 1; external = false; interface = false; extends = None; implements = []; methods = []; fields = ((0, 1) ∷ []) }) ∷ []);
+  places = [];
+  docs = (no_doc ∷ (record no_doc { value = Some (record { kinds = 16; classes = []; unknown = false; element = Some (record { kinds = 1; classes = [] }) }) }) ∷ (record no_doc { params = []; result = None; receiver = None; vars = [] }) ∷ []);
+}
+
+quoted_field_run : run checked quoted_field (record { turns = (load 0 ∷ []); replies = ((record { first = []; answer = gives undef }) ∷ []) }) 40 ≡ ((called (shown_out 0) undef ((shown_prim (whole (pos 1))) ∷ []) ∷ ended undef ∷ []), finished)
+unfolding opened
+quoted_field_run = refl
+
+--     /** @constructor */
+--     function F(){/** @type {Array<number>} */this.n;}
+--     var a=[];F.prototype.n=a;a.push('x');a.pop();alert(1);new F();a.push('x');
+abbrev entered_by_read : Program
+entered_by_read = record {
+  scopes =
+    (record { params = 0; names = 0; own = false; body = stmts ((fun_decl 2001 (Ref.Global 4) 1) ∷ (vars 3001 ((record { site = 3005; variable = (Ref.Global 5); value = Some (list 3007 (exprs [])) }) ∷ [])) ∷ (simple 3010 (assign 3023 None (to_member 3021 (member 3011 (var 3010 (Ref.Global 4)) 1) 0) (var 3024 (Ref.Global 5)))) ∷ (simple 3026 (call 3032 (member 3027 (var 3026 (Ref.Global 5)) 2) (exprs ((lit 3033 (text (codes "x"))) ∷ [])))) ∷ (simple 3038 (call 3043 (member 3039 (var 3038 (Ref.Global 5)) 3) (exprs []))) ∷ (simple 3046 (call 3051 (var 3046 (Ref.Global 0)) (exprs ((lit 3052 (whole (pos 1))) ∷ [])))) ∷ (simple 3055 (new 3055 (var 3059 (Ref.Global 4)) (exprs []))) ∷ (simple 3063 (call 3069 (member 3064 (var 3063 (Ref.Global 5)) 2) (exprs ((lit 3070 (text (codes "x"))) ∷ [])))) ∷ []); parent = None; doc = 0 })
+    ∷ (record { params = 0; names = 0; own = false; body = stmts ((simple 2042 (member 2046 (this 2042) 0)) ∷ []); parent = None; doc = 2 }) ∷ [];
+  chunks = (chunk_of [] ∷ []);
+  globals = ((record { name = (codes "alert"); chunk = None; doc = 0; flat = [] }) ∷ (record { name = (codes "Object"); chunk = None; doc = 0; flat = [] }) ∷ (record { name = (codes "Math"); chunk = None; doc = 0; flat = [] }) ∷ (record { name = (codes "String"); chunk = None; doc = 0; flat = [] }) ∷ (record { name = (codes "F"); chunk = Some 0; doc = 0; flat = [] }) ∷ (record { name = (codes "a"); chunk = Some 0; doc = 0; flat = [] }) ∷ []);
+  props = (prop (codes "n") ∷ kept_prop (codes "prototype") ∷ kept_prop (codes "push") ∷ kept_prop (codes "pop") ∷ []);
+  kept = always_kept;
+  classes = ((record { name = (codes "F"); function = Some 1; external = false; interface = false; extends = None; implements = []; methods = []; fields = ((0, 1) ∷ []) }) ∷ []);
+  places = [];
+  docs = (no_doc ∷ (record no_doc { value = Some (record { kinds = 16; classes = []; unknown = false; element = Some (record { kinds = 1; classes = [] }) }) }) ∷ (record no_doc { params = []; result = None; receiver = None; vars = [] }) ∷ []);
+}
+
+entered_by_read_run : run checked entered_by_read (record { turns = (load 0 ∷ []); replies = ((record { first = []; answer = gives undef }) ∷ []) }) 40 ≡ ((called (shown_out 0) undef ((shown_prim (whole (pos 1))) ∷ []) ∷ []), stopped (broken 6 (at_site 3069)))
+unfolding opened
+entered_by_read_run = refl
+
 --     var a=['x'];/** @type {Array<number>} */var b=a;
 abbrev elements_of_type : Program
 elements_of_type = record {

@@ -17,7 +17,9 @@ use Rattle.cc_meaning.specs.State.{Kind, kept_kind, Slot, Code, Obj, bare, Frame
 use Rattle.cc_meaning.specs.Monad.{Said, told, End, waits, M, ret, skip, stop, raise, ◌>>=◌, with_tables, pick, Mode}
 use Rattle.cc_meaning.specs.Store.{Access, dotted, quoted, runtime, name_of, kind_for, kind_by, Global, extern, built_in, of_chunk, global_kind, Use, Found, found_value, found_use, nothing_found, look_up, has_name, value_found, chain_of, chain_in, names_on, put_own, drop_slot, change, frame_up, frame_at, flat_option, fitted, class_of_function}
 use Rattle.cc_meaning.specs.Typed.{Variable, global, local, flat, variable_type, function_doc, params_in, result_in, value_in, doc_at, field_types, entered_in}
-use Rattle.cc_meaning.specs.Judge.{Op, unary_op, binary_op, built_op, Act, operates, reads, writes, removes, probes, walks, calls, enters, leaves, takes, keeps, reads_this, casts, hosts, calls_inner, answers_with, least_broken, prototype_at, prototype_of_function, prototype_object}
+use Rattle.cc_meaning.specs.SlotRules.{fields_reached}
+use Rattle.cc_meaning.specs.Rules.{unary_op, binary_op, prototype_at}
+use Rattle.cc_meaning.specs.Judge.{Act, operates, reads, writes, removes, probes, walks, calls, enters, leaves, takes, keeps, reads_this, casts, hosts, calls_inner, answers_with, least_broken}
 
 -- ---- judging
 
@@ -214,16 +216,16 @@ read_this J i r = judged J i (reads_this r) (ret (or_undefined r))
 
 -- the value that is found, and the types of the field enter their element types
 unfoldable pub read_slot : Mode → Spot → ℕ → Access → M Val
-unfolding judged reading value_found look_up name_of receive_all field_types
+unfolding judged reading value_found look_up name_of receive_all fields_reached
 read_slot J i o a =
     judged J i (reads (obj o) a) (reading (λ s. value_found (look_up s.objs o (name_of s.tables a)))) >>= λ v.
-    (λ s. receive_all (field_types s.tables s.objs o (name_of s.tables a)) v s) >>= λ _. ret v
+    (λ s. receive_all (fields_reached s.tables s.objs o a) v s) >>= λ _. ret v
 
 unfoldable pub write_slot : Mode → Spot → ℕ → Access → Kind → Val → Bool → M (Unit {0})
-unfolding judged changing change put_own kind_for name_of receive_all field_types
+unfolding judged changing change put_own kind_for name_of receive_all fields_reached
 write_slot J i o a made v declares =
     judged J i (writes (obj o) a v declares) (λ s. changing (change o (put_own (name_of s.tables a) (kind_for s.tables (name_of s.tables a) made) v)) s) >>= λ _.
-    (λ s. receive_all (field_types s.tables s.objs o (name_of s.tables a)) v s)
+    (λ s. receive_all (fields_reached s.tables s.objs o a) v s)
 
 unfoldable pub drop_own : List ℕ → Obj → Obj
 unfolding drop_slot

@@ -12,7 +12,8 @@ use Rattle.cc_meaning.specs.State.{Kind, Code, Obj, Env, Tables, Inner, Answer, 
 use Rattle.cc_meaning.specs.Monad.{told, M, ret, skip, raise, stop, say, ◌>>=◌, Way, went, thrown, attempt, pay, with_tables, pick, Mode}
 use Rattle.cc_meaning.specs.Store.{Access, dotted, quoted, runtime, name_of, kind_by, Built, object_global, math_global, string_global, Global, extern, built_in, of_chunk, global_kind, Use, of_array, of_text, of_math, string_of_value, from_codes, create_object, has_own, call_with, Found, found_value, found_use, nothing_found, look_up, own_value, change}
 use Rattle.cc_meaning.specs.Typed.{Variable, flat, params_in, result_in, function_doc}
-use Rattle.cc_meaning.specs.Judge.{Op, built_op, Act, operates, reads, writes, probes, calls, enters, leaves, takes, calls_inner, answers_with, is_prim}
+use Rattle.cc_meaning.specs.Rules.{Op, built_op, is_prim}
+use Rattle.cc_meaning.specs.Judge.{Act, operates, reads, writes, probes, calls, enters, leaves, takes, calls_inner, answers_with}
 use Rattle.cc_meaning.specs.Built.{BuiltOutcome, built_value, built_change, built_object, built_question, built_call, built_breaks, outcome_of}
 use Rattle.cc_meaning.specs.Acts.{judged, reading, changing, receive, receive_each, make_array, make_from, make_instance, keep, read_var, write_var, read_slot, write_slot, remove, is_there, operate_one, cast_to, show, show_all, show_receiver, next_reply, all_given, was_given, object_at, viewed}
 

@@ -8,6 +8,8 @@ pub mod Monad
 pub mod Store
 pub mod Typed
 pub mod Built
+pub mod SlotRules
+pub mod Rules
 pub mod Judge
 pub mod Acts
 pub mod Shapes
