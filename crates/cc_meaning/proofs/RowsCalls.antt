@@ -1,13 +1,13 @@
 -- Expressions and calls, where one meets another.
-use Rattle.std.specs.Prelude.{◌≡◌, refl, ℕ, ℤ, pos, negsuc, Bool, true, false, List, [], ◌∷◌, ◌++◌, Option, Some, None, codes}
-use Rattle.cc_ast.specs.Syntax.{Prim, undefined, null, truth, whole, text, Expr, lit, var, this, fun, list, object, unary, binary, and, or, cond, assign, step, member, index, call, new, comma, cast, tick, to_var, to_member, to_index, Declarator, no_init, init_value, init_vars, in_target, in_declared, Stmt, simple, vars, fun_decl, if, while, do_while, for, for_in, return, throw, break, continue, label, switch, try, pay_stmt, absent, present, no_cases, more_cases, Program}
-use Rattle.cc_ast.specs.declared.operator.BinOp.TheVariants.{Add, Sub, Mul, Div, Rem, BitAnd, BitXor, BitOr, Shl, Shr, UShr, Less, Greater, LessEq, GreaterEq, Equal, NotEqual, Strict, NotStrict, Instance, Has}
-use Rattle.cc_ast.specs.declared.operator.UnOp.TheVariants.{Minus, Plus, BitNot, Not, Void, Typeof, Delete}
+use Rattle.std.specs.Prelude.{◌≡◌, refl, pos, true, false, [], ◌∷◌, ◌++◌, Some, None, codes}
+use Rattle.cc_ast.specs.Syntax.{Prim, undefined, truth, whole, text, lit, var, this, fun, list, object, unary, binary, assign, member, index, call, new, comma, cast, tick, to_var, to_member, to_index, simple, vars, fun_decl, if, return, throw, try, pay_stmt, present, Program}
+use Rattle.cc_ast.specs.declared.operator.BinOp.TheVariants.{Add, Sub, Mul, Strict, Instance}
+use Rattle.cc_ast.specs.declared.operator.UnOp.TheVariants.{Typeof}
 use Rattle.cc_ast.specs.declared.tree.Ref.{Ref}
 use Rattle.cc_ast.specs.declared.tree.Key.{Key}
 use Rattle.cc_meaning.specs.Values.{shown_prim, shown_out, handle, called, constructed, got, put, ended, threw, at_site, at_turn}
 use Rattle.cc_meaning.specs.State.{gives, throws}
-use Rattle.cc_meaning.specs.Monad.{spent, waits, broken, strayed}
+use Rattle.cc_meaning.specs.Monad.{spent, broken, strayed}
 use Rattle.cc_meaning.specs.Names.{always_kept}
 use Rattle.cc_meaning.specs.Script.{load, call as call_turn, get as get_turn, set as set_turn, run, checked, plain, finished, stopped}
 use Rattle.cc_meaning.proofs.Opened.{opened}
@@ -17,9 +17,9 @@ use Rattle.cc_meaning.proofs.Trees.{exprs, fields, stmts, no_doc, chunk_of, prop
 abbrev own_name : Program
 own_name = record {
   scopes =
-    (record { params = 0; names = 0; own = false; body = stmts ((vars 1001 ((record { site = 1005; variable = (Ref.Global 4); value = Some (fun 1007 1) }) ∷ [])) ∷ (simple 1042 (call 1047 (var 1042 (Ref.Global 0)) (exprs ((call 1049 (var 1048 (Ref.Global 4)) (exprs [])) ∷ [])))) ∷ (vars 1053 ((record { site = 1057; variable = (Ref.Global 5); value = Some (fun 1059 2) }) ∷ [])) ∷ (simple 1085 (call 1090 (var 1085 (Ref.Global 0)) (exprs ((call 1092 (var 1091 (Ref.Global 5)) (exprs [])) ∷ [])))) ∷ []); parent = None; doc = 0 })
-    ∷ (record { params = 0; names = 0; own = true; body = stmts ((simple 1020 (assign 1021 None (to_var 1020 (Ref.Frame 1 0)) (lit 1022 (whole (pos 1))))) ∷ (return 1024 (Some (unary 1031 Typeof (var 1038 (Ref.Frame 1 0))))) ∷ []); parent = None; doc = 0 })
-    ∷ (record { params = 0; names = 0; own = true; body = stmts ((return 1072 (Some (assign 1080 None (to_var 1079 (Ref.Frame 1 0)) (lit 1081 (whole (pos 2)))))) ∷ []); parent = None; doc = 0 }) ∷ [];
+      (record { params = 0; names = 0; own = false; body = stmts ((vars 1001 ((record { site = 1005; variable = (Ref.Global 4); value = Some (fun 1007 1) }) ∷ [])) ∷ (simple 1042 (call 1047 (var 1042 (Ref.Global 0)) (exprs ((call 1049 (var 1048 (Ref.Global 4)) (exprs [])) ∷ [])))) ∷ (vars 1053 ((record { site = 1057; variable = (Ref.Global 5); value = Some (fun 1059 2) }) ∷ [])) ∷ (simple 1085 (call 1090 (var 1085 (Ref.Global 0)) (exprs ((call 1092 (var 1091 (Ref.Global 5)) (exprs [])) ∷ [])))) ∷ []); parent = None; doc = 0 })
+      ∷ (record { params = 0; names = 0; own = true; body = stmts ((simple 1020 (assign 1021 None (to_var 1020 (Ref.Frame 1 0)) (lit 1022 (whole (pos 1))))) ∷ (return 1024 (Some (unary 1031 Typeof (var 1038 (Ref.Frame 1 0))))) ∷ []); parent = None; doc = 0 })
+      ∷ (record { params = 0; names = 0; own = true; body = stmts ((return 1072 (Some (assign 1080 None (to_var 1079 (Ref.Frame 1 0)) (lit 1081 (whole (pos 2)))))) ∷ []); parent = None; doc = 0 }) ∷ [];
   chunks = (chunk_of [] ∷ []);
   globals = ((record { name = (codes "alert"); chunk = None; doc = 0; flat = [] }) ∷ (record { name = (codes "Object"); chunk = None; doc = 0; flat = [] }) ∷ (record { name = (codes "Math"); chunk = None; doc = 0; flat = [] }) ∷ (record { name = (codes "String"); chunk = None; doc = 0; flat = [] }) ∷ (record { name = (codes "f"); chunk = Some 0; doc = 0; flat = [] }) ∷ (record { name = (codes "h"); chunk = Some 0; doc = 0; flat = [] }) ∷ []);
   props = [];
@@ -37,8 +37,8 @@ own_name_run = refl
 abbrev compound : Program
 compound = record {
   scopes =
-    (record { params = 0; names = 0; own = false; body = stmts ((vars 1001 ((record { site = 1005; variable = (Ref.Global 4); value = Some (lit 1007 (whole (pos 1))) }) ∷ [])) ∷ (fun_decl 1009 (Ref.Global 5) 1) ∷ (simple 1037 (assign 1038 (Some Add) (to_var 1037 (Ref.Global 4)) (call 1041 (var 1040 (Ref.Global 5)) (exprs [])))) ∷ (simple 1044 (call 1049 (var 1044 (Ref.Global 0)) (exprs ((var 1050 (Ref.Global 4)) ∷ [])))) ∷ []); parent = None; doc = 0 })
-    ∷ (record { params = 0; names = 0; own = false; body = stmts ((simple 1022 (assign 1023 None (to_var 1022 (Ref.Global 4)) (lit 1024 (whole (pos 10))))) ∷ (return 1027 (Some (lit 1034 (whole (pos 5))))) ∷ []); parent = None; doc = 0 }) ∷ [];
+      (record { params = 0; names = 0; own = false; body = stmts ((vars 1001 ((record { site = 1005; variable = (Ref.Global 4); value = Some (lit 1007 (whole (pos 1))) }) ∷ [])) ∷ (fun_decl 1009 (Ref.Global 5) 1) ∷ (simple 1037 (assign 1038 (Some Add) (to_var 1037 (Ref.Global 4)) (call 1041 (var 1040 (Ref.Global 5)) (exprs [])))) ∷ (simple 1044 (call 1049 (var 1044 (Ref.Global 0)) (exprs ((var 1050 (Ref.Global 4)) ∷ [])))) ∷ []); parent = None; doc = 0 })
+      ∷ (record { params = 0; names = 0; own = false; body = stmts ((simple 1022 (assign 1023 None (to_var 1022 (Ref.Global 4)) (lit 1024 (whole (pos 10))))) ∷ (return 1027 (Some (lit 1034 (whole (pos 5))))) ∷ []); parent = None; doc = 0 }) ∷ [];
   chunks = (chunk_of [] ∷ []);
   globals = ((record { name = (codes "alert"); chunk = None; doc = 0; flat = [] }) ∷ (record { name = (codes "Object"); chunk = None; doc = 0; flat = [] }) ∷ (record { name = (codes "Math"); chunk = None; doc = 0; flat = [] }) ∷ (record { name = (codes "String"); chunk = None; doc = 0; flat = [] }) ∷ (record { name = (codes "x"); chunk = Some 0; doc = 0; flat = [] }) ∷ (record { name = (codes "f"); chunk = Some 0; doc = 0; flat = [] }) ∷ []);
   props = [];
@@ -56,7 +56,7 @@ compound_run = refl
 abbrev unset_callee : Program
 unset_callee = record {
   scopes =
-    (record { params = 0; names = 0; own = false; body = stmts ((vars 1001 ((record { site = 1005; variable = (Ref.Global 4); value = None }) ∷ [])) ∷ (simple 1007 (call 1008 (var 1007 (Ref.Global 4)) (exprs ((call 1014 (var 1009 (Ref.Global 0)) (exprs ((lit 1015 (whole (pos 1))) ∷ []))) ∷ [])))) ∷ []); parent = None; doc = 0 }) ∷ [];
+      (record { params = 0; names = 0; own = false; body = stmts ((vars 1001 ((record { site = 1005; variable = (Ref.Global 4); value = None }) ∷ [])) ∷ (simple 1007 (call 1008 (var 1007 (Ref.Global 4)) (exprs ((call 1014 (var 1009 (Ref.Global 0)) (exprs ((lit 1015 (whole (pos 1))) ∷ []))) ∷ [])))) ∷ []); parent = None; doc = 0 }) ∷ [];
   chunks = (chunk_of [] ∷ []);
   globals = ((record { name = (codes "alert"); chunk = None; doc = 0; flat = [] }) ∷ (record { name = (codes "Object"); chunk = None; doc = 0; flat = [] }) ∷ (record { name = (codes "Math"); chunk = None; doc = 0; flat = [] }) ∷ (record { name = (codes "String"); chunk = None; doc = 0; flat = [] }) ∷ (record { name = (codes "u"); chunk = Some 0; doc = 0; flat = [] }) ∷ []);
   props = [];
@@ -74,7 +74,7 @@ unset_callee_run = refl
 abbrev judged_before_cost : Program
 judged_before_cost = record {
   scopes =
-    (record { params = 0; names = 0; own = false; body = stmts ((vars 1001 ((record { site = 1005; variable = (Ref.Global 4); value = None }) ∷ [])) ∷ (simple 1007 (call 1008 (var 1007 (Ref.Global 4)) (exprs []))) ∷ []); parent = None; doc = 0 }) ∷ [];
+      (record { params = 0; names = 0; own = false; body = stmts ((vars 1001 ((record { site = 1005; variable = (Ref.Global 4); value = None }) ∷ [])) ∷ (simple 1007 (call 1008 (var 1007 (Ref.Global 4)) (exprs []))) ∷ []); parent = None; doc = 0 }) ∷ [];
   chunks = (chunk_of [] ∷ []);
   globals = ((record { name = (codes "alert"); chunk = None; doc = 0; flat = [] }) ∷ (record { name = (codes "Object"); chunk = None; doc = 0; flat = [] }) ∷ (record { name = (codes "Math"); chunk = None; doc = 0; flat = [] }) ∷ (record { name = (codes "String"); chunk = None; doc = 0; flat = [] }) ∷ (record { name = (codes "u"); chunk = Some 0; doc = 0; flat = [] }) ∷ []);
   props = [];
@@ -92,10 +92,10 @@ judged_before_cost_run = refl
 abbrev callee_first : Program
 callee_first = record {
   scopes =
-    (record { params = 0; names = 0; own = false; body = stmts ((vars 1001 ((record { site = 1005; variable = (Ref.Global 4); value = Some (fun 1007 1) }) ∷ [])) ∷ (fun_decl 1029 (Ref.Global 5) 2) ∷ (simple 1076 (call 1081 (var 1076 (Ref.Global 0)) (exprs ((call 1083 (var 1082 (Ref.Global 4)) (exprs ((call 1085 (var 1084 (Ref.Global 5)) (exprs [])) ∷ []))) ∷ [])))) ∷ []); parent = None; doc = 0 })
-    ∷ (record { params = 0; names = 0; own = false; body = stmts ((return 1018 (Some (lit 1025 (whole (pos 1))))) ∷ []); parent = None; doc = 0 })
-    ∷ (record { params = 0; names = 0; own = false; body = stmts ((simple 1042 (assign 1043 None (to_var 1042 (Ref.Global 4)) (fun 1044 3))) ∷ (return 1066 (Some (lit 1073 (whole (pos 0))))) ∷ []); parent = None; doc = 0 })
-    ∷ (record { params = 0; names = 0; own = false; body = stmts ((return 1055 (Some (lit 1062 (whole (pos 2))))) ∷ []); parent = None; doc = 0 }) ∷ [];
+      (record { params = 0; names = 0; own = false; body = stmts ((vars 1001 ((record { site = 1005; variable = (Ref.Global 4); value = Some (fun 1007 1) }) ∷ [])) ∷ (fun_decl 1029 (Ref.Global 5) 2) ∷ (simple 1076 (call 1081 (var 1076 (Ref.Global 0)) (exprs ((call 1083 (var 1082 (Ref.Global 4)) (exprs ((call 1085 (var 1084 (Ref.Global 5)) (exprs [])) ∷ []))) ∷ [])))) ∷ []); parent = None; doc = 0 })
+      ∷ (record { params = 0; names = 0; own = false; body = stmts ((return 1018 (Some (lit 1025 (whole (pos 1))))) ∷ []); parent = None; doc = 0 })
+      ∷ (record { params = 0; names = 0; own = false; body = stmts ((simple 1042 (assign 1043 None (to_var 1042 (Ref.Global 4)) (fun 1044 3))) ∷ (return 1066 (Some (lit 1073 (whole (pos 0))))) ∷ []); parent = None; doc = 0 })
+      ∷ (record { params = 0; names = 0; own = false; body = stmts ((return 1055 (Some (lit 1062 (whole (pos 2))))) ∷ []); parent = None; doc = 0 }) ∷ [];
   chunks = (chunk_of [] ∷ []);
   globals = ((record { name = (codes "alert"); chunk = None; doc = 0; flat = [] }) ∷ (record { name = (codes "Object"); chunk = None; doc = 0; flat = [] }) ∷ (record { name = (codes "Math"); chunk = None; doc = 0; flat = [] }) ∷ (record { name = (codes "String"); chunk = None; doc = 0; flat = [] }) ∷ (record { name = (codes "f"); chunk = Some 0; doc = 0; flat = [] }) ∷ (record { name = (codes "g"); chunk = Some 0; doc = 0; flat = [] }) ∷ []);
   props = [];
@@ -113,7 +113,7 @@ callee_first_run = refl
 abbrev no_function : Program
 no_function = record {
   scopes =
-    (record { params = 0; names = 0; own = false; body = stmts ((vars 1001 ((record { site = 1005; variable = (Ref.Global 4); value = Some (object 1007 (fields [])) }) ∷ [])) ∷ (simple 1010 (call 1011 (var 1010 (Ref.Global 4)) (exprs ((call 1017 (var 1012 (Ref.Global 0)) (exprs ((lit 1018 (whole (pos 1))) ∷ []))) ∷ [])))) ∷ []); parent = None; doc = 0 }) ∷ [];
+      (record { params = 0; names = 0; own = false; body = stmts ((vars 1001 ((record { site = 1005; variable = (Ref.Global 4); value = Some (object 1007 (fields [])) }) ∷ [])) ∷ (simple 1010 (call 1011 (var 1010 (Ref.Global 4)) (exprs ((call 1017 (var 1012 (Ref.Global 0)) (exprs ((lit 1018 (whole (pos 1))) ∷ []))) ∷ [])))) ∷ []); parent = None; doc = 0 }) ∷ [];
   chunks = (chunk_of [] ∷ []);
   globals = ((record { name = (codes "alert"); chunk = None; doc = 0; flat = [] }) ∷ (record { name = (codes "Object"); chunk = None; doc = 0; flat = [] }) ∷ (record { name = (codes "Math"); chunk = None; doc = 0; flat = [] }) ∷ (record { name = (codes "String"); chunk = None; doc = 0; flat = [] }) ∷ (record { name = (codes "o"); chunk = Some 0; doc = 0; flat = [] }) ∷ []);
   props = [];
@@ -131,8 +131,8 @@ no_function_run = refl
 abbrev left_to_right : Program
 left_to_right = record {
   scopes =
-    (record { params = 0; names = 0; own = false; body = stmts ((fun_decl 1001 (Ref.Global 4) 1) ∷ (simple 1034 (binary 1038 Add (call 1035 (var 1034 (Ref.Global 4)) (exprs ((lit 1036 (whole (pos 1))) ∷ []))) (binary 1043 Mul (call 1040 (var 1039 (Ref.Global 4)) (exprs ((lit 1041 (whole (pos 2))) ∷ []))) (call 1045 (var 1044 (Ref.Global 4)) (exprs ((lit 1046 (whole (pos 3))) ∷ [])))))) ∷ []); parent = None; doc = 0 })
-    ∷ (record { params = 1; names = 0; own = false; body = stmts ((simple 1015 (call 1020 (var 1015 (Ref.Global 0)) (exprs ((var 1021 (Ref.Frame 0 0)) ∷ [])))) ∷ (return 1024 (Some (var 1031 (Ref.Frame 0 0)))) ∷ []); parent = None; doc = 0 }) ∷ [];
+      (record { params = 0; names = 0; own = false; body = stmts ((fun_decl 1001 (Ref.Global 4) 1) ∷ (simple 1034 (binary 1038 Add (call 1035 (var 1034 (Ref.Global 4)) (exprs ((lit 1036 (whole (pos 1))) ∷ []))) (binary 1043 Mul (call 1040 (var 1039 (Ref.Global 4)) (exprs ((lit 1041 (whole (pos 2))) ∷ []))) (call 1045 (var 1044 (Ref.Global 4)) (exprs ((lit 1046 (whole (pos 3))) ∷ [])))))) ∷ []); parent = None; doc = 0 })
+      ∷ (record { params = 1; names = 0; own = false; body = stmts ((simple 1015 (call 1020 (var 1015 (Ref.Global 0)) (exprs ((var 1021 (Ref.Frame 0 0)) ∷ [])))) ∷ (return 1024 (Some (var 1031 (Ref.Frame 0 0)))) ∷ []); parent = None; doc = 0 }) ∷ [];
   chunks = (chunk_of [] ∷ []);
   globals = ((record { name = (codes "alert"); chunk = None; doc = 0; flat = [] }) ∷ (record { name = (codes "Object"); chunk = None; doc = 0; flat = [] }) ∷ (record { name = (codes "Math"); chunk = None; doc = 0; flat = [] }) ∷ (record { name = (codes "String"); chunk = None; doc = 0; flat = [] }) ∷ (record { name = (codes "s"); chunk = Some 0; doc = 0; flat = [] }) ∷ []);
   props = [];
@@ -150,8 +150,8 @@ left_to_right_run = refl
 abbrev receiver : Program
 receiver = record {
   scopes =
-    (record { params = 0; names = 0; own = false; body = stmts ((vars 1001 ((record { site = 1005; variable = (Ref.Global 4); value = Some (object 1007 (fields ((Key.Quoted (codes "f"), (fun 1012 1)) ∷ []))) }) ∷ [])) ∷ (simple 1038 (call 1043 (var 1038 (Ref.Global 0)) (exprs ((binary 1052 Strict (call 1050 (index 1045 (var 1044 (Ref.Global 4)) (lit 1046 (text (codes "f")))) (exprs [])) (var 1055 (Ref.Global 4))) ∷ [])))) ∷ (simple 1058 (call 1063 (var 1058 (Ref.Global 0)) (exprs ((call 1074 (comma 1065 (lit 1065 (whole (pos 0))) (index 1068 (var 1067 (Ref.Global 4)) (lit 1069 (text (codes "f"))))) (exprs [])) ∷ [])))) ∷ []); parent = None; doc = 0 })
-    ∷ (record { params = 0; names = 0; own = false; body = stmts ((return 1023 (Some (this 1030))) ∷ []); parent = None; doc = 0 }) ∷ [];
+      (record { params = 0; names = 0; own = false; body = stmts ((vars 1001 ((record { site = 1005; variable = (Ref.Global 4); value = Some (object 1007 (fields ((Key.Quoted (codes "f"), (fun 1012 1)) ∷ []))) }) ∷ [])) ∷ (simple 1038 (call 1043 (var 1038 (Ref.Global 0)) (exprs ((binary 1052 Strict (call 1050 (index 1045 (var 1044 (Ref.Global 4)) (lit 1046 (text (codes "f")))) (exprs [])) (var 1055 (Ref.Global 4))) ∷ [])))) ∷ (simple 1058 (call 1063 (var 1058 (Ref.Global 0)) (exprs ((call 1074 (comma 1065 (lit 1065 (whole (pos 0))) (index 1068 (var 1067 (Ref.Global 4)) (lit 1069 (text (codes "f"))))) (exprs [])) ∷ [])))) ∷ []); parent = None; doc = 0 })
+      ∷ (record { params = 0; names = 0; own = false; body = stmts ((return 1023 (Some (this 1030))) ∷ []); parent = None; doc = 0 }) ∷ [];
   chunks = (chunk_of [] ∷ []);
   globals = ((record { name = (codes "alert"); chunk = None; doc = 0; flat = [] }) ∷ (record { name = (codes "Object"); chunk = None; doc = 0; flat = [] }) ∷ (record { name = (codes "Math"); chunk = None; doc = 0; flat = [] }) ∷ (record { name = (codes "String"); chunk = None; doc = 0; flat = [] }) ∷ (record { name = (codes "o"); chunk = Some 0; doc = 0; flat = [] }) ∷ []);
   props = [];
@@ -169,8 +169,8 @@ receiver_run = refl
 abbrev receiver_under_cast : Program
 receiver_under_cast = record {
   scopes =
-    (record { params = 0; names = 0; own = false; body = stmts ((vars 1001 ((record { site = 1005; variable = (Ref.Global 4); value = Some (object 1007 (fields ((Key.Quoted (codes "f"), (fun 1012 1)) ∷ []))) }) ∷ [])) ∷ (simple 1038 (call 1043 (var 1038 (Ref.Global 0)) (exprs ((binary 1079 Strict (call 1077 (cast 1068 1 (index 1070 (var 1069 (Ref.Global 4)) (lit 1071 (text (codes "f"))))) (exprs [])) (var 1082 (Ref.Global 4))) ∷ [])))) ∷ (simple 1085 (call 1090 (var 1085 (Ref.Global 0)) (exprs ((binary 1108 Strict (call 1106 (tick 1091 2 (index 1100 (var 1099 (Ref.Global 4)) (lit 1101 (text (codes "f"))))) (exprs [])) (var 1111 (Ref.Global 4))) ∷ [])))) ∷ []); parent = None; doc = 0 })
-    ∷ (record { params = 0; names = 0; own = false; body = stmts ((return 1023 (Some (this 1030))) ∷ []); parent = None; doc = 0 }) ∷ [];
+      (record { params = 0; names = 0; own = false; body = stmts ((vars 1001 ((record { site = 1005; variable = (Ref.Global 4); value = Some (object 1007 (fields ((Key.Quoted (codes "f"), (fun 1012 1)) ∷ []))) }) ∷ [])) ∷ (simple 1038 (call 1043 (var 1038 (Ref.Global 0)) (exprs ((binary 1079 Strict (call 1077 (cast 1068 1 (index 1070 (var 1069 (Ref.Global 4)) (lit 1071 (text (codes "f"))))) (exprs [])) (var 1082 (Ref.Global 4))) ∷ [])))) ∷ (simple 1085 (call 1090 (var 1085 (Ref.Global 0)) (exprs ((binary 1108 Strict (call 1106 (tick 1091 2 (index 1100 (var 1099 (Ref.Global 4)) (lit 1101 (text (codes "f"))))) (exprs [])) (var 1111 (Ref.Global 4))) ∷ [])))) ∷ []); parent = None; doc = 0 })
+      ∷ (record { params = 0; names = 0; own = false; body = stmts ((return 1023 (Some (this 1030))) ∷ []); parent = None; doc = 0 }) ∷ [];
   chunks = (chunk_of [] ∷ []);
   globals = ((record { name = (codes "alert"); chunk = None; doc = 0; flat = [] }) ∷ (record { name = (codes "Object"); chunk = None; doc = 0; flat = [] }) ∷ (record { name = (codes "Math"); chunk = None; doc = 0; flat = [] }) ∷ (record { name = (codes "String"); chunk = None; doc = 0; flat = [] }) ∷ (record { name = (codes "o"); chunk = Some 0; doc = 0; flat = [] }) ∷ []);
   props = [];
@@ -188,8 +188,8 @@ receiver_under_cast_run = refl
 abbrev given_receiver : Program
 given_receiver = record {
   scopes =
-    (record { params = 0; names = 0; own = false; body = stmts ((fun_decl 1001 (Ref.Global 4) 1) ∷ (simple 1027 (call 1032 (var 1027 (Ref.Global 0)) (exprs ((call 1039 (member 1034 (var 1033 (Ref.Global 4)) 0) (exprs ((lit 1040 undefined) ∷ []))) ∷ [])))) ∷ (simple 1052 (call 1057 (var 1052 (Ref.Global 0)) (exprs ((call 1064 (member 1059 (var 1058 (Ref.Global 4)) 0) (exprs ((lit 1065 (whole (pos 7))) ∷ (lit 1067 (whole (pos 1))) ∷ []))) ∷ [])))) ∷ []); parent = None; doc = 0 })
-    ∷ (record { params = 0; names = 0; own = false; body = stmts ((return 1014 (Some (this 1021))) ∷ []); parent = None; doc = 0 }) ∷ [];
+      (record { params = 0; names = 0; own = false; body = stmts ((fun_decl 1001 (Ref.Global 4) 1) ∷ (simple 1027 (call 1032 (var 1027 (Ref.Global 0)) (exprs ((call 1039 (member 1034 (var 1033 (Ref.Global 4)) 0) (exprs ((lit 1040 undefined) ∷ []))) ∷ [])))) ∷ (simple 1052 (call 1057 (var 1052 (Ref.Global 0)) (exprs ((call 1064 (member 1059 (var 1058 (Ref.Global 4)) 0) (exprs ((lit 1065 (whole (pos 7))) ∷ (lit 1067 (whole (pos 1))) ∷ []))) ∷ [])))) ∷ []); parent = None; doc = 0 })
+      ∷ (record { params = 0; names = 0; own = false; body = stmts ((return 1014 (Some (this 1021))) ∷ []); parent = None; doc = 0 }) ∷ [];
   chunks = (chunk_of [] ∷ []);
   globals = ((record { name = (codes "alert"); chunk = None; doc = 0; flat = [] }) ∷ (record { name = (codes "Object"); chunk = None; doc = 0; flat = [] }) ∷ (record { name = (codes "Math"); chunk = None; doc = 0; flat = [] }) ∷ (record { name = (codes "String"); chunk = None; doc = 0; flat = [] }) ∷ (record { name = (codes "f"); chunk = Some 0; doc = 0; flat = [] }) ∷ []);
   props = (kept_prop (codes "call") ∷ []);
@@ -207,10 +207,10 @@ given_receiver_run = refl
 abbrev new_object : Program
 new_object = record {
   scopes =
-    (record { params = 0; names = 0; own = false; body = stmts ((fun_decl 1001 (Ref.Global 4) 1) ∷ (fun_decl 1027 (Ref.Global 5) 2) ∷ (fun_decl 1056 (Ref.Global 6) 3) ∷ (simple 1079 (call 1084 (var 1079 (Ref.Global 0)) (exprs ((index 1092 (new 1085 (var 1089 (Ref.Global 4)) (exprs [])) (lit 1093 (text (codes "a")))) ∷ [])))) ∷ (simple 1099 (call 1104 (var 1099 (Ref.Global 0)) (exprs ((index 1112 (new 1105 (var 1109 (Ref.Global 5)) (exprs [])) (lit 1113 (text (codes "a")))) ∷ [])))) ∷ (simple 1119 (call 1124 (var 1119 (Ref.Global 0)) (exprs ((binary 1133 Instance (new 1125 (var 1129 (Ref.Global 6)) (exprs [])) (var 1144 (Ref.Global 6))) ∷ [])))) ∷ []); parent = None; doc = 0 })
-    ∷ (record { params = 0; names = 0; own = false; body = stmts ((simple 1014 (assign 1023 None (to_index 1018 (this 1014) (lit 1019 (text (codes "a")))) (lit 1024 (whole (pos 1))))) ∷ []); parent = None; doc = 0 })
-    ∷ (record { params = 0; names = 0; own = false; body = stmts ((return 1040 (Some (object 1047 (fields ((Key.Quoted (codes "a"), (lit 1052 (whole (pos 2)))) ∷ []))))) ∷ []); parent = None; doc = 0 })
-    ∷ (record { params = 0; names = 0; own = false; body = stmts ((return 1069 (Some (lit 1076 (whole (pos 3))))) ∷ []); parent = None; doc = 0 }) ∷ [];
+      (record { params = 0; names = 0; own = false; body = stmts ((fun_decl 1001 (Ref.Global 4) 1) ∷ (fun_decl 1027 (Ref.Global 5) 2) ∷ (fun_decl 1056 (Ref.Global 6) 3) ∷ (simple 1079 (call 1084 (var 1079 (Ref.Global 0)) (exprs ((index 1092 (new 1085 (var 1089 (Ref.Global 4)) (exprs [])) (lit 1093 (text (codes "a")))) ∷ [])))) ∷ (simple 1099 (call 1104 (var 1099 (Ref.Global 0)) (exprs ((index 1112 (new 1105 (var 1109 (Ref.Global 5)) (exprs [])) (lit 1113 (text (codes "a")))) ∷ [])))) ∷ (simple 1119 (call 1124 (var 1119 (Ref.Global 0)) (exprs ((binary 1133 Instance (new 1125 (var 1129 (Ref.Global 6)) (exprs [])) (var 1144 (Ref.Global 6))) ∷ [])))) ∷ []); parent = None; doc = 0 })
+      ∷ (record { params = 0; names = 0; own = false; body = stmts ((simple 1014 (assign 1023 None (to_index 1018 (this 1014) (lit 1019 (text (codes "a")))) (lit 1024 (whole (pos 1))))) ∷ []); parent = None; doc = 0 })
+      ∷ (record { params = 0; names = 0; own = false; body = stmts ((return 1040 (Some (object 1047 (fields ((Key.Quoted (codes "a"), (lit 1052 (whole (pos 2)))) ∷ []))))) ∷ []); parent = None; doc = 0 })
+      ∷ (record { params = 0; names = 0; own = false; body = stmts ((return 1069 (Some (lit 1076 (whole (pos 3))))) ∷ []); parent = None; doc = 0 }) ∷ [];
   chunks = (chunk_of [] ∷ []);
   globals = ((record { name = (codes "alert"); chunk = None; doc = 0; flat = [] }) ∷ (record { name = (codes "Object"); chunk = None; doc = 0; flat = [] }) ∷ (record { name = (codes "Math"); chunk = None; doc = 0; flat = [] }) ∷ (record { name = (codes "String"); chunk = None; doc = 0; flat = [] }) ∷ (record { name = (codes "F"); chunk = Some 0; doc = 0; flat = [] }) ∷ (record { name = (codes "G"); chunk = Some 0; doc = 0; flat = [] }) ∷ (record { name = (codes "H"); chunk = Some 0; doc = 0; flat = [] }) ∷ []);
   props = [];
@@ -228,7 +228,7 @@ new_object_run = refl
 abbrev new_outside : Program
 new_outside = record {
   scopes =
-    (record { params = 0; names = 0; own = false; body = stmts ((vars 1001 ((record { site = 1005; variable = (Ref.Global 5); value = Some (new 1007 (var 1011 (Ref.Global 1)) (exprs ((lit 1013 (whole (pos 1))) ∷ []))) }) ∷ [])) ∷ (simple 1016 (call 1021 (var 1016 (Ref.Global 0)) (exprs ((var 1022 (Ref.Global 5)) ∷ [])))) ∷ []); parent = None; doc = 0 }) ∷ [];
+      (record { params = 0; names = 0; own = false; body = stmts ((vars 1001 ((record { site = 1005; variable = (Ref.Global 5); value = Some (new 1007 (var 1011 (Ref.Global 1)) (exprs ((lit 1013 (whole (pos 1))) ∷ []))) }) ∷ [])) ∷ (simple 1016 (call 1021 (var 1016 (Ref.Global 0)) (exprs ((var 1022 (Ref.Global 5)) ∷ [])))) ∷ []); parent = None; doc = 0 }) ∷ [];
   chunks = (chunk_of [] ∷ []);
   globals = ((record { name = (codes "alert"); chunk = None; doc = 0; flat = [] }) ∷ (record { name = (codes "X"); chunk = None; doc = 0; flat = [] }) ∷ (record { name = (codes "Object"); chunk = None; doc = 0; flat = [] }) ∷ (record { name = (codes "Math"); chunk = None; doc = 0; flat = [] }) ∷ (record { name = (codes "String"); chunk = None; doc = 0; flat = [] }) ∷ (record { name = (codes "x"); chunk = Some 0; doc = 0; flat = [] }) ∷ []);
   props = [];
@@ -246,7 +246,7 @@ new_outside_run = refl
 abbrev method_outside : Program
 method_outside = record {
   scopes =
-    (record { params = 0; names = 0; own = false; body = stmts ((simple 1001 (call 1004 (member 1002 (var 1001 (Ref.Global 0)) 0) (exprs ((lit 1005 (whole (pos 1))) ∷ [])))) ∷ (simple 1008 (assign 1014 None (to_index 1009 (var 1008 (Ref.Global 0)) (lit 1010 (text (codes "n")))) (lit 1015 (whole (pos 2))))) ∷ []); parent = None; doc = 0 }) ∷ [];
+      (record { params = 0; names = 0; own = false; body = stmts ((simple 1001 (call 1004 (member 1002 (var 1001 (Ref.Global 0)) 0) (exprs ((lit 1005 (whole (pos 1))) ∷ [])))) ∷ (simple 1008 (assign 1014 None (to_index 1009 (var 1008 (Ref.Global 0)) (lit 1010 (text (codes "n")))) (lit 1015 (whole (pos 2))))) ∷ []); parent = None; doc = 0 }) ∷ [];
   chunks = (chunk_of [] ∷ []);
   globals = ((record { name = (codes "X"); chunk = None; doc = 0; flat = [] }) ∷ (record { name = (codes "Object"); chunk = None; doc = 0; flat = [] }) ∷ (record { name = (codes "Math"); chunk = None; doc = 0; flat = [] }) ∷ (record { name = (codes "String"); chunk = None; doc = 0; flat = [] }) ∷ []);
   props = (kept_prop (codes "m") ∷ []);
@@ -264,7 +264,7 @@ method_outside_run = refl
 abbrev unkept_outside : Program
 unkept_outside = record {
   scopes =
-    (record { params = 0; names = 0; own = false; body = stmts ((simple 1001 (call 1004 (member 1002 (var 1001 (Ref.Global 0)) 0) (exprs ((lit 1005 (whole (pos 1))) ∷ [])))) ∷ []); parent = None; doc = 0 }) ∷ [];
+      (record { params = 0; names = 0; own = false; body = stmts ((simple 1001 (call 1004 (member 1002 (var 1001 (Ref.Global 0)) 0) (exprs ((lit 1005 (whole (pos 1))) ∷ [])))) ∷ []); parent = None; doc = 0 }) ∷ [];
   chunks = (chunk_of [] ∷ []);
   globals = ((record { name = (codes "X"); chunk = None; doc = 0; flat = [] }) ∷ (record { name = (codes "Object"); chunk = None; doc = 0; flat = [] }) ∷ (record { name = (codes "Math"); chunk = None; doc = 0; flat = [] }) ∷ (record { name = (codes "String"); chunk = None; doc = 0; flat = [] }) ∷ []);
   props = (prop (codes "m") ∷ []);
@@ -282,8 +282,8 @@ unkept_outside_run = refl
 abbrev get_calls_back : Program
 get_calls_back = record {
   scopes =
-    (record { params = 0; names = 0; own = false; body = stmts ((vars 1001 ((record { site = 1005; variable = (Ref.Global 6); value = Some (fun 1007 1) }) ∷ [])) ∷ (simple 1029 (call 1031 (var 1029 (Ref.Global 1)) (exprs ((var 1032 (Ref.Global 6)) ∷ [])))) ∷ (vars 1035 ((record { site = 1039; variable = (Ref.Global 7); value = Some (lit 1041 (whole (pos 1))) }) ∷ [])) ∷ (simple 1043 (call 1048 (var 1043 (Ref.Global 0)) (exprs ((binary 1055 Add (index 1050 (var 1049 (Ref.Global 2)) (lit 1051 (text (codes "p")))) (var 1056 (Ref.Global 7))) ∷ [])))) ∷ []); parent = None; doc = 0 })
-    ∷ (record { params = 0; names = 0; own = false; body = stmts ((return 1018 (Some (var 1025 (Ref.Global 7)))) ∷ []); parent = None; doc = 0 }) ∷ [];
+      (record { params = 0; names = 0; own = false; body = stmts ((vars 1001 ((record { site = 1005; variable = (Ref.Global 6); value = Some (fun 1007 1) }) ∷ [])) ∷ (simple 1029 (call 1031 (var 1029 (Ref.Global 1)) (exprs ((var 1032 (Ref.Global 6)) ∷ [])))) ∷ (vars 1035 ((record { site = 1039; variable = (Ref.Global 7); value = Some (lit 1041 (whole (pos 1))) }) ∷ [])) ∷ (simple 1043 (call 1048 (var 1043 (Ref.Global 0)) (exprs ((binary 1055 Add (index 1050 (var 1049 (Ref.Global 2)) (lit 1051 (text (codes "p")))) (var 1056 (Ref.Global 7))) ∷ [])))) ∷ []); parent = None; doc = 0 })
+      ∷ (record { params = 0; names = 0; own = false; body = stmts ((return 1018 (Some (var 1025 (Ref.Global 7)))) ∷ []); parent = None; doc = 0 }) ∷ [];
   chunks = (chunk_of [] ∷ []);
   globals = ((record { name = (codes "alert"); chunk = None; doc = 0; flat = [] }) ∷ (record { name = (codes "on"); chunk = None; doc = 0; flat = [] }) ∷ (record { name = (codes "X"); chunk = None; doc = 0; flat = [] }) ∷ (record { name = (codes "Object"); chunk = None; doc = 0; flat = [] }) ∷ (record { name = (codes "Math"); chunk = None; doc = 0; flat = [] }) ∷ (record { name = (codes "String"); chunk = None; doc = 0; flat = [] }) ∷ (record { name = (codes "f"); chunk = Some 0; doc = 0; flat = [] }) ∷ (record { name = (codes "n"); chunk = Some 0; doc = 0; flat = [] }) ∷ []);
   props = [];
@@ -301,8 +301,8 @@ get_calls_back_run = refl
 abbrev inner_throws : Program
 inner_throws = record {
   scopes =
-    (record { params = 0; names = 0; own = false; body = stmts ((simple 1001 (call 1003 (var 1001 (Ref.Global 1)) (exprs ((fun 1004 1) ∷ [])))) ∷ (simple 1026 (call 1031 (var 1026 (Ref.Global 0)) (exprs ((lit 1032 (whole (pos 1))) ∷ [])))) ∷ []); parent = None; doc = 0 })
-    ∷ (record { params = 0; names = 0; own = false; body = stmts ((throw 1015 (lit 1021 (whole (pos 3)))) ∷ []); parent = None; doc = 0 }) ∷ [];
+      (record { params = 0; names = 0; own = false; body = stmts ((simple 1001 (call 1003 (var 1001 (Ref.Global 1)) (exprs ((fun 1004 1) ∷ [])))) ∷ (simple 1026 (call 1031 (var 1026 (Ref.Global 0)) (exprs ((lit 1032 (whole (pos 1))) ∷ [])))) ∷ []); parent = None; doc = 0 })
+      ∷ (record { params = 0; names = 0; own = false; body = stmts ((throw 1015 (lit 1021 (whole (pos 3)))) ∷ []); parent = None; doc = 0 }) ∷ [];
   chunks = (chunk_of [] ∷ []);
   globals = ((record { name = (codes "alert"); chunk = None; doc = 0; flat = [] }) ∷ (record { name = (codes "on"); chunk = None; doc = 0; flat = [] }) ∷ (record { name = (codes "Object"); chunk = None; doc = 0; flat = [] }) ∷ (record { name = (codes "Math"); chunk = None; doc = 0; flat = [] }) ∷ (record { name = (codes "String"); chunk = None; doc = 0; flat = [] }) ∷ []);
   props = [];
@@ -320,8 +320,8 @@ inner_throws_run = refl
 abbrev inner_asks : Program
 inner_asks = record {
   scopes =
-    (record { params = 0; names = 0; own = false; body = stmts ((simple 1001 (call 1003 (var 1001 (Ref.Global 1)) (exprs ((fun 1004 1) ∷ [])))) ∷ (simple 1028 (call 1033 (var 1028 (Ref.Global 0)) (exprs ((lit 1034 (whole (pos 1))) ∷ [])))) ∷ []); parent = None; doc = 0 })
-    ∷ (record { params = 1; names = 0; own = false; body = stmts ((simple 1016 (call 1021 (var 1016 (Ref.Global 0)) (exprs ((var 1022 (Ref.Frame 0 0)) ∷ [])))) ∷ []); parent = None; doc = 0 }) ∷ [];
+      (record { params = 0; names = 0; own = false; body = stmts ((simple 1001 (call 1003 (var 1001 (Ref.Global 1)) (exprs ((fun 1004 1) ∷ [])))) ∷ (simple 1028 (call 1033 (var 1028 (Ref.Global 0)) (exprs ((lit 1034 (whole (pos 1))) ∷ [])))) ∷ []); parent = None; doc = 0 })
+      ∷ (record { params = 1; names = 0; own = false; body = stmts ((simple 1016 (call 1021 (var 1016 (Ref.Global 0)) (exprs ((var 1022 (Ref.Frame 0 0)) ∷ [])))) ∷ []); parent = None; doc = 0 }) ∷ [];
   chunks = (chunk_of [] ∷ []);
   globals = ((record { name = (codes "alert"); chunk = None; doc = 0; flat = [] }) ∷ (record { name = (codes "on"); chunk = None; doc = 0; flat = [] }) ∷ (record { name = (codes "Object"); chunk = None; doc = 0; flat = [] }) ∷ (record { name = (codes "Math"); chunk = None; doc = 0; flat = [] }) ∷ (record { name = (codes "String"); chunk = None; doc = 0; flat = [] }) ∷ []);
   props = [];
@@ -340,7 +340,7 @@ inner_asks_run = refl
 abbrev answer_not_given : Program
 answer_not_given = record {
   scopes =
-    (record { params = 0; names = 0; own = false; body = stmts ((simple 1001 (call 1006 (var 1001 (Ref.Global 0)) (exprs ((lit 1007 (whole (pos 1))) ∷ [])))) ∷ []); parent = None; doc = 0 }) ∷ [];
+      (record { params = 0; names = 0; own = false; body = stmts ((simple 1001 (call 1006 (var 1001 (Ref.Global 0)) (exprs ((lit 1007 (whole (pos 1))) ∷ [])))) ∷ []); parent = None; doc = 0 }) ∷ [];
   chunks = (chunk_of [] ∷ []);
   globals = ((record { name = (codes "alert"); chunk = None; doc = 0; flat = [] }) ∷ (record { name = (codes "Object"); chunk = None; doc = 0; flat = [] }) ∷ (record { name = (codes "Math"); chunk = None; doc = 0; flat = [] }) ∷ (record { name = (codes "String"); chunk = None; doc = 0; flat = [] }) ∷ []);
   props = [];
@@ -362,7 +362,7 @@ answer_not_given_plain = refl
 abbrev reply_throws : Program
 reply_throws = record {
   scopes =
-    (record { params = 0; names = 0; own = false; body = stmts ((try 1001 (stmts ((simple 1005 (call 1010 (var 1005 (Ref.Global 0)) (exprs ((lit 1011 (whole (pos 1))) ∷ [])))) ∷ [])) (present (stmts ((simple 1024 (call 1029 (var 1024 (Ref.Global 0)) (exprs ((var 1030 (Ref.Frame 0 0)) ∷ [])))) ∷ []))) (present (stmts ((simple 1042 (call 1047 (var 1042 (Ref.Global 0)) (exprs ((lit 1048 (whole (pos 2))) ∷ [])))) ∷ [])))) ∷ []); parent = None; doc = 0 }) ∷ [];
+      (record { params = 0; names = 0; own = false; body = stmts ((try 1001 (stmts ((simple 1005 (call 1010 (var 1005 (Ref.Global 0)) (exprs ((lit 1011 (whole (pos 1))) ∷ [])))) ∷ [])) (present (stmts ((simple 1024 (call 1029 (var 1024 (Ref.Global 0)) (exprs ((var 1030 (Ref.Frame 0 0)) ∷ [])))) ∷ []))) (present (stmts ((simple 1042 (call 1047 (var 1042 (Ref.Global 0)) (exprs ((lit 1048 (whole (pos 2))) ∷ [])))) ∷ [])))) ∷ []); parent = None; doc = 0 }) ∷ [];
   chunks = (chunk_of [] ∷ []);
   globals = ((record { name = (codes "alert"); chunk = None; doc = 0; flat = [] }) ∷ (record { name = (codes "Object"); chunk = None; doc = 0; flat = [] }) ∷ (record { name = (codes "Math"); chunk = None; doc = 0; flat = [] }) ∷ (record { name = (codes "String"); chunk = None; doc = 0; flat = [] }) ∷ []);
   props = [];
@@ -380,7 +380,7 @@ reply_throws_run = refl
 abbrev shown_twice : Program
 shown_twice = record {
   scopes =
-    (record { params = 0; names = 0; own = false; body = stmts ((vars 1001 ((record { site = 1005; variable = (Ref.Global 5); value = Some (object 1007 (fields [])) }) ∷ [])) ∷ (simple 1010 (call 1015 (var 1010 (Ref.Global 0)) (exprs ((var 1016 (Ref.Global 5)) ∷ [])))) ∷ (simple 1019 (call 1024 (var 1019 (Ref.Global 0)) (exprs ((binary 1028 Strict (list 1025 (exprs ((var 1026 (Ref.Global 5)) ∷ []))) (var 1031 (Ref.Global 5))) ∷ [])))) ∷ (simple 1034 (call 1035 (var 1034 (Ref.Global 1)) (exprs ((var 1036 (Ref.Global 5)) ∷ (object 1038 (fields [])) ∷ (var 1041 (Ref.Global 5)) ∷ [])))) ∷ []); parent = None; doc = 0 }) ∷ [];
+      (record { params = 0; names = 0; own = false; body = stmts ((vars 1001 ((record { site = 1005; variable = (Ref.Global 5); value = Some (object 1007 (fields [])) }) ∷ [])) ∷ (simple 1010 (call 1015 (var 1010 (Ref.Global 0)) (exprs ((var 1016 (Ref.Global 5)) ∷ [])))) ∷ (simple 1019 (call 1024 (var 1019 (Ref.Global 0)) (exprs ((binary 1028 Strict (list 1025 (exprs ((var 1026 (Ref.Global 5)) ∷ []))) (var 1031 (Ref.Global 5))) ∷ [])))) ∷ (simple 1034 (call 1035 (var 1034 (Ref.Global 1)) (exprs ((var 1036 (Ref.Global 5)) ∷ (object 1038 (fields [])) ∷ (var 1041 (Ref.Global 5)) ∷ [])))) ∷ []); parent = None; doc = 0 }) ∷ [];
   chunks = (chunk_of [] ∷ []);
   globals = ((record { name = (codes "alert"); chunk = None; doc = 0; flat = [] }) ∷ (record { name = (codes "f"); chunk = None; doc = 0; flat = [] }) ∷ (record { name = (codes "Object"); chunk = None; doc = 0; flat = [] }) ∷ (record { name = (codes "Math"); chunk = None; doc = 0; flat = [] }) ∷ (record { name = (codes "String"); chunk = None; doc = 0; flat = [] }) ∷ (record { name = (codes "o"); chunk = Some 0; doc = 0; flat = [] }) ∷ []);
   props = [];
@@ -403,9 +403,9 @@ shown_twice_run = refl
 abbrev throwing_chunk : Program
 throwing_chunk = record {
   scopes =
-    (record { params = 0; names = 0; own = false; body = stmts ((throw 1001 (lit 1007 (whole (pos 1)))) ∷ []); parent = None; doc = 0 })
-    ∷ (record { params = 0; names = 0; own = false; body = stmts ((simple 1001 (call 1006 (var 1001 (Ref.Global 0)) (exprs ((lit 1007 (whole (pos 1))) ∷ [])))) ∷ []); parent = None; doc = 0 })
-    ∷ (record { params = 0; names = 0; own = false; body = stmts ((simple 1001 (call 1006 (var 1001 (Ref.Global 0)) (exprs ((lit 1007 (whole (pos 2))) ∷ [])))) ∷ []); parent = None; doc = 0 }) ∷ [];
+      (record { params = 0; names = 0; own = false; body = stmts ((throw 1001 (lit 1007 (whole (pos 1)))) ∷ []); parent = None; doc = 0 })
+      ∷ (record { params = 0; names = 0; own = false; body = stmts ((simple 1001 (call 1006 (var 1001 (Ref.Global 0)) (exprs ((lit 1007 (whole (pos 1))) ∷ [])))) ∷ []); parent = None; doc = 0 })
+      ∷ (record { params = 0; names = 0; own = false; body = stmts ((simple 1001 (call 1006 (var 1001 (Ref.Global 0)) (exprs ((lit 1007 (whole (pos 2))) ∷ [])))) ∷ []); parent = None; doc = 0 }) ∷ [];
   chunks = (chunk_of [] ∷ chunk_of (0 ∷ []) ∷ chunk_of (0 ∷ []) ∷ []);
   globals = ((record { name = (codes "alert"); chunk = None; doc = 0; flat = [] }) ∷ (record { name = (codes "Object"); chunk = None; doc = 0; flat = [] }) ∷ (record { name = (codes "Math"); chunk = None; doc = 0; flat = [] }) ∷ (record { name = (codes "String"); chunk = None; doc = 0; flat = [] }) ∷ []);
   props = [];
@@ -430,9 +430,9 @@ throwing_chunk_plain = refl
 abbrev unloaded_global : Program
 unloaded_global = record {
   scopes =
-    (record { params = 0; names = 0; own = false; body = stmts ((fun_decl 1001 (Ref.Global 4) 2) ∷ (simple 1024 (call 1026 (var 1024 (Ref.Global 0)) (exprs ((var 1027 (Ref.Global 4)) ∷ [])))) ∷ []); parent = None; doc = 0 })
-    ∷ (record { params = 0; names = 0; own = false; body = stmts ((vars 1001 ((record { site = 1005; variable = (Ref.Global 5); value = Some (lit 1007 (whole (pos 1))) }) ∷ [])) ∷ []); parent = None; doc = 0 })
-    ∷ (record { params = 0; names = 0; own = false; body = stmts ((return 1014 (Some (var 1021 (Ref.Global 5)))) ∷ []); parent = None; doc = 0 }) ∷ [];
+      (record { params = 0; names = 0; own = false; body = stmts ((fun_decl 1001 (Ref.Global 4) 2) ∷ (simple 1024 (call 1026 (var 1024 (Ref.Global 0)) (exprs ((var 1027 (Ref.Global 4)) ∷ [])))) ∷ []); parent = None; doc = 0 })
+      ∷ (record { params = 0; names = 0; own = false; body = stmts ((vars 1001 ((record { site = 1005; variable = (Ref.Global 5); value = Some (lit 1007 (whole (pos 1))) }) ∷ [])) ∷ []); parent = None; doc = 0 })
+      ∷ (record { params = 0; names = 0; own = false; body = stmts ((return 1014 (Some (var 1021 (Ref.Global 5)))) ∷ []); parent = None; doc = 0 }) ∷ [];
   chunks = (chunk_of [] ∷ chunk_of (0 ∷ []) ∷ []);
   globals = ((record { name = (codes "on"); chunk = None; doc = 0; flat = [] }) ∷ (record { name = (codes "Object"); chunk = None; doc = 0; flat = [] }) ∷ (record { name = (codes "Math"); chunk = None; doc = 0; flat = [] }) ∷ (record { name = (codes "String"); chunk = None; doc = 0; flat = [] }) ∷ (record { name = (codes "f"); chunk = Some 0; doc = 0; flat = [] }) ∷ (record { name = (codes "v"); chunk = Some 1; doc = 0; flat = [] }) ∷ []);
   props = [];
@@ -457,8 +457,8 @@ unloaded_global_loaded = refl
 abbrev declared_twice : Program
 declared_twice = record {
   scopes =
-    (record { params = 0; names = 0; own = false; body = stmts ((vars 1001 ((record { site = 1005; variable = (Ref.Global 4); value = Some (lit 1007 (whole (pos 1))) }) ∷ [])) ∷ []); parent = None; doc = 0 })
-    ∷ (record { params = 0; names = 0; own = false; body = stmts ((vars 1001 ((record { site = 1005; variable = (Ref.Global 4); value = Some (lit 1007 (whole (pos 2))) }) ∷ [])) ∷ (simple 1009 (call 1014 (var 1009 (Ref.Global 0)) (exprs ((var 1015 (Ref.Global 4)) ∷ [])))) ∷ []); parent = None; doc = 0 }) ∷ [];
+      (record { params = 0; names = 0; own = false; body = stmts ((vars 1001 ((record { site = 1005; variable = (Ref.Global 4); value = Some (lit 1007 (whole (pos 1))) }) ∷ [])) ∷ []); parent = None; doc = 0 })
+      ∷ (record { params = 0; names = 0; own = false; body = stmts ((vars 1001 ((record { site = 1005; variable = (Ref.Global 4); value = Some (lit 1007 (whole (pos 2))) }) ∷ [])) ∷ (simple 1009 (call 1014 (var 1009 (Ref.Global 0)) (exprs ((var 1015 (Ref.Global 4)) ∷ [])))) ∷ []); parent = None; doc = 0 }) ∷ [];
   chunks = (chunk_of [] ∷ chunk_of [] ∷ []);
   globals = ((record { name = (codes "alert"); chunk = None; doc = 0; flat = [] }) ∷ (record { name = (codes "Object"); chunk = None; doc = 0; flat = [] }) ∷ (record { name = (codes "Math"); chunk = None; doc = 0; flat = [] }) ∷ (record { name = (codes "String"); chunk = None; doc = 0; flat = [] }) ∷ (record { name = (codes "v"); chunk = Some 0; doc = 0; flat = [] }) ∷ []);
   props = [];
@@ -480,7 +480,7 @@ declared_twice_both = refl
 abbrev host_turns : Program
 host_turns = record {
   scopes =
-    (record { params = 0; names = 0; own = false; body = stmts ((vars 1001 ((record { site = 1005; variable = (Ref.Global 4); value = Some (list 1007 (exprs ((lit 1008 (whole (pos 5))) ∷ []))) }) ∷ [])) ∷ (simple 1011 (call 1013 (var 1011 (Ref.Global 0)) (exprs ((var 1014 (Ref.Global 4)) ∷ [])))) ∷ []); parent = None; doc = 0 }) ∷ [];
+      (record { params = 0; names = 0; own = false; body = stmts ((vars 1001 ((record { site = 1005; variable = (Ref.Global 4); value = Some (list 1007 (exprs ((lit 1008 (whole (pos 5))) ∷ []))) }) ∷ [])) ∷ (simple 1011 (call 1013 (var 1011 (Ref.Global 0)) (exprs ((var 1014 (Ref.Global 4)) ∷ [])))) ∷ []); parent = None; doc = 0 }) ∷ [];
   chunks = (chunk_of [] ∷ []);
   globals = ((record { name = (codes "on"); chunk = None; doc = 0; flat = [] }) ∷ (record { name = (codes "Object"); chunk = None; doc = 0; flat = [] }) ∷ (record { name = (codes "Math"); chunk = None; doc = 0; flat = [] }) ∷ (record { name = (codes "String"); chunk = None; doc = 0; flat = [] }) ∷ (record { name = (codes "a"); chunk = Some 0; doc = 0; flat = [] }) ∷ []);
   props = [];
@@ -498,7 +498,7 @@ host_turns_run = refl
 abbrev host_name : Program
 host_name = record {
   scopes =
-    (record { params = 0; names = 0; own = false; body = stmts ((vars 1001 ((record { site = 1005; variable = (Ref.Global 4); value = Some (object 1007 (fields [])) }) ∷ [])) ∷ (simple 1010 (assign 1013 None (to_member 1011 (var 1010 (Ref.Global 4)) 0) (lit 1014 (whole (pos 1))))) ∷ (simple 1016 (call 1018 (var 1016 (Ref.Global 0)) (exprs ((var 1019 (Ref.Global 4)) ∷ [])))) ∷ []); parent = None; doc = 0 }) ∷ [];
+      (record { params = 0; names = 0; own = false; body = stmts ((vars 1001 ((record { site = 1005; variable = (Ref.Global 4); value = Some (object 1007 (fields [])) }) ∷ [])) ∷ (simple 1010 (assign 1013 None (to_member 1011 (var 1010 (Ref.Global 4)) 0) (lit 1014 (whole (pos 1))))) ∷ (simple 1016 (call 1018 (var 1016 (Ref.Global 0)) (exprs ((var 1019 (Ref.Global 4)) ∷ [])))) ∷ []); parent = None; doc = 0 }) ∷ [];
   chunks = (chunk_of [] ∷ []);
   globals = ((record { name = (codes "on"); chunk = None; doc = 0; flat = [] }) ∷ (record { name = (codes "Object"); chunk = None; doc = 0; flat = [] }) ∷ (record { name = (codes "Math"); chunk = None; doc = 0; flat = [] }) ∷ (record { name = (codes "String"); chunk = None; doc = 0; flat = [] }) ∷ (record { name = (codes "o"); chunk = Some 0; doc = 0; flat = [] }) ∷ []);
   props = (prop (codes "a") ∷ []);
@@ -528,7 +528,7 @@ host_name_plain = refl
 abbrev marks : Program
 marks = record {
   scopes =
-    (record { params = 0; names = 0; own = false; body = stmts ((pay_stmt 1001 3) ∷ (simple 1009 (call 1014 (var 1009 (Ref.Global 0)) (exprs ((tick 1015 2 (lit 1023 (whole (pos 1)))) ∷ [])))) ∷ []); parent = None; doc = 0 }) ∷ [];
+      (record { params = 0; names = 0; own = false; body = stmts ((pay_stmt 1001 3) ∷ (simple 1009 (call 1014 (var 1009 (Ref.Global 0)) (exprs ((tick 1015 2 (lit 1023 (whole (pos 1)))) ∷ [])))) ∷ []); parent = None; doc = 0 }) ∷ [];
   chunks = (chunk_of [] ∷ []);
   globals = ((record { name = (codes "alert"); chunk = None; doc = 0; flat = [] }) ∷ (record { name = (codes "Object"); chunk = None; doc = 0; flat = [] }) ∷ (record { name = (codes "Math"); chunk = None; doc = 0; flat = [] }) ∷ (record { name = (codes "String"); chunk = None; doc = 0; flat = [] }) ∷ []);
   props = [];
@@ -554,8 +554,8 @@ marks_plain = refl
 abbrev deep : Program
 deep = record {
   scopes =
-    (record { params = 0; names = 0; own = false; body = stmts ((fun_decl 1001 (Ref.Global 4) 1) ∷ (simple 1050 (call 1055 (var 1050 (Ref.Global 0)) (exprs ((call 1057 (var 1056 (Ref.Global 4)) (exprs ((lit 1058 (whole (pos 3))) ∷ []))) ∷ [])))) ∷ []); parent = None; doc = 0 })
-    ∷ (record { params = 1; names = 0; own = false; body = stmts ((if 1015 (binary 1019 Strict (var 1018 (Ref.Frame 0 0)) (lit 1022 (whole (pos 0)))) (stmts ((return 1024 (Some (lit 1031 (whole (pos 0))))) ∷ [])) (stmts [])) ∷ (return 1033 (Some (binary 1046 Add (call 1041 (var 1040 (Ref.Global 4)) (exprs ((binary 1043 Sub (var 1042 (Ref.Frame 0 0)) (lit 1044 (whole (pos 1)))) ∷ []))) (lit 1047 (whole (pos 1)))))) ∷ []); parent = None; doc = 0 }) ∷ [];
+      (record { params = 0; names = 0; own = false; body = stmts ((fun_decl 1001 (Ref.Global 4) 1) ∷ (simple 1050 (call 1055 (var 1050 (Ref.Global 0)) (exprs ((call 1057 (var 1056 (Ref.Global 4)) (exprs ((lit 1058 (whole (pos 3))) ∷ []))) ∷ [])))) ∷ []); parent = None; doc = 0 })
+      ∷ (record { params = 1; names = 0; own = false; body = stmts ((if 1015 (binary 1019 Strict (var 1018 (Ref.Frame 0 0)) (lit 1022 (whole (pos 0)))) (stmts ((return 1024 (Some (lit 1031 (whole (pos 0))))) ∷ [])) (stmts [])) ∷ (return 1033 (Some (binary 1046 Add (call 1041 (var 1040 (Ref.Global 4)) (exprs ((binary 1043 Sub (var 1042 (Ref.Frame 0 0)) (lit 1044 (whole (pos 1)))) ∷ []))) (lit 1047 (whole (pos 1)))))) ∷ []); parent = None; doc = 0 }) ∷ [];
   chunks = (chunk_of [] ∷ []);
   globals = ((record { name = (codes "alert"); chunk = None; doc = 0; flat = [] }) ∷ (record { name = (codes "Object"); chunk = None; doc = 0; flat = [] }) ∷ (record { name = (codes "Math"); chunk = None; doc = 0; flat = [] }) ∷ (record { name = (codes "String"); chunk = None; doc = 0; flat = [] }) ∷ (record { name = (codes "f"); chunk = Some 0; doc = 0; flat = [] }) ∷ []);
   props = [];

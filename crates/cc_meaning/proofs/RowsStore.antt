@@ -1,15 +1,15 @@
 -- Objects, operators and what is built in.
-use Rattle.std.specs.Prelude.{◌≡◌, refl, ℕ, ℤ, pos, negsuc, Bool, true, false, List, [], ◌∷◌, ◌++◌, Option, Some, None, codes}
-use Rattle.cc_ast.specs.Syntax.{Prim, undefined, null, truth, whole, text, Expr, lit, var, this, fun, list, object, unary, binary, and, or, cond, assign, step, member, index, call, new, comma, cast, tick, to_var, to_member, to_index, Declarator, no_init, init_value, init_vars, in_target, in_declared, Stmt, simple, vars, fun_decl, if, while, do_while, for, for_in, return, throw, break, continue, label, switch, try, pay_stmt, absent, present, no_cases, more_cases, Program}
-use Rattle.cc_ast.specs.declared.operator.BinOp.TheVariants.{Add, Sub, Mul, Div, Rem, BitAnd, BitXor, BitOr, Shl, Shr, UShr, Less, Greater, LessEq, GreaterEq, Equal, NotEqual, Strict, NotStrict, Instance, Has}
-use Rattle.cc_ast.specs.declared.operator.UnOp.TheVariants.{Minus, Plus, BitNot, Not, Void, Typeof, Delete}
+use Rattle.std.specs.Prelude.{◌≡◌, refl, pos, negsuc, true, false, [], ◌∷◌, Some, None, codes}
+use Rattle.cc_ast.specs.Syntax.{Prim, undefined, null, truth, whole, text, lit, var, fun, list, object, unary, binary, assign, step, member, index, call, cast, to_var, to_member, to_index, simple, vars, fun_decl, return, Program}
+use Rattle.cc_ast.specs.declared.operator.BinOp.TheVariants.{Add, Mul, Div, Rem, BitXor, Shl, Shr, UShr, Equal, Has}
+use Rattle.cc_ast.specs.declared.operator.UnOp.TheVariants.{Minus, BitNot, Typeof, Delete}
 use Rattle.cc_ast.specs.declared.tree.Ref.{Ref}
 use Rattle.cc_ast.specs.declared.tree.Key.{Key}
-use Rattle.cc_meaning.specs.Values.{shown_prim, shown_out, handle, called, constructed, got, put, ended, threw, at_site, at_turn}
-use Rattle.cc_meaning.specs.State.{gives, throws}
-use Rattle.cc_meaning.specs.Monad.{spent, waits, broken, strayed}
+use Rattle.cc_meaning.specs.Values.{shown_prim, shown_out, called, ended, at_site}
+use Rattle.cc_meaning.specs.State.{gives}
+use Rattle.cc_meaning.specs.Monad.{broken}
 use Rattle.cc_meaning.specs.Names.{always_kept}
-use Rattle.cc_meaning.specs.Script.{load, call as call_turn, get as get_turn, set as set_turn, run, checked, plain, finished, stopped}
+use Rattle.cc_meaning.specs.Script.{load, run, checked, finished, stopped}
 use Rattle.cc_meaning.proofs.Opened.{opened}
 use Rattle.cc_meaning.proofs.Trees.{exprs, fields, stmts, no_doc, chunk_of, prop, kept_prop, undef, stext}
 
@@ -17,7 +17,7 @@ use Rattle.cc_meaning.proofs.Trees.{exprs, fields, stmts, no_doc, chunk_of, prop
 abbrev deletes : Program
 deletes = record {
   scopes =
-    (record { params = 0; names = 0; own = false; body = stmts ((vars 1001 ((record { site = 1005; variable = (Ref.Global 4); value = Some (object 1007 (fields ((Key.Quoted (codes "a"), (lit 1012 (whole (pos 1)))) ∷ []))) }) ∷ [])) ∷ (simple 1015 (call 1020 (var 1015 (Ref.Global 0)) (exprs ((unary 1021 Delete (index 1029 (var 1028 (Ref.Global 4)) (lit 1030 (text (codes "a"))))) ∷ [])))) ∷ (simple 1036 (call 1041 (var 1036 (Ref.Global 0)) (exprs ((index 1043 (var 1042 (Ref.Global 4)) (lit 1044 (text (codes "a")))) ∷ [])))) ∷ (simple 1050 (unary 1050 Delete (index 1058 (var 1057 (Ref.Global 4)) (lit 1059 (text (codes "a")))))) ∷ []); parent = None; doc = 0 }) ∷ [];
+      (record { params = 0; names = 0; own = false; body = stmts ((vars 1001 ((record { site = 1005; variable = (Ref.Global 4); value = Some (object 1007 (fields ((Key.Quoted (codes "a"), (lit 1012 (whole (pos 1)))) ∷ []))) }) ∷ [])) ∷ (simple 1015 (call 1020 (var 1015 (Ref.Global 0)) (exprs ((unary 1021 Delete (index 1029 (var 1028 (Ref.Global 4)) (lit 1030 (text (codes "a"))))) ∷ [])))) ∷ (simple 1036 (call 1041 (var 1036 (Ref.Global 0)) (exprs ((index 1043 (var 1042 (Ref.Global 4)) (lit 1044 (text (codes "a")))) ∷ [])))) ∷ (simple 1050 (unary 1050 Delete (index 1058 (var 1057 (Ref.Global 4)) (lit 1059 (text (codes "a")))))) ∷ []); parent = None; doc = 0 }) ∷ [];
   chunks = (chunk_of [] ∷ []);
   globals = ((record { name = (codes "alert"); chunk = None; doc = 0; flat = [] }) ∷ (record { name = (codes "Object"); chunk = None; doc = 0; flat = [] }) ∷ (record { name = (codes "Math"); chunk = None; doc = 0; flat = [] }) ∷ (record { name = (codes "String"); chunk = None; doc = 0; flat = [] }) ∷ (record { name = (codes "o"); chunk = Some 0; doc = 0; flat = [] }) ∷ []);
   props = [];
@@ -35,7 +35,7 @@ deletes_run = refl
 abbrev delete_element : Program
 delete_element = record {
   scopes =
-    (record { params = 0; names = 0; own = false; body = stmts ((vars 1001 ((record { site = 1005; variable = (Ref.Global 4); value = Some (list 1007 (exprs ((lit 1008 (whole (pos 1))) ∷ []))) }) ∷ [])) ∷ (simple 1011 (unary 1011 Delete (index 1019 (var 1018 (Ref.Global 4)) (lit 1020 (whole (pos 0)))))) ∷ []); parent = None; doc = 0 }) ∷ [];
+      (record { params = 0; names = 0; own = false; body = stmts ((vars 1001 ((record { site = 1005; variable = (Ref.Global 4); value = Some (list 1007 (exprs ((lit 1008 (whole (pos 1))) ∷ []))) }) ∷ [])) ∷ (simple 1011 (unary 1011 Delete (index 1019 (var 1018 (Ref.Global 4)) (lit 1020 (whole (pos 0)))))) ∷ []); parent = None; doc = 0 }) ∷ [];
   chunks = (chunk_of [] ∷ []);
   globals = ((record { name = (codes "alert"); chunk = None; doc = 0; flat = [] }) ∷ (record { name = (codes "Object"); chunk = None; doc = 0; flat = [] }) ∷ (record { name = (codes "Math"); chunk = None; doc = 0; flat = [] }) ∷ (record { name = (codes "String"); chunk = None; doc = 0; flat = [] }) ∷ (record { name = (codes "a"); chunk = Some 0; doc = 0; flat = [] }) ∷ []);
   props = [];
@@ -53,7 +53,7 @@ delete_element_run = refl
 abbrev delete_under_cast : Program
 delete_under_cast = record {
   scopes =
-    (record { params = 0; names = 0; own = false; body = stmts ((vars 1001 ((record { site = 1005; variable = (Ref.Global 4); value = Some (object 1007 (fields ((Key.Quoted (codes "a"), (lit 1012 (whole (pos 1)))) ∷ []))) }) ∷ [])) ∷ (simple 1015 (unary 1015 Delete (cast 1043 1 (index 1045 (var 1044 (Ref.Global 4)) (lit 1046 (text (codes "a"))))))) ∷ (simple 1052 (call 1057 (var 1052 (Ref.Global 0)) (exprs ((binary 1062 Has (lit 1058 (text (codes "a"))) (var 1065 (Ref.Global 4))) ∷ [])))) ∷ []); parent = None; doc = 0 }) ∷ [];
+      (record { params = 0; names = 0; own = false; body = stmts ((vars 1001 ((record { site = 1005; variable = (Ref.Global 4); value = Some (object 1007 (fields ((Key.Quoted (codes "a"), (lit 1012 (whole (pos 1)))) ∷ []))) }) ∷ [])) ∷ (simple 1015 (unary 1015 Delete (cast 1043 1 (index 1045 (var 1044 (Ref.Global 4)) (lit 1046 (text (codes "a"))))))) ∷ (simple 1052 (call 1057 (var 1052 (Ref.Global 0)) (exprs ((binary 1062 Has (lit 1058 (text (codes "a"))) (var 1065 (Ref.Global 4))) ∷ [])))) ∷ []); parent = None; doc = 0 }) ∷ [];
   chunks = (chunk_of [] ∷ []);
   globals = ((record { name = (codes "alert"); chunk = None; doc = 0; flat = [] }) ∷ (record { name = (codes "Object"); chunk = None; doc = 0; flat = [] }) ∷ (record { name = (codes "Math"); chunk = None; doc = 0; flat = [] }) ∷ (record { name = (codes "String"); chunk = None; doc = 0; flat = [] }) ∷ (record { name = (codes "o"); chunk = Some 0; doc = 0; flat = [] }) ∷ []);
   props = [];
@@ -71,7 +71,7 @@ delete_under_cast_run = refl
 abbrev arrays : Program
 arrays = record {
   scopes =
-    (record { params = 0; names = 0; own = false; body = stmts ((vars 1001 ((record { site = 1005; variable = (Ref.Global 4); value = Some (list 1007 (exprs ((lit 1008 (whole (pos 1))) ∷ (lit 1010 (whole (pos 2))) ∷ []))) }) ∷ [])) ∷ (simple 1013 (call 1018 (var 1013 (Ref.Global 0)) (exprs ((call 1025 (member 1020 (var 1019 (Ref.Global 4)) 0) (exprs ((lit 1026 (whole (pos 3))) ∷ []))) ∷ [])))) ∷ (simple 1030 (call 1035 (var 1030 (Ref.Global 0)) (exprs ((member 1037 (var 1036 (Ref.Global 4)) 1) ∷ [])))) ∷ (simple 1046 (call 1051 (var 1046 (Ref.Global 0)) (exprs ((call 1058 (member 1053 (var 1052 (Ref.Global 4)) 2) (exprs ((lit 1059 (text (codes "-"))) ∷ []))) ∷ [])))) ∷ (simple 1065 (call 1070 (var 1065 (Ref.Global 0)) (exprs ((call 1076 (member 1072 (var 1071 (Ref.Global 4)) 3) (exprs [])) ∷ [])))) ∷ (simple 1080 (call 1085 (var 1080 (Ref.Global 0)) (exprs ((index 1097 (call 1093 (member 1087 (var 1086 (Ref.Global 4)) 4) (exprs ((lit 1094 (whole (negsuc 0))) ∷ []))) (lit 1098 (whole (pos 0)))) ∷ [])))) ∷ (simple 1102 (call 1107 (var 1102 (Ref.Global 0)) (exprs ((call 1128 (member 1123 (call 1116 (member 1109 (var 1108 (Ref.Global 4)) 5) (exprs ((list 1117 (exprs ((lit 1118 (whole (pos 7))) ∷ []))) ∷ (var 1121 (Ref.Global 4)) ∷ []))) 2) (exprs [])) ∷ [])))) ∷ (simple 1132 (call 1137 (var 1132 (Ref.Global 0)) (exprs ((call 1147 (member 1139 (var 1138 (Ref.Global 4)) 6) (exprs ((lit 1148 (whole (pos 2))) ∷ []))) ∷ [])))) ∷ (simple 1152 (call 1157 (var 1152 (Ref.Global 0)) (exprs ((index 1159 (var 1158 (Ref.Global 4)) (lit 1160 (whole (pos 5)))) ∷ [])))) ∷ []); parent = None; doc = 0 }) ∷ [];
+      (record { params = 0; names = 0; own = false; body = stmts ((vars 1001 ((record { site = 1005; variable = (Ref.Global 4); value = Some (list 1007 (exprs ((lit 1008 (whole (pos 1))) ∷ (lit 1010 (whole (pos 2))) ∷ []))) }) ∷ [])) ∷ (simple 1013 (call 1018 (var 1013 (Ref.Global 0)) (exprs ((call 1025 (member 1020 (var 1019 (Ref.Global 4)) 0) (exprs ((lit 1026 (whole (pos 3))) ∷ []))) ∷ [])))) ∷ (simple 1030 (call 1035 (var 1030 (Ref.Global 0)) (exprs ((member 1037 (var 1036 (Ref.Global 4)) 1) ∷ [])))) ∷ (simple 1046 (call 1051 (var 1046 (Ref.Global 0)) (exprs ((call 1058 (member 1053 (var 1052 (Ref.Global 4)) 2) (exprs ((lit 1059 (text (codes "-"))) ∷ []))) ∷ [])))) ∷ (simple 1065 (call 1070 (var 1065 (Ref.Global 0)) (exprs ((call 1076 (member 1072 (var 1071 (Ref.Global 4)) 3) (exprs [])) ∷ [])))) ∷ (simple 1080 (call 1085 (var 1080 (Ref.Global 0)) (exprs ((index 1097 (call 1093 (member 1087 (var 1086 (Ref.Global 4)) 4) (exprs ((lit 1094 (whole (negsuc 0))) ∷ []))) (lit 1098 (whole (pos 0)))) ∷ [])))) ∷ (simple 1102 (call 1107 (var 1102 (Ref.Global 0)) (exprs ((call 1128 (member 1123 (call 1116 (member 1109 (var 1108 (Ref.Global 4)) 5) (exprs ((list 1117 (exprs ((lit 1118 (whole (pos 7))) ∷ []))) ∷ (var 1121 (Ref.Global 4)) ∷ []))) 2) (exprs [])) ∷ [])))) ∷ (simple 1132 (call 1137 (var 1132 (Ref.Global 0)) (exprs ((call 1147 (member 1139 (var 1138 (Ref.Global 4)) 6) (exprs ((lit 1148 (whole (pos 2))) ∷ []))) ∷ [])))) ∷ (simple 1152 (call 1157 (var 1152 (Ref.Global 0)) (exprs ((index 1159 (var 1158 (Ref.Global 4)) (lit 1160 (whole (pos 5)))) ∷ [])))) ∷ []); parent = None; doc = 0 }) ∷ [];
   chunks = (chunk_of [] ∷ []);
   globals = ((record { name = (codes "alert"); chunk = None; doc = 0; flat = [] }) ∷ (record { name = (codes "Object"); chunk = None; doc = 0; flat = [] }) ∷ (record { name = (codes "Math"); chunk = None; doc = 0; flat = [] }) ∷ (record { name = (codes "String"); chunk = None; doc = 0; flat = [] }) ∷ (record { name = (codes "a"); chunk = Some 0; doc = 0; flat = [] }) ∷ []);
   props = (kept_prop (codes "push") ∷ kept_prop (codes "length") ∷ kept_prop (codes "join") ∷ kept_prop (codes "pop") ∷ kept_prop (codes "slice") ∷ kept_prop (codes "concat") ∷ kept_prop (codes "indexOf") ∷ []);
@@ -89,7 +89,7 @@ arrays_run = refl
 abbrev array_beyond : Program
 array_beyond = record {
   scopes =
-    (record { params = 0; names = 0; own = false; body = stmts ((vars 1001 ((record { site = 1005; variable = (Ref.Global 4); value = Some (list 1007 (exprs ((lit 1008 (whole (pos 1))) ∷ []))) }) ∷ [])) ∷ (simple 1011 (assign 1015 None (to_index 1012 (var 1011 (Ref.Global 4)) (lit 1013 (whole (pos 1)))) (lit 1016 (whole (pos 2))))) ∷ (simple 1018 (call 1023 (var 1018 (Ref.Global 0)) (exprs ((member 1025 (var 1024 (Ref.Global 4)) 0) ∷ [])))) ∷ (simple 1034 (assign 1038 None (to_index 1035 (var 1034 (Ref.Global 4)) (lit 1036 (whole (pos 3)))) (lit 1039 (whole (pos 1))))) ∷ []); parent = None; doc = 0 }) ∷ [];
+      (record { params = 0; names = 0; own = false; body = stmts ((vars 1001 ((record { site = 1005; variable = (Ref.Global 4); value = Some (list 1007 (exprs ((lit 1008 (whole (pos 1))) ∷ []))) }) ∷ [])) ∷ (simple 1011 (assign 1015 None (to_index 1012 (var 1011 (Ref.Global 4)) (lit 1013 (whole (pos 1)))) (lit 1016 (whole (pos 2))))) ∷ (simple 1018 (call 1023 (var 1018 (Ref.Global 0)) (exprs ((member 1025 (var 1024 (Ref.Global 4)) 0) ∷ [])))) ∷ (simple 1034 (assign 1038 None (to_index 1035 (var 1034 (Ref.Global 4)) (lit 1036 (whole (pos 3)))) (lit 1039 (whole (pos 1))))) ∷ []); parent = None; doc = 0 }) ∷ [];
   chunks = (chunk_of [] ∷ []);
   globals = ((record { name = (codes "alert"); chunk = None; doc = 0; flat = [] }) ∷ (record { name = (codes "Object"); chunk = None; doc = 0; flat = [] }) ∷ (record { name = (codes "Math"); chunk = None; doc = 0; flat = [] }) ∷ (record { name = (codes "String"); chunk = None; doc = 0; flat = [] }) ∷ (record { name = (codes "a"); chunk = Some 0; doc = 0; flat = [] }) ∷ []);
   props = (kept_prop (codes "length") ∷ []);
@@ -107,7 +107,7 @@ array_beyond_run = refl
 abbrev array_length_write : Program
 array_length_write = record {
   scopes =
-    (record { params = 0; names = 0; own = false; body = stmts ((vars 1001 ((record { site = 1005; variable = (Ref.Global 4); value = Some (list 1007 (exprs ((lit 1008 (whole (pos 1))) ∷ []))) }) ∷ [])) ∷ (simple 1011 (assign 1019 None (to_member 1012 (var 1011 (Ref.Global 4)) 0) (lit 1020 (whole (pos 0))))) ∷ []); parent = None; doc = 0 }) ∷ [];
+      (record { params = 0; names = 0; own = false; body = stmts ((vars 1001 ((record { site = 1005; variable = (Ref.Global 4); value = Some (list 1007 (exprs ((lit 1008 (whole (pos 1))) ∷ []))) }) ∷ [])) ∷ (simple 1011 (assign 1019 None (to_member 1012 (var 1011 (Ref.Global 4)) 0) (lit 1020 (whole (pos 0))))) ∷ []); parent = None; doc = 0 }) ∷ [];
   chunks = (chunk_of [] ∷ []);
   globals = ((record { name = (codes "alert"); chunk = None; doc = 0; flat = [] }) ∷ (record { name = (codes "Object"); chunk = None; doc = 0; flat = [] }) ∷ (record { name = (codes "Math"); chunk = None; doc = 0; flat = [] }) ∷ (record { name = (codes "String"); chunk = None; doc = 0; flat = [] }) ∷ (record { name = (codes "a"); chunk = Some 0; doc = 0; flat = [] }) ∷ []);
   props = (kept_prop (codes "length") ∷ []);
@@ -125,7 +125,7 @@ array_length_write_run = refl
 abbrev method_as_value : Program
 method_as_value = record {
   scopes =
-    (record { params = 0; names = 0; own = false; body = stmts ((vars 1001 ((record { site = 1005; variable = (Ref.Global 4); value = Some (list 1007 (exprs ((lit 1008 (whole (pos 1))) ∷ []))) }) ∷ [])) ∷ (vars 1011 ((record { site = 1015; variable = (Ref.Global 5); value = Some (member 1018 (var 1017 (Ref.Global 4)) 0) }) ∷ [])) ∷ []); parent = None; doc = 0 }) ∷ [];
+      (record { params = 0; names = 0; own = false; body = stmts ((vars 1001 ((record { site = 1005; variable = (Ref.Global 4); value = Some (list 1007 (exprs ((lit 1008 (whole (pos 1))) ∷ []))) }) ∷ [])) ∷ (vars 1011 ((record { site = 1015; variable = (Ref.Global 5); value = Some (member 1018 (var 1017 (Ref.Global 4)) 0) }) ∷ [])) ∷ []); parent = None; doc = 0 }) ∷ [];
   chunks = (chunk_of [] ∷ []);
   globals = ((record { name = (codes "alert"); chunk = None; doc = 0; flat = [] }) ∷ (record { name = (codes "Object"); chunk = None; doc = 0; flat = [] }) ∷ (record { name = (codes "Math"); chunk = None; doc = 0; flat = [] }) ∷ (record { name = (codes "String"); chunk = None; doc = 0; flat = [] }) ∷ (record { name = (codes "a"); chunk = Some 0; doc = 0; flat = [] }) ∷ (record { name = (codes "f"); chunk = Some 0; doc = 0; flat = [] }) ∷ []);
   props = (kept_prop (codes "push") ∷ []);
@@ -143,8 +143,8 @@ method_as_value_run = refl
 abbrev own_method : Program
 own_method = record {
   scopes =
-    (record { params = 0; names = 0; own = false; body = stmts ((vars 1001 ((record { site = 1005; variable = (Ref.Global 4); value = Some (list 1007 (exprs ((lit 1008 (whole (pos 1))) ∷ []))) }) ∷ [])) ∷ (simple 1011 (assign 1020 None (to_index 1012 (var 1011 (Ref.Global 4)) (lit 1013 (text (codes "push")))) (fun 1021 1))) ∷ (simple 1046 (call 1051 (var 1046 (Ref.Global 0)) (exprs ((call 1058 (member 1053 (var 1052 (Ref.Global 4)) 0) (exprs ((lit 1059 (whole (pos 3))) ∷ []))) ∷ [])))) ∷ []); parent = None; doc = 0 })
-    ∷ (record { params = 1; names = 0; own = false; body = stmts ((return 1033 (Some (binary 1041 Add (var 1040 (Ref.Frame 0 0)) (lit 1042 (whole (pos 1)))))) ∷ []); parent = None; doc = 0 }) ∷ [];
+      (record { params = 0; names = 0; own = false; body = stmts ((vars 1001 ((record { site = 1005; variable = (Ref.Global 4); value = Some (list 1007 (exprs ((lit 1008 (whole (pos 1))) ∷ []))) }) ∷ [])) ∷ (simple 1011 (assign 1020 None (to_index 1012 (var 1011 (Ref.Global 4)) (lit 1013 (text (codes "push")))) (fun 1021 1))) ∷ (simple 1046 (call 1051 (var 1046 (Ref.Global 0)) (exprs ((call 1058 (member 1053 (var 1052 (Ref.Global 4)) 0) (exprs ((lit 1059 (whole (pos 3))) ∷ []))) ∷ [])))) ∷ []); parent = None; doc = 0 })
+      ∷ (record { params = 1; names = 0; own = false; body = stmts ((return 1033 (Some (binary 1041 Add (var 1040 (Ref.Frame 0 0)) (lit 1042 (whole (pos 1)))))) ∷ []); parent = None; doc = 0 }) ∷ [];
   chunks = (chunk_of [] ∷ []);
   globals = ((record { name = (codes "alert"); chunk = None; doc = 0; flat = [] }) ∷ (record { name = (codes "Object"); chunk = None; doc = 0; flat = [] }) ∷ (record { name = (codes "Math"); chunk = None; doc = 0; flat = [] }) ∷ (record { name = (codes "String"); chunk = None; doc = 0; flat = [] }) ∷ (record { name = (codes "a"); chunk = Some 0; doc = 0; flat = [] }) ∷ []);
   props = (kept_prop (codes "push") ∷ []);
@@ -162,7 +162,7 @@ own_method_run = refl
 abbrev texts : Program
 texts = record {
   scopes =
-    (record { params = 0; names = 0; own = false; body = stmts ((vars 1001 ((record { site = 1005; variable = (Ref.Global 4); value = Some (lit 1007 (text (codes "abc"))) }) ∷ [])) ∷ (simple 1013 (call 1018 (var 1013 (Ref.Global 0)) (exprs ((member 1020 (var 1019 (Ref.Global 4)) 0) ∷ [])))) ∷ (simple 1029 (call 1034 (var 1029 (Ref.Global 0)) (exprs ((call 1043 (member 1036 (var 1035 (Ref.Global 4)) 1) (exprs ((lit 1044 (whole (pos 1))) ∷ []))) ∷ [])))) ∷ (simple 1048 (call 1053 (var 1048 (Ref.Global 0)) (exprs ((call 1063 (member 1055 (var 1054 (Ref.Global 4)) 2) (exprs ((lit 1064 (text (codes "c"))) ∷ []))) ∷ [])))) ∷ (simple 1070 (call 1075 (var 1070 (Ref.Global 0)) (exprs ((call 1083 (member 1077 (var 1076 (Ref.Global 4)) 3) (exprs ((lit 1084 (whole (pos 1))) ∷ []))) ∷ [])))) ∷ (simple 1088 (call 1093 (var 1088 (Ref.Global 0)) (exprs ((binary 1095 Add (var 1094 (Ref.Global 4)) (lit 1096 (whole (pos 1)))) ∷ [])))) ∷ (simple 1099 (call 1104 (var 1099 (Ref.Global 0)) (exprs ((call 1111 (var 1105 (Ref.Global 3)) (exprs ((lit 1112 null) ∷ []))) ∷ [])))) ∷ (simple 1119 (call 1124 (var 1119 (Ref.Global 0)) (exprs ((call 1144 (member 1131 (var 1125 (Ref.Global 3)) 4) (exprs ((lit 1145 (whole (pos 104))) ∷ (lit 1149 (whole (pos 105))) ∷ []))) ∷ [])))) ∷ (simple 1155 (call 1160 (var 1155 (Ref.Global 0)) (exprs ((call 1173 (member 1162 (var 1161 (Ref.Global 4)) 5) (exprs ((lit 1174 (whole (pos 9))) ∷ []))) ∷ [])))) ∷ []); parent = None; doc = 0 }) ∷ [];
+      (record { params = 0; names = 0; own = false; body = stmts ((vars 1001 ((record { site = 1005; variable = (Ref.Global 4); value = Some (lit 1007 (text (codes "abc"))) }) ∷ [])) ∷ (simple 1013 (call 1018 (var 1013 (Ref.Global 0)) (exprs ((member 1020 (var 1019 (Ref.Global 4)) 0) ∷ [])))) ∷ (simple 1029 (call 1034 (var 1029 (Ref.Global 0)) (exprs ((call 1043 (member 1036 (var 1035 (Ref.Global 4)) 1) (exprs ((lit 1044 (whole (pos 1))) ∷ []))) ∷ [])))) ∷ (simple 1048 (call 1053 (var 1048 (Ref.Global 0)) (exprs ((call 1063 (member 1055 (var 1054 (Ref.Global 4)) 2) (exprs ((lit 1064 (text (codes "c"))) ∷ []))) ∷ [])))) ∷ (simple 1070 (call 1075 (var 1070 (Ref.Global 0)) (exprs ((call 1083 (member 1077 (var 1076 (Ref.Global 4)) 3) (exprs ((lit 1084 (whole (pos 1))) ∷ []))) ∷ [])))) ∷ (simple 1088 (call 1093 (var 1088 (Ref.Global 0)) (exprs ((binary 1095 Add (var 1094 (Ref.Global 4)) (lit 1096 (whole (pos 1)))) ∷ [])))) ∷ (simple 1099 (call 1104 (var 1099 (Ref.Global 0)) (exprs ((call 1111 (var 1105 (Ref.Global 3)) (exprs ((lit 1112 null) ∷ []))) ∷ [])))) ∷ (simple 1119 (call 1124 (var 1119 (Ref.Global 0)) (exprs ((call 1144 (member 1131 (var 1125 (Ref.Global 3)) 4) (exprs ((lit 1145 (whole (pos 104))) ∷ (lit 1149 (whole (pos 105))) ∷ []))) ∷ [])))) ∷ (simple 1155 (call 1160 (var 1155 (Ref.Global 0)) (exprs ((call 1173 (member 1162 (var 1161 (Ref.Global 4)) 5) (exprs ((lit 1174 (whole (pos 9))) ∷ []))) ∷ [])))) ∷ []); parent = None; doc = 0 }) ∷ [];
   chunks = (chunk_of [] ∷ []);
   globals = ((record { name = (codes "alert"); chunk = None; doc = 0; flat = [] }) ∷ (record { name = (codes "Object"); chunk = None; doc = 0; flat = [] }) ∷ (record { name = (codes "Math"); chunk = None; doc = 0; flat = [] }) ∷ (record { name = (codes "String"); chunk = None; doc = 0; flat = [] }) ∷ (record { name = (codes "t"); chunk = Some 0; doc = 0; flat = [] }) ∷ []);
   props = (kept_prop (codes "length") ∷ kept_prop (codes "charAt") ∷ kept_prop (codes "indexOf") ∷ kept_prop (codes "slice") ∷ kept_prop (codes "fromCharCode") ∷ kept_prop (codes "charCodeAt") ∷ []);
@@ -180,7 +180,7 @@ texts_run = refl
 abbrev text_member : Program
 text_member = record {
   scopes =
-    (record { params = 0; names = 0; own = false; body = stmts ((simple 1001 (member 1006 (lit 1001 (text (codes "abc"))) 0)) ∷ []); parent = None; doc = 0 }) ∷ [];
+      (record { params = 0; names = 0; own = false; body = stmts ((simple 1001 (member 1006 (lit 1001 (text (codes "abc"))) 0)) ∷ []); parent = None; doc = 0 }) ∷ [];
   chunks = (chunk_of [] ∷ []);
   globals = ((record { name = (codes "alert"); chunk = None; doc = 0; flat = [] }) ∷ (record { name = (codes "Object"); chunk = None; doc = 0; flat = [] }) ∷ (record { name = (codes "Math"); chunk = None; doc = 0; flat = [] }) ∷ (record { name = (codes "String"); chunk = None; doc = 0; flat = [] }) ∷ []);
   props = (prop (codes "foo") ∷ []);
@@ -198,7 +198,7 @@ text_member_run = refl
 abbrev maths : Program
 maths = record {
   scopes =
-    (record { params = 0; names = 0; own = false; body = stmts ((simple 1001 (call 1006 (var 1001 (Ref.Global 0)) (exprs ((call 1015 (member 1011 (var 1007 (Ref.Global 2)) 0) (exprs ((lit 1016 (whole (pos 1))) ∷ (lit 1018 (whole (negsuc 1))) ∷ (lit 1021 (whole (pos 3))) ∷ []))) ∷ [])))) ∷ (simple 1025 (call 1030 (var 1025 (Ref.Global 0)) (exprs ((call 1039 (member 1035 (var 1031 (Ref.Global 2)) 1) (exprs ((lit 1040 (whole (negsuc 3))) ∷ []))) ∷ [])))) ∷ []); parent = None; doc = 0 }) ∷ [];
+      (record { params = 0; names = 0; own = false; body = stmts ((simple 1001 (call 1006 (var 1001 (Ref.Global 0)) (exprs ((call 1015 (member 1011 (var 1007 (Ref.Global 2)) 0) (exprs ((lit 1016 (whole (pos 1))) ∷ (lit 1018 (whole (negsuc 1))) ∷ (lit 1021 (whole (pos 3))) ∷ []))) ∷ [])))) ∷ (simple 1025 (call 1030 (var 1025 (Ref.Global 0)) (exprs ((call 1039 (member 1035 (var 1031 (Ref.Global 2)) 1) (exprs ((lit 1040 (whole (negsuc 3))) ∷ []))) ∷ [])))) ∷ []); parent = None; doc = 0 }) ∷ [];
   chunks = (chunk_of [] ∷ []);
   globals = ((record { name = (codes "alert"); chunk = None; doc = 0; flat = [] }) ∷ (record { name = (codes "Object"); chunk = None; doc = 0; flat = [] }) ∷ (record { name = (codes "Math"); chunk = None; doc = 0; flat = [] }) ∷ (record { name = (codes "String"); chunk = None; doc = 0; flat = [] }) ∷ []);
   props = (kept_prop (codes "max") ∷ kept_prop (codes "abs") ∷ []);
@@ -216,7 +216,7 @@ maths_run = refl
 abbrev has_own : Program
 has_own = record {
   scopes =
-    (record { params = 0; names = 0; own = false; body = stmts ((vars 1001 ((record { site = 1005; variable = (Ref.Global 4); value = Some (object 1007 (fields ((Key.Quoted (codes "a"), (lit 1012 (whole (pos 1)))) ∷ []))) }) ∷ [])) ∷ (vars 1015 ((record { site = 1019; variable = (Ref.Global 5); value = Some (call 1034 (member 1027 (var 1021 (Ref.Global 1)) 0) (exprs ((var 1035 (Ref.Global 4)) ∷ []))) }) ∷ [])) ∷ (simple 1038 (assign 1044 None (to_index 1039 (var 1038 (Ref.Global 5)) (lit 1040 (text (codes "b")))) (lit 1045 (whole (pos 2))))) ∷ (simple 1047 (call 1052 (var 1047 (Ref.Global 0)) (exprs ((call 1069 (member 1054 (var 1053 (Ref.Global 5)) 1) (exprs ((lit 1070 (text (codes "b"))) ∷ []))) ∷ [])))) ∷ (simple 1076 (call 1081 (var 1076 (Ref.Global 0)) (exprs ((call 1098 (member 1083 (var 1082 (Ref.Global 5)) 1) (exprs ((lit 1099 (text (codes "a"))) ∷ []))) ∷ [])))) ∷ (simple 1105 (call 1110 (var 1105 (Ref.Global 0)) (exprs ((binary 1115 Has (lit 1111 (text (codes "a"))) (var 1118 (Ref.Global 5))) ∷ [])))) ∷ []); parent = None; doc = 0 }) ∷ [];
+      (record { params = 0; names = 0; own = false; body = stmts ((vars 1001 ((record { site = 1005; variable = (Ref.Global 4); value = Some (object 1007 (fields ((Key.Quoted (codes "a"), (lit 1012 (whole (pos 1)))) ∷ []))) }) ∷ [])) ∷ (vars 1015 ((record { site = 1019; variable = (Ref.Global 5); value = Some (call 1034 (member 1027 (var 1021 (Ref.Global 1)) 0) (exprs ((var 1035 (Ref.Global 4)) ∷ []))) }) ∷ [])) ∷ (simple 1038 (assign 1044 None (to_index 1039 (var 1038 (Ref.Global 5)) (lit 1040 (text (codes "b")))) (lit 1045 (whole (pos 2))))) ∷ (simple 1047 (call 1052 (var 1047 (Ref.Global 0)) (exprs ((call 1069 (member 1054 (var 1053 (Ref.Global 5)) 1) (exprs ((lit 1070 (text (codes "b"))) ∷ []))) ∷ [])))) ∷ (simple 1076 (call 1081 (var 1076 (Ref.Global 0)) (exprs ((call 1098 (member 1083 (var 1082 (Ref.Global 5)) 1) (exprs ((lit 1099 (text (codes "a"))) ∷ []))) ∷ [])))) ∷ (simple 1105 (call 1110 (var 1105 (Ref.Global 0)) (exprs ((binary 1115 Has (lit 1111 (text (codes "a"))) (var 1118 (Ref.Global 5))) ∷ [])))) ∷ []); parent = None; doc = 0 }) ∷ [];
   chunks = (chunk_of [] ∷ []);
   globals = ((record { name = (codes "alert"); chunk = None; doc = 0; flat = [] }) ∷ (record { name = (codes "Object"); chunk = None; doc = 0; flat = [] }) ∷ (record { name = (codes "Math"); chunk = None; doc = 0; flat = [] }) ∷ (record { name = (codes "String"); chunk = None; doc = 0; flat = [] }) ∷ (record { name = (codes "p"); chunk = Some 0; doc = 0; flat = [] }) ∷ (record { name = (codes "d"); chunk = Some 0; doc = 0; flat = [] }) ∷ []);
   props = (kept_prop (codes "create") ∷ kept_prop (codes "hasOwnProperty") ∷ []);
@@ -234,7 +234,7 @@ has_own_run = refl
 abbrev negative_zero : Program
 negative_zero = record {
   scopes =
-    (record { params = 0; names = 0; own = false; body = stmts ((vars 1001 ((record { site = 1005; variable = (Ref.Global 4); value = Some (lit 1007 (whole (pos 0))) }) ∷ [])) ∷ (simple 1009 (call 1014 (var 1009 (Ref.Global 0)) (exprs ((binary 1016 Mul (var 1015 (Ref.Global 4)) (lit 1017 (whole (negsuc 0)))) ∷ [])))) ∷ []); parent = None; doc = 0 }) ∷ [];
+      (record { params = 0; names = 0; own = false; body = stmts ((vars 1001 ((record { site = 1005; variable = (Ref.Global 4); value = Some (lit 1007 (whole (pos 0))) }) ∷ [])) ∷ (simple 1009 (call 1014 (var 1009 (Ref.Global 0)) (exprs ((binary 1016 Mul (var 1015 (Ref.Global 4)) (lit 1017 (whole (negsuc 0)))) ∷ [])))) ∷ []); parent = None; doc = 0 }) ∷ [];
   chunks = (chunk_of [] ∷ []);
   globals = ((record { name = (codes "alert"); chunk = None; doc = 0; flat = [] }) ∷ (record { name = (codes "Object"); chunk = None; doc = 0; flat = [] }) ∷ (record { name = (codes "Math"); chunk = None; doc = 0; flat = [] }) ∷ (record { name = (codes "String"); chunk = None; doc = 0; flat = [] }) ∷ (record { name = (codes "z"); chunk = Some 0; doc = 0; flat = [] }) ∷ []);
   props = [];
@@ -252,7 +252,7 @@ negative_zero_run = refl
 abbrev minus_zero : Program
 minus_zero = record {
   scopes =
-    (record { params = 0; names = 0; own = false; body = stmts ((vars 1001 ((record { site = 1005; variable = (Ref.Global 4); value = Some (lit 1007 (whole (pos 0))) }) ∷ [])) ∷ (simple 1009 (call 1014 (var 1009 (Ref.Global 0)) (exprs ((unary 1015 Minus (var 1016 (Ref.Global 4))) ∷ [])))) ∷ []); parent = None; doc = 0 }) ∷ [];
+      (record { params = 0; names = 0; own = false; body = stmts ((vars 1001 ((record { site = 1005; variable = (Ref.Global 4); value = Some (lit 1007 (whole (pos 0))) }) ∷ [])) ∷ (simple 1009 (call 1014 (var 1009 (Ref.Global 0)) (exprs ((unary 1015 Minus (var 1016 (Ref.Global 4))) ∷ [])))) ∷ []); parent = None; doc = 0 }) ∷ [];
   chunks = (chunk_of [] ∷ []);
   globals = ((record { name = (codes "alert"); chunk = None; doc = 0; flat = [] }) ∷ (record { name = (codes "Object"); chunk = None; doc = 0; flat = [] }) ∷ (record { name = (codes "Math"); chunk = None; doc = 0; flat = [] }) ∷ (record { name = (codes "String"); chunk = None; doc = 0; flat = [] }) ∷ (record { name = (codes "z"); chunk = Some 0; doc = 0; flat = [] }) ∷ []);
   props = [];
@@ -270,7 +270,7 @@ minus_zero_run = refl
 abbrev mixed_kinds : Program
 mixed_kinds = record {
   scopes =
-    (record { params = 0; names = 0; own = false; body = stmts ((simple 1001 (call 1006 (var 1001 (Ref.Global 0)) (exprs ((binary 1008 Add (lit 1007 (whole (pos 1))) (lit 1009 null)) ∷ [])))) ∷ []); parent = None; doc = 0 }) ∷ [];
+      (record { params = 0; names = 0; own = false; body = stmts ((simple 1001 (call 1006 (var 1001 (Ref.Global 0)) (exprs ((binary 1008 Add (lit 1007 (whole (pos 1))) (lit 1009 null)) ∷ [])))) ∷ []); parent = None; doc = 0 }) ∷ [];
   chunks = (chunk_of [] ∷ []);
   globals = ((record { name = (codes "alert"); chunk = None; doc = 0; flat = [] }) ∷ (record { name = (codes "Object"); chunk = None; doc = 0; flat = [] }) ∷ (record { name = (codes "Math"); chunk = None; doc = 0; flat = [] }) ∷ (record { name = (codes "String"); chunk = None; doc = 0; flat = [] }) ∷ []);
   props = [];
@@ -288,7 +288,7 @@ mixed_kinds_run = refl
 abbrev joined : Program
 joined = record {
   scopes =
-    (record { params = 0; names = 0; own = false; body = stmts ((simple 1001 (call 1006 (var 1001 (Ref.Global 0)) (exprs ((binary 1030 Add (binary 1020 Add (binary 1015 Add (binary 1010 Add (lit 1007 (text (codes "a"))) (lit 1011 null)) (lit 1016 (truth true))) (lit 1021 undefined)) (lit 1031 (whole (pos 1)))) ∷ [])))) ∷ []); parent = None; doc = 0 }) ∷ [];
+      (record { params = 0; names = 0; own = false; body = stmts ((simple 1001 (call 1006 (var 1001 (Ref.Global 0)) (exprs ((binary 1030 Add (binary 1020 Add (binary 1015 Add (binary 1010 Add (lit 1007 (text (codes "a"))) (lit 1011 null)) (lit 1016 (truth true))) (lit 1021 undefined)) (lit 1031 (whole (pos 1)))) ∷ [])))) ∷ []); parent = None; doc = 0 }) ∷ [];
   chunks = (chunk_of [] ∷ []);
   globals = ((record { name = (codes "alert"); chunk = None; doc = 0; flat = [] }) ∷ (record { name = (codes "Object"); chunk = None; doc = 0; flat = [] }) ∷ (record { name = (codes "Math"); chunk = None; doc = 0; flat = [] }) ∷ (record { name = (codes "String"); chunk = None; doc = 0; flat = [] }) ∷ []);
   props = [];
@@ -306,7 +306,7 @@ joined_run = refl
 abbrev type_of_outside : Program
 type_of_outside = record {
   scopes =
-    (record { params = 0; names = 0; own = false; body = stmts ((simple 1001 (unary 1001 Typeof (var 1008 (Ref.Global 0)))) ∷ []); parent = None; doc = 0 }) ∷ [];
+      (record { params = 0; names = 0; own = false; body = stmts ((simple 1001 (unary 1001 Typeof (var 1008 (Ref.Global 0)))) ∷ []); parent = None; doc = 0 }) ∷ [];
   chunks = (chunk_of [] ∷ []);
   globals = ((record { name = (codes "X"); chunk = None; doc = 0; flat = [] }) ∷ (record { name = (codes "Object"); chunk = None; doc = 0; flat = [] }) ∷ (record { name = (codes "Math"); chunk = None; doc = 0; flat = [] }) ∷ (record { name = (codes "String"); chunk = None; doc = 0; flat = [] }) ∷ []);
   props = [];
@@ -324,8 +324,8 @@ type_of_outside_run = refl
 abbrev type_of_function : Program
 type_of_function = record {
   scopes =
-    (record { params = 0; names = 0; own = false; body = stmts ((simple 1001 (call 1006 (var 1001 (Ref.Global 0)) (exprs ((unary 1007 Typeof (var 1014 (Ref.Global 4))) ∷ [])))) ∷ (fun_decl 1022 (Ref.Global 4) 1) ∷ []); parent = None; doc = 0 })
-    ∷ (record { params = 0; names = 0; own = false; body = stmts []; parent = None; doc = 0 }) ∷ [];
+      (record { params = 0; names = 0; own = false; body = stmts ((simple 1001 (call 1006 (var 1001 (Ref.Global 0)) (exprs ((unary 1007 Typeof (var 1014 (Ref.Global 4))) ∷ [])))) ∷ (fun_decl 1022 (Ref.Global 4) 1) ∷ []); parent = None; doc = 0 })
+      ∷ (record { params = 0; names = 0; own = false; body = stmts []; parent = None; doc = 0 }) ∷ [];
   chunks = (chunk_of [] ∷ []);
   globals = ((record { name = (codes "alert"); chunk = None; doc = 0; flat = [] }) ∷ (record { name = (codes "Object"); chunk = None; doc = 0; flat = [] }) ∷ (record { name = (codes "Math"); chunk = None; doc = 0; flat = [] }) ∷ (record { name = (codes "String"); chunk = None; doc = 0; flat = [] }) ∷ (record { name = (codes "alert2"); chunk = Some 0; doc = 0; flat = [] }) ∷ []);
   props = [];
@@ -343,7 +343,7 @@ type_of_function_run = refl
 abbrev equal_objects : Program
 equal_objects = record {
   scopes =
-    (record { params = 0; names = 0; own = false; body = stmts ((vars 1001 ((record { site = 1005; variable = (Ref.Global 4); value = Some (object 1007 (fields [])) }) ∷ [])) ∷ (simple 1010 (call 1015 (var 1010 (Ref.Global 0)) (exprs ((binary 1017 Equal (var 1016 (Ref.Global 4)) (var 1019 (Ref.Global 4))) ∷ [])))) ∷ (simple 1022 (call 1027 (var 1022 (Ref.Global 0)) (exprs ((binary 1029 Equal (var 1028 (Ref.Global 4)) (lit 1031 null)) ∷ [])))) ∷ (simple 1037 (call 1042 (var 1037 (Ref.Global 0)) (exprs ((binary 1047 Equal (lit 1043 null) (lit 1049 undefined)) ∷ [])))) ∷ (simple 1060 (call 1065 (var 1060 (Ref.Global 0)) (exprs ((binary 1067 Equal (var 1066 (Ref.Global 4)) (lit 1069 (text (codes "x")))) ∷ [])))) ∷ []); parent = None; doc = 0 }) ∷ [];
+      (record { params = 0; names = 0; own = false; body = stmts ((vars 1001 ((record { site = 1005; variable = (Ref.Global 4); value = Some (object 1007 (fields [])) }) ∷ [])) ∷ (simple 1010 (call 1015 (var 1010 (Ref.Global 0)) (exprs ((binary 1017 Equal (var 1016 (Ref.Global 4)) (var 1019 (Ref.Global 4))) ∷ [])))) ∷ (simple 1022 (call 1027 (var 1022 (Ref.Global 0)) (exprs ((binary 1029 Equal (var 1028 (Ref.Global 4)) (lit 1031 null)) ∷ [])))) ∷ (simple 1037 (call 1042 (var 1037 (Ref.Global 0)) (exprs ((binary 1047 Equal (lit 1043 null) (lit 1049 undefined)) ∷ [])))) ∷ (simple 1060 (call 1065 (var 1060 (Ref.Global 0)) (exprs ((binary 1067 Equal (var 1066 (Ref.Global 4)) (lit 1069 (text (codes "x")))) ∷ [])))) ∷ []); parent = None; doc = 0 }) ∷ [];
   chunks = (chunk_of [] ∷ []);
   globals = ((record { name = (codes "alert"); chunk = None; doc = 0; flat = [] }) ∷ (record { name = (codes "Object"); chunk = None; doc = 0; flat = [] }) ∷ (record { name = (codes "Math"); chunk = None; doc = 0; flat = [] }) ∷ (record { name = (codes "String"); chunk = None; doc = 0; flat = [] }) ∷ (record { name = (codes "o"); chunk = Some 0; doc = 0; flat = [] }) ∷ []);
   props = [];
@@ -361,7 +361,7 @@ equal_objects_run = refl
 abbrev standard_read : Program
 standard_read = record {
   scopes =
-    (record { params = 0; names = 0; own = false; body = stmts ((vars 1001 ((record { site = 1005; variable = (Ref.Global 4); value = Some (object 1007 (fields [])) }) ∷ [])) ∷ (simple 1010 (call 1015 (var 1010 (Ref.Global 0)) (exprs ((member 1017 (var 1016 (Ref.Global 4)) 0) ∷ [])))) ∷ []); parent = None; doc = 0 }) ∷ [];
+      (record { params = 0; names = 0; own = false; body = stmts ((vars 1001 ((record { site = 1005; variable = (Ref.Global 4); value = Some (object 1007 (fields [])) }) ∷ [])) ∷ (simple 1010 (call 1015 (var 1010 (Ref.Global 0)) (exprs ((member 1017 (var 1016 (Ref.Global 4)) 0) ∷ [])))) ∷ []); parent = None; doc = 0 }) ∷ [];
   chunks = (chunk_of [] ∷ []);
   globals = ((record { name = (codes "alert"); chunk = None; doc = 0; flat = [] }) ∷ (record { name = (codes "Object"); chunk = None; doc = 0; flat = [] }) ∷ (record { name = (codes "Math"); chunk = None; doc = 0; flat = [] }) ∷ (record { name = (codes "String"); chunk = None; doc = 0; flat = [] }) ∷ (record { name = (codes "o"); chunk = Some 0; doc = 0; flat = [] }) ∷ []);
   props = (kept_prop (codes "valueOf") ∷ []);
@@ -379,7 +379,7 @@ standard_read_run = refl
 abbrev standard_slot : Program
 standard_slot = record {
   scopes =
-    (record { params = 0; names = 0; own = false; body = stmts ((vars 1001 ((record { site = 1005; variable = (Ref.Global 4); value = Some (object 1007 (fields [])) }) ∷ [])) ∷ (simple 1010 (assign 1019 None (to_member 1011 (var 1010 (Ref.Global 4)) 0) (lit 1020 (whole (pos 1))))) ∷ (simple 1022 (call 1027 (var 1022 (Ref.Global 0)) (exprs ((member 1029 (var 1028 (Ref.Global 4)) 0) ∷ [])))) ∷ []); parent = None; doc = 0 }) ∷ [];
+      (record { params = 0; names = 0; own = false; body = stmts ((vars 1001 ((record { site = 1005; variable = (Ref.Global 4); value = Some (object 1007 (fields [])) }) ∷ [])) ∷ (simple 1010 (assign 1019 None (to_member 1011 (var 1010 (Ref.Global 4)) 0) (lit 1020 (whole (pos 1))))) ∷ (simple 1022 (call 1027 (var 1022 (Ref.Global 0)) (exprs ((member 1029 (var 1028 (Ref.Global 4)) 0) ∷ [])))) ∷ []); parent = None; doc = 0 }) ∷ [];
   chunks = (chunk_of [] ∷ []);
   globals = ((record { name = (codes "alert"); chunk = None; doc = 0; flat = [] }) ∷ (record { name = (codes "Object"); chunk = None; doc = 0; flat = [] }) ∷ (record { name = (codes "Math"); chunk = None; doc = 0; flat = [] }) ∷ (record { name = (codes "String"); chunk = None; doc = 0; flat = [] }) ∷ (record { name = (codes "o"); chunk = Some 0; doc = 0; flat = [] }) ∷ []);
   props = (kept_prop (codes "valueOf") ∷ []);
@@ -397,7 +397,7 @@ standard_slot_run = refl
 abbrev proto_write : Program
 proto_write = record {
   scopes =
-    (record { params = 0; names = 0; own = false; body = stmts ((vars 1001 ((record { site = 1005; variable = (Ref.Global 4); value = Some (object 1007 (fields [])) }) ∷ [])) ∷ (simple 1010 (assign 1024 None (to_index 1011 (var 1010 (Ref.Global 4)) (lit 1012 (text (codes "__proto__")))) (lit 1025 (whole (pos 1))))) ∷ []); parent = None; doc = 0 }) ∷ [];
+      (record { params = 0; names = 0; own = false; body = stmts ((vars 1001 ((record { site = 1005; variable = (Ref.Global 4); value = Some (object 1007 (fields [])) }) ∷ [])) ∷ (simple 1010 (assign 1024 None (to_index 1011 (var 1010 (Ref.Global 4)) (lit 1012 (text (codes "__proto__")))) (lit 1025 (whole (pos 1))))) ∷ []); parent = None; doc = 0 }) ∷ [];
   chunks = (chunk_of [] ∷ []);
   globals = ((record { name = (codes "alert"); chunk = None; doc = 0; flat = [] }) ∷ (record { name = (codes "Object"); chunk = None; doc = 0; flat = [] }) ∷ (record { name = (codes "Math"); chunk = None; doc = 0; flat = [] }) ∷ (record { name = (codes "String"); chunk = None; doc = 0; flat = [] }) ∷ (record { name = (codes "o"); chunk = Some 0; doc = 0; flat = [] }) ∷ []);
   props = [];
@@ -415,7 +415,7 @@ proto_write_run = refl
 abbrev quoted_in_chain : Program
 quoted_in_chain = record {
   scopes =
-    (record { params = 0; names = 0; own = false; body = stmts ((vars 1001 ((record { site = 1005; variable = (Ref.Global 4); value = Some (object 1007 (fields [])) }) ∷ [])) ∷ (simple 1010 (assign 1016 None (to_index 1011 (var 1010 (Ref.Global 4)) (lit 1012 (text (codes "x")))) (lit 1017 (whole (pos 1))))) ∷ (vars 1019 ((record { site = 1023; variable = (Ref.Global 5); value = Some (call 1038 (member 1031 (var 1025 (Ref.Global 1)) 0) (exprs ((var 1039 (Ref.Global 4)) ∷ []))) }) ∷ [])) ∷ (simple 1042 (call 1047 (var 1042 (Ref.Global 0)) (exprs ((member 1049 (var 1048 (Ref.Global 5)) 1) ∷ [])))) ∷ []); parent = None; doc = 0 }) ∷ [];
+      (record { params = 0; names = 0; own = false; body = stmts ((vars 1001 ((record { site = 1005; variable = (Ref.Global 4); value = Some (object 1007 (fields [])) }) ∷ [])) ∷ (simple 1010 (assign 1016 None (to_index 1011 (var 1010 (Ref.Global 4)) (lit 1012 (text (codes "x")))) (lit 1017 (whole (pos 1))))) ∷ (vars 1019 ((record { site = 1023; variable = (Ref.Global 5); value = Some (call 1038 (member 1031 (var 1025 (Ref.Global 1)) 0) (exprs ((var 1039 (Ref.Global 4)) ∷ []))) }) ∷ [])) ∷ (simple 1042 (call 1047 (var 1042 (Ref.Global 0)) (exprs ((member 1049 (var 1048 (Ref.Global 5)) 1) ∷ [])))) ∷ []); parent = None; doc = 0 }) ∷ [];
   chunks = (chunk_of [] ∷ []);
   globals = ((record { name = (codes "alert"); chunk = None; doc = 0; flat = [] }) ∷ (record { name = (codes "Object"); chunk = None; doc = 0; flat = [] }) ∷ (record { name = (codes "Math"); chunk = None; doc = 0; flat = [] }) ∷ (record { name = (codes "String"); chunk = None; doc = 0; flat = [] }) ∷ (record { name = (codes "p"); chunk = Some 0; doc = 0; flat = [] }) ∷ (record { name = (codes "d"); chunk = Some 0; doc = 0; flat = [] }) ∷ []);
   props = (kept_prop (codes "create") ∷ prop (codes "x") ∷ []);
@@ -433,7 +433,7 @@ quoted_in_chain_run = refl
 abbrev runtime_index : Program
 runtime_index = record {
   scopes =
-    (record { params = 0; names = 0; own = false; body = stmts ((vars 1001 ((record { site = 1005; variable = (Ref.Global 4); value = Some (object 1007 (fields [])) }) ∷ [])) ∷ (simple 1010 (assign 1013 None (to_member 1011 (var 1010 (Ref.Global 4)) 0) (lit 1014 (whole (pos 1))))) ∷ (simple 1016 (assign 1020 None (to_index 1017 (var 1016 (Ref.Global 4)) (lit 1018 (whole (pos 5)))) (lit 1021 (whole (pos 2))))) ∷ (simple 1023 (call 1028 (var 1023 (Ref.Global 0)) (exprs ((index 1030 (var 1029 (Ref.Global 4)) (lit 1031 (whole (pos 5)))) ∷ [])))) ∷ (simple 1035 (call 1040 (var 1035 (Ref.Global 0)) (exprs ((index 1042 (var 1041 (Ref.Global 4)) (lit 1043 (text (codes "5")))) ∷ [])))) ∷ (simple 1049 (assign 1055 None (to_index 1050 (var 1049 (Ref.Global 4)) (lit 1051 (text (codes "b")))) (lit 1056 (whole (pos 1))))) ∷ []); parent = None; doc = 0 }) ∷ [];
+      (record { params = 0; names = 0; own = false; body = stmts ((vars 1001 ((record { site = 1005; variable = (Ref.Global 4); value = Some (object 1007 (fields [])) }) ∷ [])) ∷ (simple 1010 (assign 1013 None (to_member 1011 (var 1010 (Ref.Global 4)) 0) (lit 1014 (whole (pos 1))))) ∷ (simple 1016 (assign 1020 None (to_index 1017 (var 1016 (Ref.Global 4)) (lit 1018 (whole (pos 5)))) (lit 1021 (whole (pos 2))))) ∷ (simple 1023 (call 1028 (var 1023 (Ref.Global 0)) (exprs ((index 1030 (var 1029 (Ref.Global 4)) (lit 1031 (whole (pos 5)))) ∷ [])))) ∷ (simple 1035 (call 1040 (var 1035 (Ref.Global 0)) (exprs ((index 1042 (var 1041 (Ref.Global 4)) (lit 1043 (text (codes "5")))) ∷ [])))) ∷ (simple 1049 (assign 1055 None (to_index 1050 (var 1049 (Ref.Global 4)) (lit 1051 (text (codes "b")))) (lit 1056 (whole (pos 1))))) ∷ []); parent = None; doc = 0 }) ∷ [];
   chunks = (chunk_of [] ∷ []);
   globals = ((record { name = (codes "alert"); chunk = None; doc = 0; flat = [] }) ∷ (record { name = (codes "Object"); chunk = None; doc = 0; flat = [] }) ∷ (record { name = (codes "Math"); chunk = None; doc = 0; flat = [] }) ∷ (record { name = (codes "String"); chunk = None; doc = 0; flat = [] }) ∷ (record { name = (codes "o"); chunk = Some 0; doc = 0; flat = [] }) ∷ []);
   props = (prop (codes "a") ∷ []);
@@ -451,7 +451,7 @@ runtime_index_run = refl
 abbrev runtime_text : Program
 runtime_text = record {
   scopes =
-    (record { params = 0; names = 0; own = false; body = stmts ((vars 1001 ((record { site = 1005; variable = (Ref.Global 4); value = Some (object 1007 (fields [])) }) ∷ [])) ∷ (simple 1010 (assign 1020 None (to_index 1011 (var 1010 (Ref.Global 4)) (binary 1015 Add (lit 1012 (text (codes "a"))) (lit 1016 (text (codes "b"))))) (lit 1021 (whole (pos 1))))) ∷ (simple 1023 (assign 1026 None (to_member 1024 (var 1023 (Ref.Global 4)) 0) (lit 1027 (whole (pos 1))))) ∷ []); parent = None; doc = 0 }) ∷ [];
+      (record { params = 0; names = 0; own = false; body = stmts ((vars 1001 ((record { site = 1005; variable = (Ref.Global 4); value = Some (object 1007 (fields [])) }) ∷ [])) ∷ (simple 1010 (assign 1020 None (to_index 1011 (var 1010 (Ref.Global 4)) (binary 1015 Add (lit 1012 (text (codes "a"))) (lit 1016 (text (codes "b"))))) (lit 1021 (whole (pos 1))))) ∷ (simple 1023 (assign 1026 None (to_member 1024 (var 1023 (Ref.Global 4)) 0) (lit 1027 (whole (pos 1))))) ∷ []); parent = None; doc = 0 }) ∷ [];
   chunks = (chunk_of [] ∷ []);
   globals = ((record { name = (codes "alert"); chunk = None; doc = 0; flat = [] }) ∷ (record { name = (codes "Object"); chunk = None; doc = 0; flat = [] }) ∷ (record { name = (codes "Math"); chunk = None; doc = 0; flat = [] }) ∷ (record { name = (codes "String"); chunk = None; doc = 0; flat = [] }) ∷ (record { name = (codes "o"); chunk = Some 0; doc = 0; flat = [] }) ∷ []);
   props = (prop (codes "c") ∷ []);
@@ -469,7 +469,7 @@ runtime_text_run = refl
 abbrev number_key : Program
 number_key = record {
   scopes =
-    (record { params = 0; names = 0; own = false; body = stmts ((vars 1001 ((record { site = 1005; variable = (Ref.Global 4); value = Some (object 1007 (fields [])) }) ∷ [])) ∷ (simple 1010 (assign 1015 None (to_index 1011 (var 1010 (Ref.Global 4)) (lit 1012 (whole (negsuc 0)))) (lit 1016 (whole (pos 2))))) ∷ (simple 1018 (call 1023 (var 1018 (Ref.Global 0)) (exprs ((index 1025 (var 1024 (Ref.Global 4)) (lit 1026 (text (codes "-1")))) ∷ [])))) ∷ []); parent = None; doc = 0 }) ∷ [];
+      (record { params = 0; names = 0; own = false; body = stmts ((vars 1001 ((record { site = 1005; variable = (Ref.Global 4); value = Some (object 1007 (fields [])) }) ∷ [])) ∷ (simple 1010 (assign 1015 None (to_index 1011 (var 1010 (Ref.Global 4)) (lit 1012 (whole (negsuc 0)))) (lit 1016 (whole (pos 2))))) ∷ (simple 1018 (call 1023 (var 1018 (Ref.Global 0)) (exprs ((index 1025 (var 1024 (Ref.Global 4)) (lit 1026 (text (codes "-1")))) ∷ [])))) ∷ []); parent = None; doc = 0 }) ∷ [];
   chunks = (chunk_of [] ∷ []);
   globals = ((record { name = (codes "alert"); chunk = None; doc = 0; flat = [] }) ∷ (record { name = (codes "Object"); chunk = None; doc = 0; flat = [] }) ∷ (record { name = (codes "Math"); chunk = None; doc = 0; flat = [] }) ∷ (record { name = (codes "String"); chunk = None; doc = 0; flat = [] }) ∷ (record { name = (codes "o"); chunk = Some 0; doc = 0; flat = [] }) ∷ []);
   props = [];
@@ -487,7 +487,7 @@ number_key_run = refl
 abbrev bad_key : Program
 bad_key = record {
   scopes =
-    (record { params = 0; names = 0; own = false; body = stmts ((vars 1001 ((record { site = 1005; variable = (Ref.Global 4); value = Some (object 1007 (fields [])) }) ∷ [])) ∷ (simple 1010 (assign 1017 None (to_index 1011 (var 1010 (Ref.Global 4)) (lit 1012 (truth true))) (call 1023 (var 1018 (Ref.Global 0)) (exprs ((lit 1024 (whole (pos 1))) ∷ []))))) ∷ []); parent = None; doc = 0 }) ∷ [];
+      (record { params = 0; names = 0; own = false; body = stmts ((vars 1001 ((record { site = 1005; variable = (Ref.Global 4); value = Some (object 1007 (fields [])) }) ∷ [])) ∷ (simple 1010 (assign 1017 None (to_index 1011 (var 1010 (Ref.Global 4)) (lit 1012 (truth true))) (call 1023 (var 1018 (Ref.Global 0)) (exprs ((lit 1024 (whole (pos 1))) ∷ []))))) ∷ []); parent = None; doc = 0 }) ∷ [];
   chunks = (chunk_of [] ∷ []);
   globals = ((record { name = (codes "alert"); chunk = None; doc = 0; flat = [] }) ∷ (record { name = (codes "Object"); chunk = None; doc = 0; flat = [] }) ∷ (record { name = (codes "Math"); chunk = None; doc = 0; flat = [] }) ∷ (record { name = (codes "String"); chunk = None; doc = 0; flat = [] }) ∷ (record { name = (codes "o"); chunk = Some 0; doc = 0; flat = [] }) ∷ []);
   props = [];
@@ -505,7 +505,7 @@ bad_key_run = refl
 abbrev steps : Program
 steps = record {
   scopes =
-    (record { params = 0; names = 0; own = false; body = stmts ((vars 1001 ((record { site = 1005; variable = (Ref.Global 4); value = Some (lit 1007 (whole (pos 1))) }) ∷ [])) ∷ (simple 1009 (call 1014 (var 1009 (Ref.Global 0)) (exprs ((step 1016 true false (to_var 1015 (Ref.Global 4))) ∷ [])))) ∷ (simple 1020 (call 1025 (var 1020 (Ref.Global 0)) (exprs ((step 1026 true true (to_var 1028 (Ref.Global 4))) ∷ [])))) ∷ (simple 1031 (call 1036 (var 1031 (Ref.Global 0)) (exprs ((step 1038 false false (to_var 1037 (Ref.Global 4))) ∷ [])))) ∷ (simple 1042 (call 1047 (var 1042 (Ref.Global 0)) (exprs ((var 1048 (Ref.Global 4)) ∷ [])))) ∷ (vars 1051 ((record { site = 1055; variable = (Ref.Global 5); value = Some (lit 1057 (text (codes "1"))) }) ∷ [])) ∷ (simple 1061 (step 1062 true false (to_var 1061 (Ref.Global 5)))) ∷ []); parent = None; doc = 0 }) ∷ [];
+      (record { params = 0; names = 0; own = false; body = stmts ((vars 1001 ((record { site = 1005; variable = (Ref.Global 4); value = Some (lit 1007 (whole (pos 1))) }) ∷ [])) ∷ (simple 1009 (call 1014 (var 1009 (Ref.Global 0)) (exprs ((step 1016 true false (to_var 1015 (Ref.Global 4))) ∷ [])))) ∷ (simple 1020 (call 1025 (var 1020 (Ref.Global 0)) (exprs ((step 1026 true true (to_var 1028 (Ref.Global 4))) ∷ [])))) ∷ (simple 1031 (call 1036 (var 1031 (Ref.Global 0)) (exprs ((step 1038 false false (to_var 1037 (Ref.Global 4))) ∷ [])))) ∷ (simple 1042 (call 1047 (var 1042 (Ref.Global 0)) (exprs ((var 1048 (Ref.Global 4)) ∷ [])))) ∷ (vars 1051 ((record { site = 1055; variable = (Ref.Global 5); value = Some (lit 1057 (text (codes "1"))) }) ∷ [])) ∷ (simple 1061 (step 1062 true false (to_var 1061 (Ref.Global 5)))) ∷ []); parent = None; doc = 0 }) ∷ [];
   chunks = (chunk_of [] ∷ []);
   globals = ((record { name = (codes "alert"); chunk = None; doc = 0; flat = [] }) ∷ (record { name = (codes "Object"); chunk = None; doc = 0; flat = [] }) ∷ (record { name = (codes "Math"); chunk = None; doc = 0; flat = [] }) ∷ (record { name = (codes "String"); chunk = None; doc = 0; flat = [] }) ∷ (record { name = (codes "i"); chunk = Some 0; doc = 0; flat = [] }) ∷ (record { name = (codes "s"); chunk = Some 0; doc = 0; flat = [] }) ∷ []);
   props = [];
@@ -523,7 +523,7 @@ steps_run = refl
 abbrev shifts : Program
 shifts = record {
   scopes =
-    (record { params = 0; names = 0; own = false; body = stmts ((simple 1001 (call 1006 (var 1001 (Ref.Global 0)) (exprs ((binary 1008 Shl (lit 1007 (whole (pos 1))) (lit 1010 (whole (pos 31)))) ∷ [])))) ∷ (simple 1014 (call 1019 (var 1014 (Ref.Global 0)) (exprs ((binary 1022 UShr (lit 1020 (whole (negsuc 0))) (lit 1025 (whole (pos 0)))) ∷ [])))) ∷ (simple 1028 (call 1033 (var 1028 (Ref.Global 0)) (exprs ((binary 1036 Shr (lit 1034 (whole (negsuc 7))) (lit 1038 (whole (pos 1)))) ∷ [])))) ∷ (simple 1041 (call 1046 (var 1041 (Ref.Global 0)) (exprs ((binary 1048 BitXor (lit 1047 (whole (pos 5))) (lit 1049 (whole (pos 1)))) ∷ [])))) ∷ (simple 1052 (call 1057 (var 1052 (Ref.Global 0)) (exprs ((unary 1058 BitNot (lit 1059 (whole (pos 5)))) ∷ [])))) ∷ (simple 1062 (call 1067 (var 1062 (Ref.Global 0)) (exprs ((binary 1070 Rem (lit 1068 (whole (negsuc 6))) (lit 1071 (whole (pos 3)))) ∷ [])))) ∷ (simple 1074 (call 1079 (var 1074 (Ref.Global 0)) (exprs ((binary 1081 Div (lit 1080 (whole (pos 7))) (lit 1082 (whole (pos 2)))) ∷ [])))) ∷ []); parent = None; doc = 0 }) ∷ [];
+      (record { params = 0; names = 0; own = false; body = stmts ((simple 1001 (call 1006 (var 1001 (Ref.Global 0)) (exprs ((binary 1008 Shl (lit 1007 (whole (pos 1))) (lit 1010 (whole (pos 31)))) ∷ [])))) ∷ (simple 1014 (call 1019 (var 1014 (Ref.Global 0)) (exprs ((binary 1022 UShr (lit 1020 (whole (negsuc 0))) (lit 1025 (whole (pos 0)))) ∷ [])))) ∷ (simple 1028 (call 1033 (var 1028 (Ref.Global 0)) (exprs ((binary 1036 Shr (lit 1034 (whole (negsuc 7))) (lit 1038 (whole (pos 1)))) ∷ [])))) ∷ (simple 1041 (call 1046 (var 1041 (Ref.Global 0)) (exprs ((binary 1048 BitXor (lit 1047 (whole (pos 5))) (lit 1049 (whole (pos 1)))) ∷ [])))) ∷ (simple 1052 (call 1057 (var 1052 (Ref.Global 0)) (exprs ((unary 1058 BitNot (lit 1059 (whole (pos 5)))) ∷ [])))) ∷ (simple 1062 (call 1067 (var 1062 (Ref.Global 0)) (exprs ((binary 1070 Rem (lit 1068 (whole (negsuc 6))) (lit 1071 (whole (pos 3)))) ∷ [])))) ∷ (simple 1074 (call 1079 (var 1074 (Ref.Global 0)) (exprs ((binary 1081 Div (lit 1080 (whole (pos 7))) (lit 1082 (whole (pos 2)))) ∷ [])))) ∷ []); parent = None; doc = 0 }) ∷ [];
   chunks = (chunk_of [] ∷ []);
   globals = ((record { name = (codes "alert"); chunk = None; doc = 0; flat = [] }) ∷ (record { name = (codes "Object"); chunk = None; doc = 0; flat = [] }) ∷ (record { name = (codes "Math"); chunk = None; doc = 0; flat = [] }) ∷ (record { name = (codes "String"); chunk = None; doc = 0; flat = [] }) ∷ []);
   props = [];

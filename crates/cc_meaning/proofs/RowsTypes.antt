@@ -1,24 +1,21 @@
 -- The rules on annotations, classes and prototypes.
-use Rattle.std.specs.Prelude.{◌≡◌, refl, ℕ, ℤ, pos, negsuc, Bool, true, false, List, [], ◌∷◌, ◌++◌, Option, Some, None, codes}
-use Rattle.cc_ast.specs.Syntax.{Prim, undefined, null, truth, whole, text, Expr, lit, var, this, fun, list, object, unary, binary, and, or, cond, assign, step, member, index, call, new, comma, cast, tick, to_var, to_member, to_index, Declarator, no_init, init_value, init_vars, in_target, in_declared, Stmt, simple, vars, fun_decl, if, while, do_while, for, for_in, return, throw, break, continue, label, switch, try, pay_stmt, absent, present, no_cases, more_cases, Program}
-use Rattle.cc_ast.specs.declared.operator.BinOp.TheVariants.{Add, Sub, Mul, Div, Rem, BitAnd, BitXor, BitOr, Shl, Shr, UShr, Less, Greater, LessEq, GreaterEq, Equal, NotEqual, Strict, NotStrict, Instance, Has}
-use Rattle.cc_ast.specs.declared.operator.UnOp.TheVariants.{Minus, Plus, BitNot, Not, Void, Typeof, Delete}
+use Rattle.std.specs.Prelude.{◌≡◌, refl, pos, true, false, [], ◌∷◌, Some, None, codes}
+use Rattle.cc_ast.specs.Syntax.{Prim, null, whole, text, lit, var, this, fun, list, object, assign, member, index, call, new, cast, to_var, to_member, to_index, simple, vars, fun_decl, return, try, absent, present, Program}
 use Rattle.cc_ast.specs.declared.tree.Ref.{Ref}
-use Rattle.cc_ast.specs.declared.tree.Key.{Key}
-use Rattle.cc_meaning.specs.Values.{shown_prim, shown_out, handle, called, constructed, got, put, ended, threw, at_site, at_turn}
-use Rattle.cc_meaning.specs.State.{gives, throws}
-use Rattle.cc_meaning.specs.Monad.{spent, waits, broken, strayed}
+use Rattle.cc_meaning.specs.Values.{shown_prim, shown_out, called, ended, at_site}
+use Rattle.cc_meaning.specs.State.{gives}
+use Rattle.cc_meaning.specs.Monad.{broken}
 use Rattle.cc_meaning.specs.Names.{always_kept}
-use Rattle.cc_meaning.specs.Script.{load, call as call_turn, get as get_turn, set as set_turn, run, checked, plain, finished, stopped}
+use Rattle.cc_meaning.specs.Script.{load, run, checked, finished, stopped}
 use Rattle.cc_meaning.proofs.Opened.{opened}
-use Rattle.cc_meaning.proofs.Trees.{exprs, fields, stmts, no_doc, chunk_of, prop, kept_prop, undef, stext}
+use Rattle.cc_meaning.proofs.Trees.{exprs, fields, stmts, no_doc, chunk_of, prop, kept_prop, undef}
 
 --     function f(){return c;}f();/** @const */var c=1;
 abbrev const_unset : Program
 const_unset = record {
   scopes =
-    (record { params = 0; names = 0; own = false; body = stmts ((fun_decl 1001 (Ref.Global 4) 1) ∷ (simple 1024 (call 1025 (var 1024 (Ref.Global 4)) (exprs []))) ∷ (vars 1041 ((record { site = 1045; variable = (Ref.Global 5); value = Some (lit 1047 (whole (pos 1))) }) ∷ [])) ∷ []); parent = None; doc = 0 })
-    ∷ (record { params = 0; names = 0; own = false; body = stmts ((return 1014 (Some (var 1021 (Ref.Global 5)))) ∷ []); parent = None; doc = 0 }) ∷ [];
+      (record { params = 0; names = 0; own = false; body = stmts ((fun_decl 1001 (Ref.Global 4) 1) ∷ (simple 1024 (call 1025 (var 1024 (Ref.Global 4)) (exprs []))) ∷ (vars 1041 ((record { site = 1045; variable = (Ref.Global 5); value = Some (lit 1047 (whole (pos 1))) }) ∷ [])) ∷ []); parent = None; doc = 0 })
+      ∷ (record { params = 0; names = 0; own = false; body = stmts ((return 1014 (Some (var 1021 (Ref.Global 5)))) ∷ []); parent = None; doc = 0 }) ∷ [];
   chunks = (chunk_of [] ∷ []);
   globals = ((record { name = (codes "alert"); chunk = None; doc = 0; flat = [] }) ∷ (record { name = (codes "Object"); chunk = None; doc = 0; flat = [] }) ∷ (record { name = (codes "Math"); chunk = None; doc = 0; flat = [] }) ∷ (record { name = (codes "String"); chunk = None; doc = 0; flat = [] }) ∷ (record { name = (codes "f"); chunk = Some 0; doc = 0; flat = [] }) ∷ (record { name = (codes "c"); chunk = Some 0; doc = 1; flat = [] }) ∷ []);
   props = [];
@@ -36,8 +33,8 @@ const_unset_run = refl
 abbrev param_type : Program
 param_type = record {
   scopes =
-    (record { params = 0; names = 0; own = false; body = stmts ((fun_decl 1025 (Ref.Global 4) 1) ∷ (simple 1049 (call 1054 (var 1049 (Ref.Global 0)) (exprs ((call 1056 (var 1055 (Ref.Global 4)) (exprs ((lit 1057 (whole (pos 1))) ∷ []))) ∷ [])))) ∷ (simple 1061 (call 1062 (var 1061 (Ref.Global 4)) (exprs ((lit 1063 (text (codes "x"))) ∷ [])))) ∷ []); parent = None; doc = 0 })
-    ∷ (record { params = 1; names = 0; own = false; body = stmts ((return 1039 (Some (var 1046 (Ref.Frame 0 0)))) ∷ []); parent = None; doc = 1 }) ∷ [];
+      (record { params = 0; names = 0; own = false; body = stmts ((fun_decl 1025 (Ref.Global 4) 1) ∷ (simple 1049 (call 1054 (var 1049 (Ref.Global 0)) (exprs ((call 1056 (var 1055 (Ref.Global 4)) (exprs ((lit 1057 (whole (pos 1))) ∷ []))) ∷ [])))) ∷ (simple 1061 (call 1062 (var 1061 (Ref.Global 4)) (exprs ((lit 1063 (text (codes "x"))) ∷ [])))) ∷ []); parent = None; doc = 0 })
+      ∷ (record { params = 1; names = 0; own = false; body = stmts ((return 1039 (Some (var 1046 (Ref.Frame 0 0)))) ∷ []); parent = None; doc = 1 }) ∷ [];
   chunks = (chunk_of [] ∷ []);
   globals = ((record { name = (codes "alert"); chunk = None; doc = 0; flat = [] }) ∷ (record { name = (codes "Object"); chunk = None; doc = 0; flat = [] }) ∷ (record { name = (codes "Math"); chunk = None; doc = 0; flat = [] }) ∷ (record { name = (codes "String"); chunk = None; doc = 0; flat = [] }) ∷ (record { name = (codes "f"); chunk = Some 0; doc = 0; flat = [] }) ∷ []);
   props = [];
@@ -55,8 +52,8 @@ param_type_run = refl
 abbrev result_type : Program
 result_type = record {
   scopes =
-    (record { params = 0; names = 0; own = false; body = stmts ((fun_decl 1024 (Ref.Global 4) 1) ∷ (simple 1049 (call 1050 (var 1049 (Ref.Global 4)) (exprs []))) ∷ []); parent = None; doc = 0 })
-    ∷ (record { params = 0; names = 0; own = false; body = stmts ((return 1037 (Some (lit 1044 (text (codes "x"))))) ∷ []); parent = None; doc = 1 }) ∷ [];
+      (record { params = 0; names = 0; own = false; body = stmts ((fun_decl 1024 (Ref.Global 4) 1) ∷ (simple 1049 (call 1050 (var 1049 (Ref.Global 4)) (exprs []))) ∷ []); parent = None; doc = 0 })
+      ∷ (record { params = 0; names = 0; own = false; body = stmts ((return 1037 (Some (lit 1044 (text (codes "x"))))) ∷ []); parent = None; doc = 1 }) ∷ [];
   chunks = (chunk_of [] ∷ []);
   globals = ((record { name = (codes "alert"); chunk = None; doc = 0; flat = [] }) ∷ (record { name = (codes "Object"); chunk = None; doc = 0; flat = [] }) ∷ (record { name = (codes "Math"); chunk = None; doc = 0; flat = [] }) ∷ (record { name = (codes "String"); chunk = None; doc = 0; flat = [] }) ∷ (record { name = (codes "f"); chunk = Some 0; doc = 0; flat = [] }) ∷ []);
   props = [];
@@ -74,8 +71,8 @@ result_type_run = refl
 abbrev result_in_finally : Program
 result_in_finally = record {
   scopes =
-    (record { params = 0; names = 0; own = false; body = stmts ((fun_decl 1024 (Ref.Global 4) 1) ∷ (simple 1072 (call 1077 (var 1072 (Ref.Global 0)) (exprs ((call 1079 (var 1078 (Ref.Global 4)) (exprs [])) ∷ [])))) ∷ []); parent = None; doc = 0 })
-    ∷ (record { params = 0; names = 0; own = false; body = stmts ((try 1037 (stmts ((return 1041 (Some (lit 1048 (text (codes "x"))))) ∷ [])) absent (present (stmts ((return 1061 (Some (lit 1068 (whole (pos 1))))) ∷ [])))) ∷ []); parent = None; doc = 1 }) ∷ [];
+      (record { params = 0; names = 0; own = false; body = stmts ((fun_decl 1024 (Ref.Global 4) 1) ∷ (simple 1072 (call 1077 (var 1072 (Ref.Global 0)) (exprs ((call 1079 (var 1078 (Ref.Global 4)) (exprs [])) ∷ [])))) ∷ []); parent = None; doc = 0 })
+      ∷ (record { params = 0; names = 0; own = false; body = stmts ((try 1037 (stmts ((return 1041 (Some (lit 1048 (text (codes "x"))))) ∷ [])) absent (present (stmts ((return 1061 (Some (lit 1068 (whole (pos 1))))) ∷ [])))) ∷ []); parent = None; doc = 1 }) ∷ [];
   chunks = (chunk_of [] ∷ []);
   globals = ((record { name = (codes "alert"); chunk = None; doc = 0; flat = [] }) ∷ (record { name = (codes "Object"); chunk = None; doc = 0; flat = [] }) ∷ (record { name = (codes "Math"); chunk = None; doc = 0; flat = [] }) ∷ (record { name = (codes "String"); chunk = None; doc = 0; flat = [] }) ∷ (record { name = (codes "f"); chunk = Some 0; doc = 0; flat = [] }) ∷ []);
   props = [];
@@ -93,7 +90,7 @@ result_in_finally_run = refl
 abbrev variable_type : Program
 variable_type = record {
   scopes =
-    (record { params = 0; names = 0; own = false; body = stmts ((vars 1022 ((record { site = 1026; variable = (Ref.Global 4); value = Some (lit 1028 (text (codes "a"))) }) ∷ [])) ∷ (simple 1032 (assign 1033 None (to_var 1032 (Ref.Global 4)) (lit 1034 null))) ∷ (simple 1039 (assign 1040 None (to_var 1039 (Ref.Global 4)) (lit 1041 (whole (pos 1))))) ∷ []); parent = None; doc = 0 }) ∷ [];
+      (record { params = 0; names = 0; own = false; body = stmts ((vars 1022 ((record { site = 1026; variable = (Ref.Global 4); value = Some (lit 1028 (text (codes "a"))) }) ∷ [])) ∷ (simple 1032 (assign 1033 None (to_var 1032 (Ref.Global 4)) (lit 1034 null))) ∷ (simple 1039 (assign 1040 None (to_var 1039 (Ref.Global 4)) (lit 1041 (whole (pos 1))))) ∷ []); parent = None; doc = 0 }) ∷ [];
   chunks = (chunk_of [] ∷ []);
   globals = ((record { name = (codes "alert"); chunk = None; doc = 0; flat = [] }) ∷ (record { name = (codes "Object"); chunk = None; doc = 0; flat = [] }) ∷ (record { name = (codes "Math"); chunk = None; doc = 0; flat = [] }) ∷ (record { name = (codes "String"); chunk = None; doc = 0; flat = [] }) ∷ (record { name = (codes "s"); chunk = Some 0; doc = 1; flat = [] }) ∷ []);
   props = [];
@@ -111,7 +108,7 @@ variable_type_run = refl
 abbrev cast_type : Program
 cast_type = record {
   scopes =
-    (record { params = 0; names = 0; own = false; body = stmts ((vars 1001 ((record { site = 1005; variable = (Ref.Global 4); value = Some (lit 1007 (whole (pos 1))) }) ∷ [])) ∷ (simple 1009 (call 1014 (var 1009 (Ref.Global 0)) (exprs ((cast 1036 1 (var 1037 (Ref.Global 4))) ∷ [])))) ∷ (simple 1062 (cast 1062 2 (var 1063 (Ref.Global 4)))) ∷ []); parent = None; doc = 0 }) ∷ [];
+      (record { params = 0; names = 0; own = false; body = stmts ((vars 1001 ((record { site = 1005; variable = (Ref.Global 4); value = Some (lit 1007 (whole (pos 1))) }) ∷ [])) ∷ (simple 1009 (call 1014 (var 1009 (Ref.Global 0)) (exprs ((cast 1036 1 (var 1037 (Ref.Global 4))) ∷ [])))) ∷ (simple 1062 (cast 1062 2 (var 1063 (Ref.Global 4)))) ∷ []); parent = None; doc = 0 }) ∷ [];
   chunks = (chunk_of [] ∷ []);
   globals = ((record { name = (codes "alert"); chunk = None; doc = 0; flat = [] }) ∷ (record { name = (codes "Object"); chunk = None; doc = 0; flat = [] }) ∷ (record { name = (codes "Math"); chunk = None; doc = 0; flat = [] }) ∷ (record { name = (codes "String"); chunk = None; doc = 0; flat = [] }) ∷ (record { name = (codes "x"); chunk = Some 0; doc = 0; flat = [] }) ∷ []);
   props = [];
@@ -131,8 +128,8 @@ cast_type_run = refl
 abbrev field_type : Program
 field_type = record {
   scopes =
-    (record { params = 0; names = 0; own = false; body = stmts ((fun_decl 2001 (Ref.Global 4) 1) ∷ (vars 3001 ((record { site = 3005; variable = (Ref.Global 5); value = Some (new 3007 (var 3011 (Ref.Global 4)) (exprs [])) }) ∷ [])) ∷ (simple 3015 (assign 3018 None (to_member 3016 (var 3015 (Ref.Global 5)) 0) (lit 3019 (whole (pos 2))))) ∷ (simple 3021 (call 3026 (var 3021 (Ref.Global 0)) (exprs ((member 3028 (var 3027 (Ref.Global 5)) 0) ∷ [])))) ∷ (simple 3032 (assign 3035 None (to_member 3033 (var 3032 (Ref.Global 5)) 0) (lit 3036 (text (codes "x"))))) ∷ []); parent = None; doc = 0 })
-    ∷ (record { params = 0; names = 0; own = false; body = stmts ((simple 2035 (assign 2041 None (to_member 2039 (this 2035) 0) (lit 2042 (whole (pos 1))))) ∷ []); parent = None; doc = 2 }) ∷ [];
+      (record { params = 0; names = 0; own = false; body = stmts ((fun_decl 2001 (Ref.Global 4) 1) ∷ (vars 3001 ((record { site = 3005; variable = (Ref.Global 5); value = Some (new 3007 (var 3011 (Ref.Global 4)) (exprs [])) }) ∷ [])) ∷ (simple 3015 (assign 3018 None (to_member 3016 (var 3015 (Ref.Global 5)) 0) (lit 3019 (whole (pos 2))))) ∷ (simple 3021 (call 3026 (var 3021 (Ref.Global 0)) (exprs ((member 3028 (var 3027 (Ref.Global 5)) 0) ∷ [])))) ∷ (simple 3032 (assign 3035 None (to_member 3033 (var 3032 (Ref.Global 5)) 0) (lit 3036 (text (codes "x"))))) ∷ []); parent = None; doc = 0 })
+      ∷ (record { params = 0; names = 0; own = false; body = stmts ((simple 2035 (assign 2041 None (to_member 2039 (this 2035) 0) (lit 2042 (whole (pos 1))))) ∷ []); parent = None; doc = 2 }) ∷ [];
   chunks = (chunk_of [] ∷ []);
   globals = ((record { name = (codes "alert"); chunk = None; doc = 0; flat = [] }) ∷ (record { name = (codes "Object"); chunk = None; doc = 0; flat = [] }) ∷ (record { name = (codes "Math"); chunk = None; doc = 0; flat = [] }) ∷ (record { name = (codes "String"); chunk = None; doc = 0; flat = [] }) ∷ (record { name = (codes "F"); chunk = Some 0; doc = 0; flat = [] }) ∷ (record { name = (codes "f"); chunk = Some 0; doc = 0; flat = [] }) ∷ []);
   props = (prop (codes "n") ∷ []);
@@ -153,8 +150,8 @@ field_type_run = refl
 abbrev field_of_prototype : Program
 field_of_prototype = record {
   scopes =
-    (record { params = 0; names = 0; own = false; body = stmts ((fun_decl 2001 (Ref.Global 4) 1) ∷ (simple 3022 (assign 3035 None (to_member 3033 (member 3023 (var 3022 (Ref.Global 4)) 1) 0) (lit 3036 (text (codes "x"))))) ∷ (simple 4001 (call 4006 (var 4001 (Ref.Global 0)) (exprs ((member 4014 (new 4007 (var 4011 (Ref.Global 4)) (exprs [])) 0) ∷ [])))) ∷ []); parent = None; doc = 0 })
-    ∷ (record { params = 0; names = 0; own = false; body = stmts []; parent = None; doc = 1 }) ∷ [];
+      (record { params = 0; names = 0; own = false; body = stmts ((fun_decl 2001 (Ref.Global 4) 1) ∷ (simple 3022 (assign 3035 None (to_member 3033 (member 3023 (var 3022 (Ref.Global 4)) 1) 0) (lit 3036 (text (codes "x"))))) ∷ (simple 4001 (call 4006 (var 4001 (Ref.Global 0)) (exprs ((member 4014 (new 4007 (var 4011 (Ref.Global 4)) (exprs [])) 0) ∷ [])))) ∷ []); parent = None; doc = 0 })
+      ∷ (record { params = 0; names = 0; own = false; body = stmts []; parent = None; doc = 1 }) ∷ [];
   chunks = (chunk_of [] ∷ []);
   globals = ((record { name = (codes "alert"); chunk = None; doc = 0; flat = [] }) ∷ (record { name = (codes "Object"); chunk = None; doc = 0; flat = [] }) ∷ (record { name = (codes "Math"); chunk = None; doc = 0; flat = [] }) ∷ (record { name = (codes "String"); chunk = None; doc = 0; flat = [] }) ∷ (record { name = (codes "F"); chunk = Some 0; doc = 0; flat = [] }) ∷ []);
   props = (prop (codes "n") ∷ kept_prop (codes "prototype") ∷ []);
@@ -175,9 +172,9 @@ field_of_prototype_run = refl
 abbrev code_of_class : Program
 code_of_class = record {
   scopes =
-    (record { params = 0; names = 0; own = false; body = stmts ((fun_decl 2001 (Ref.Global 4) 1) ∷ (simple 3001 (assign 3014 None (to_member 3012 (member 3002 (var 3001 (Ref.Global 4)) 0) 1) (fun 3015 2))) ∷ (simple 4001 (call 4006 (var 4001 (Ref.Global 0)) (exprs ((call 4016 (member 4014 (new 4007 (var 4011 (Ref.Global 4)) (exprs [])) 1) (exprs [])) ∷ [])))) ∷ (simple 4020 (call 4033 (member 4031 (member 4021 (var 4020 (Ref.Global 4)) 0) 1) (exprs []))) ∷ []); parent = None; doc = 0 })
-    ∷ (record { params = 0; names = 0; own = false; body = stmts []; parent = None; doc = 1 })
-    ∷ (record { params = 0; names = 0; own = false; body = stmts ((return 3026 (Some (lit 3033 (whole (pos 1))))) ∷ []); parent = None; doc = 0 }) ∷ [];
+      (record { params = 0; names = 0; own = false; body = stmts ((fun_decl 2001 (Ref.Global 4) 1) ∷ (simple 3001 (assign 3014 None (to_member 3012 (member 3002 (var 3001 (Ref.Global 4)) 0) 1) (fun 3015 2))) ∷ (simple 4001 (call 4006 (var 4001 (Ref.Global 0)) (exprs ((call 4016 (member 4014 (new 4007 (var 4011 (Ref.Global 4)) (exprs [])) 1) (exprs [])) ∷ [])))) ∷ (simple 4020 (call 4033 (member 4031 (member 4021 (var 4020 (Ref.Global 4)) 0) 1) (exprs []))) ∷ []); parent = None; doc = 0 })
+      ∷ (record { params = 0; names = 0; own = false; body = stmts []; parent = None; doc = 1 })
+      ∷ (record { params = 0; names = 0; own = false; body = stmts ((return 3026 (Some (lit 3033 (whole (pos 1))))) ∷ []); parent = None; doc = 0 }) ∷ [];
   chunks = (chunk_of [] ∷ []);
   globals = ((record { name = (codes "alert"); chunk = None; doc = 0; flat = [] }) ∷ (record { name = (codes "Object"); chunk = None; doc = 0; flat = [] }) ∷ (record { name = (codes "Math"); chunk = None; doc = 0; flat = [] }) ∷ (record { name = (codes "String"); chunk = None; doc = 0; flat = [] }) ∷ (record { name = (codes "F"); chunk = Some 0; doc = 0; flat = [] }) ∷ []);
   props = (kept_prop (codes "prototype") ∷ prop (codes "m") ∷ []);
@@ -197,8 +194,8 @@ code_of_class_run = refl
 abbrev plain_call_of_class : Program
 plain_call_of_class = record {
   scopes =
-    (record { params = 0; names = 0; own = false; body = stmts ((fun_decl 2001 (Ref.Global 4) 1) ∷ (simple 3001 (call 3002 (var 3001 (Ref.Global 4)) (exprs []))) ∷ []); parent = None; doc = 0 })
-    ∷ (record { params = 0; names = 0; own = false; body = stmts []; parent = None; doc = 1 }) ∷ [];
+      (record { params = 0; names = 0; own = false; body = stmts ((fun_decl 2001 (Ref.Global 4) 1) ∷ (simple 3001 (call 3002 (var 3001 (Ref.Global 4)) (exprs []))) ∷ []); parent = None; doc = 0 })
+      ∷ (record { params = 0; names = 0; own = false; body = stmts []; parent = None; doc = 1 }) ∷ [];
   chunks = (chunk_of [] ∷ []);
   globals = ((record { name = (codes "alert"); chunk = None; doc = 0; flat = [] }) ∷ (record { name = (codes "Object"); chunk = None; doc = 0; flat = [] }) ∷ (record { name = (codes "Math"); chunk = None; doc = 0; flat = [] }) ∷ (record { name = (codes "String"); chunk = None; doc = 0; flat = [] }) ∷ (record { name = (codes "F"); chunk = Some 0; doc = 0; flat = [] }) ∷ []);
   props = [];
@@ -221,9 +218,9 @@ plain_call_of_class_run = refl
 abbrev sub_calls_base : Program
 sub_calls_base = record {
   scopes =
-    (record { params = 0; names = 0; own = false; body = stmts ((fun_decl 2001 (Ref.Global 4) 1) ∷ (fun_decl 4001 (Ref.Global 5) 2) ∷ (simple 5001 (assign 5012 None (to_member 5002 (var 5001 (Ref.Global 5)) 2) (call 5026 (member 5019 (var 5013 (Ref.Global 1)) 3) (exprs ((member 5028 (var 5027 (Ref.Global 4)) 2) ∷ []))))) ∷ (simple 6001 (call 6006 (var 6001 (Ref.Global 0)) (exprs ((member 6014 (new 6007 (var 6011 (Ref.Global 5)) (exprs [])) 0) ∷ [])))) ∷ []); parent = None; doc = 0 })
-    ∷ (record { params = 0; names = 0; own = false; body = stmts ((simple 2014 (assign 2020 None (to_member 2018 (this 2014) 0) (lit 2021 (whole (pos 1))))) ∷ []); parent = None; doc = 1 })
-    ∷ (record { params = 0; names = 0; own = false; body = stmts ((simple 4014 (call 4020 (member 4015 (var 4014 (Ref.Global 4)) 1) (exprs ((this 4021) ∷ [])))) ∷ []); parent = None; doc = 2 }) ∷ [];
+      (record { params = 0; names = 0; own = false; body = stmts ((fun_decl 2001 (Ref.Global 4) 1) ∷ (fun_decl 4001 (Ref.Global 5) 2) ∷ (simple 5001 (assign 5012 None (to_member 5002 (var 5001 (Ref.Global 5)) 2) (call 5026 (member 5019 (var 5013 (Ref.Global 1)) 3) (exprs ((member 5028 (var 5027 (Ref.Global 4)) 2) ∷ []))))) ∷ (simple 6001 (call 6006 (var 6001 (Ref.Global 0)) (exprs ((member 6014 (new 6007 (var 6011 (Ref.Global 5)) (exprs [])) 0) ∷ [])))) ∷ []); parent = None; doc = 0 })
+      ∷ (record { params = 0; names = 0; own = false; body = stmts ((simple 2014 (assign 2020 None (to_member 2018 (this 2014) 0) (lit 2021 (whole (pos 1))))) ∷ []); parent = None; doc = 1 })
+      ∷ (record { params = 0; names = 0; own = false; body = stmts ((simple 4014 (call 4020 (member 4015 (var 4014 (Ref.Global 4)) 1) (exprs ((this 4021) ∷ [])))) ∷ []); parent = None; doc = 2 }) ∷ [];
   chunks = (chunk_of [] ∷ []);
   globals = ((record { name = (codes "alert"); chunk = None; doc = 0; flat = [] }) ∷ (record { name = (codes "Object"); chunk = None; doc = 0; flat = [] }) ∷ (record { name = (codes "Math"); chunk = None; doc = 0; flat = [] }) ∷ (record { name = (codes "String"); chunk = None; doc = 0; flat = [] }) ∷ (record { name = (codes "B"); chunk = Some 0; doc = 0; flat = [] }) ∷ (record { name = (codes "S"); chunk = Some 0; doc = 0; flat = [] }) ∷ []);
   props = (prop (codes "x") ∷ kept_prop (codes "call") ∷ kept_prop (codes "prototype") ∷ kept_prop (codes "create") ∷ []);
@@ -243,9 +240,9 @@ sub_calls_base_run = refl
 abbrev receiver_type : Program
 receiver_type = record {
   scopes =
-    (record { params = 0; names = 0; own = false; body = stmts ((fun_decl 2001 (Ref.Global 4) 1) ∷ (fun_decl 3017 (Ref.Global 5) 2) ∷ (simple 3040 (call 3045 (var 3040 (Ref.Global 0)) (exprs ((call 3047 (var 3046 (Ref.Global 5)) (exprs [])) ∷ [])))) ∷ (simple 3051 (call 3056 (var 3051 (Ref.Global 0)) (exprs ((call 3063 (member 3058 (var 3057 (Ref.Global 5)) 0) (exprs ((new 3064 (var 3068 (Ref.Global 4)) (exprs [])) ∷ []))) ∷ [])))) ∷ (simple 3074 (call 3080 (member 3075 (var 3074 (Ref.Global 5)) 0) (exprs ((lit 3081 (whole (pos 1))) ∷ [])))) ∷ []); parent = None; doc = 0 })
-    ∷ (record { params = 0; names = 0; own = false; body = stmts []; parent = None; doc = 1 })
-    ∷ (record { params = 0; names = 0; own = false; body = stmts ((return 3030 (Some (lit 3037 (whole (pos 1))))) ∷ []); parent = None; doc = 2 }) ∷ [];
+      (record { params = 0; names = 0; own = false; body = stmts ((fun_decl 2001 (Ref.Global 4) 1) ∷ (fun_decl 3017 (Ref.Global 5) 2) ∷ (simple 3040 (call 3045 (var 3040 (Ref.Global 0)) (exprs ((call 3047 (var 3046 (Ref.Global 5)) (exprs [])) ∷ [])))) ∷ (simple 3051 (call 3056 (var 3051 (Ref.Global 0)) (exprs ((call 3063 (member 3058 (var 3057 (Ref.Global 5)) 0) (exprs ((new 3064 (var 3068 (Ref.Global 4)) (exprs [])) ∷ []))) ∷ [])))) ∷ (simple 3074 (call 3080 (member 3075 (var 3074 (Ref.Global 5)) 0) (exprs ((lit 3081 (whole (pos 1))) ∷ [])))) ∷ []); parent = None; doc = 0 })
+      ∷ (record { params = 0; names = 0; own = false; body = stmts []; parent = None; doc = 1 })
+      ∷ (record { params = 0; names = 0; own = false; body = stmts ((return 3030 (Some (lit 3037 (whole (pos 1))))) ∷ []); parent = None; doc = 2 }) ∷ [];
   chunks = (chunk_of [] ∷ []);
   globals = ((record { name = (codes "alert"); chunk = None; doc = 0; flat = [] }) ∷ (record { name = (codes "Object"); chunk = None; doc = 0; flat = [] }) ∷ (record { name = (codes "Math"); chunk = None; doc = 0; flat = [] }) ∷ (record { name = (codes "String"); chunk = None; doc = 0; flat = [] }) ∷ (record { name = (codes "B"); chunk = Some 0; doc = 0; flat = [] }) ∷ (record { name = (codes "f"); chunk = Some 0; doc = 0; flat = [] }) ∷ []);
   props = (kept_prop (codes "call") ∷ []);
@@ -265,8 +262,8 @@ receiver_type_run = refl
 abbrev new_of_class : Program
 new_of_class = record {
   scopes =
-    (record { params = 0; names = 0; own = false; body = stmts ((fun_decl 2001 (Ref.Global 4) 1) ∷ (simple 3001 (new 3001 (var 3005 (Ref.Global 4)) (exprs []))) ∷ []); parent = None; doc = 0 })
-    ∷ (record { params = 0; names = 0; own = false; body = stmts ((return 2014 (Some (object 2021 (fields [])))) ∷ []); parent = None; doc = 1 }) ∷ [];
+      (record { params = 0; names = 0; own = false; body = stmts ((fun_decl 2001 (Ref.Global 4) 1) ∷ (simple 3001 (new 3001 (var 3005 (Ref.Global 4)) (exprs []))) ∷ []); parent = None; doc = 0 })
+      ∷ (record { params = 0; names = 0; own = false; body = stmts ((return 2014 (Some (object 2021 (fields [])))) ∷ []); parent = None; doc = 1 }) ∷ [];
   chunks = (chunk_of [] ∷ []);
   globals = ((record { name = (codes "alert"); chunk = None; doc = 0; flat = [] }) ∷ (record { name = (codes "Object"); chunk = None; doc = 0; flat = [] }) ∷ (record { name = (codes "Math"); chunk = None; doc = 0; flat = [] }) ∷ (record { name = (codes "String"); chunk = None; doc = 0; flat = [] }) ∷ (record { name = (codes "F"); chunk = Some 0; doc = 0; flat = [] }) ∷ []);
   props = [];
@@ -289,9 +286,9 @@ new_of_class_run = refl
 abbrev prototype_late : Program
 prototype_late = record {
   scopes =
-    (record { params = 0; names = 0; own = false; body = stmts ((fun_decl 2001 (Ref.Global 4) 1) ∷ (fun_decl 4001 (Ref.Global 5) 2) ∷ (simple 5001 (new 5001 (var 5005 (Ref.Global 5)) (exprs []))) ∷ (simple 6001 (assign 6012 None (to_member 6002 (var 6001 (Ref.Global 5)) 0) (call 6026 (member 6019 (var 6013 (Ref.Global 1)) 1) (exprs ((member 6028 (var 6027 (Ref.Global 4)) 0) ∷ []))))) ∷ []); parent = None; doc = 0 })
-    ∷ (record { params = 0; names = 0; own = false; body = stmts []; parent = None; doc = 1 })
-    ∷ (record { params = 0; names = 0; own = false; body = stmts []; parent = None; doc = 2 }) ∷ [];
+      (record { params = 0; names = 0; own = false; body = stmts ((fun_decl 2001 (Ref.Global 4) 1) ∷ (fun_decl 4001 (Ref.Global 5) 2) ∷ (simple 5001 (new 5001 (var 5005 (Ref.Global 5)) (exprs []))) ∷ (simple 6001 (assign 6012 None (to_member 6002 (var 6001 (Ref.Global 5)) 0) (call 6026 (member 6019 (var 6013 (Ref.Global 1)) 1) (exprs ((member 6028 (var 6027 (Ref.Global 4)) 0) ∷ []))))) ∷ []); parent = None; doc = 0 })
+      ∷ (record { params = 0; names = 0; own = false; body = stmts []; parent = None; doc = 1 })
+      ∷ (record { params = 0; names = 0; own = false; body = stmts []; parent = None; doc = 2 }) ∷ [];
   chunks = (chunk_of [] ∷ []);
   globals = ((record { name = (codes "alert"); chunk = None; doc = 0; flat = [] }) ∷ (record { name = (codes "Object"); chunk = None; doc = 0; flat = [] }) ∷ (record { name = (codes "Math"); chunk = None; doc = 0; flat = [] }) ∷ (record { name = (codes "String"); chunk = None; doc = 0; flat = [] }) ∷ (record { name = (codes "B"); chunk = Some 0; doc = 0; flat = [] }) ∷ (record { name = (codes "S"); chunk = Some 0; doc = 0; flat = [] }) ∷ []);
   props = (kept_prop (codes "prototype") ∷ kept_prop (codes "create") ∷ []);
@@ -314,9 +311,9 @@ prototype_late_run = refl
 abbrev prototype_with_slot : Program
 prototype_with_slot = record {
   scopes =
-    (record { params = 0; names = 0; own = false; body = stmts ((fun_decl 2001 (Ref.Global 4) 1) ∷ (fun_decl 4001 (Ref.Global 5) 2) ∷ (simple 5001 (assign 5014 None (to_member 5012 (member 5002 (var 5001 (Ref.Global 5)) 0) 1) (lit 5015 (whole (pos 1))))) ∷ (simple 6001 (assign 6012 None (to_member 6002 (var 6001 (Ref.Global 5)) 0) (call 6026 (member 6019 (var 6013 (Ref.Global 1)) 2) (exprs ((member 6028 (var 6027 (Ref.Global 4)) 0) ∷ []))))) ∷ []); parent = None; doc = 0 })
-    ∷ (record { params = 0; names = 0; own = false; body = stmts []; parent = None; doc = 1 })
-    ∷ (record { params = 0; names = 0; own = false; body = stmts []; parent = None; doc = 2 }) ∷ [];
+      (record { params = 0; names = 0; own = false; body = stmts ((fun_decl 2001 (Ref.Global 4) 1) ∷ (fun_decl 4001 (Ref.Global 5) 2) ∷ (simple 5001 (assign 5014 None (to_member 5012 (member 5002 (var 5001 (Ref.Global 5)) 0) 1) (lit 5015 (whole (pos 1))))) ∷ (simple 6001 (assign 6012 None (to_member 6002 (var 6001 (Ref.Global 5)) 0) (call 6026 (member 6019 (var 6013 (Ref.Global 1)) 2) (exprs ((member 6028 (var 6027 (Ref.Global 4)) 0) ∷ []))))) ∷ []); parent = None; doc = 0 })
+      ∷ (record { params = 0; names = 0; own = false; body = stmts []; parent = None; doc = 1 })
+      ∷ (record { params = 0; names = 0; own = false; body = stmts []; parent = None; doc = 2 }) ∷ [];
   chunks = (chunk_of [] ∷ []);
   globals = ((record { name = (codes "alert"); chunk = None; doc = 0; flat = [] }) ∷ (record { name = (codes "Object"); chunk = None; doc = 0; flat = [] }) ∷ (record { name = (codes "Math"); chunk = None; doc = 0; flat = [] }) ∷ (record { name = (codes "String"); chunk = None; doc = 0; flat = [] }) ∷ (record { name = (codes "B"); chunk = Some 0; doc = 0; flat = [] }) ∷ (record { name = (codes "S"); chunk = Some 0; doc = 0; flat = [] }) ∷ []);
   props = (kept_prop (codes "prototype") ∷ prop (codes "x") ∷ kept_prop (codes "create") ∷ []);
@@ -338,9 +335,9 @@ prototype_with_slot_run = refl
 abbrev prototype_of_other : Program
 prototype_of_other = record {
   scopes =
-    (record { params = 0; names = 0; own = false; body = stmts ((fun_decl 2001 (Ref.Global 4) 1) ∷ (fun_decl 4001 (Ref.Global 5) 2) ∷ (simple 5001 (assign 5012 None (to_member 5002 (var 5001 (Ref.Global 5)) 0) (call 5026 (member 5019 (var 5013 (Ref.Global 1)) 1) (exprs ((member 5028 (var 5027 (Ref.Global 4)) 0) ∷ []))))) ∷ []); parent = None; doc = 0 })
-    ∷ (record { params = 0; names = 0; own = false; body = stmts []; parent = None; doc = 1 })
-    ∷ (record { params = 0; names = 0; own = false; body = stmts []; parent = None; doc = 2 }) ∷ [];
+      (record { params = 0; names = 0; own = false; body = stmts ((fun_decl 2001 (Ref.Global 4) 1) ∷ (fun_decl 4001 (Ref.Global 5) 2) ∷ (simple 5001 (assign 5012 None (to_member 5002 (var 5001 (Ref.Global 5)) 0) (call 5026 (member 5019 (var 5013 (Ref.Global 1)) 1) (exprs ((member 5028 (var 5027 (Ref.Global 4)) 0) ∷ []))))) ∷ []); parent = None; doc = 0 })
+      ∷ (record { params = 0; names = 0; own = false; body = stmts []; parent = None; doc = 1 })
+      ∷ (record { params = 0; names = 0; own = false; body = stmts []; parent = None; doc = 2 }) ∷ [];
   chunks = (chunk_of [] ∷ []);
   globals = ((record { name = (codes "alert"); chunk = None; doc = 0; flat = [] }) ∷ (record { name = (codes "Object"); chunk = None; doc = 0; flat = [] }) ∷ (record { name = (codes "Math"); chunk = None; doc = 0; flat = [] }) ∷ (record { name = (codes "String"); chunk = None; doc = 0; flat = [] }) ∷ (record { name = (codes "B"); chunk = Some 0; doc = 0; flat = [] }) ∷ (record { name = (codes "S"); chunk = Some 0; doc = 0; flat = [] }) ∷ []);
   props = (kept_prop (codes "prototype") ∷ kept_prop (codes "create") ∷ []);
@@ -363,9 +360,9 @@ prototype_of_other_run = refl
 abbrev prototype_by_alias : Program
 prototype_by_alias = record {
   scopes =
-    (record { params = 0; names = 0; own = false; body = stmts ((fun_decl 2001 (Ref.Global 4) 1) ∷ (fun_decl 4001 (Ref.Global 5) 2) ∷ (vars 5001 ((record { site = 5005; variable = (Ref.Global 6); value = Some (var 5007 (Ref.Global 5)) }) ∷ [])) ∷ (simple 6001 (assign 6012 None (to_member 6002 (var 6001 (Ref.Global 6)) 0) (call 6026 (member 6019 (var 6013 (Ref.Global 1)) 1) (exprs ((member 6028 (var 6027 (Ref.Global 4)) 0) ∷ []))))) ∷ []); parent = None; doc = 0 })
-    ∷ (record { params = 0; names = 0; own = false; body = stmts []; parent = None; doc = 1 })
-    ∷ (record { params = 0; names = 0; own = false; body = stmts []; parent = None; doc = 2 }) ∷ [];
+      (record { params = 0; names = 0; own = false; body = stmts ((fun_decl 2001 (Ref.Global 4) 1) ∷ (fun_decl 4001 (Ref.Global 5) 2) ∷ (vars 5001 ((record { site = 5005; variable = (Ref.Global 6); value = Some (var 5007 (Ref.Global 5)) }) ∷ [])) ∷ (simple 6001 (assign 6012 None (to_member 6002 (var 6001 (Ref.Global 6)) 0) (call 6026 (member 6019 (var 6013 (Ref.Global 1)) 1) (exprs ((member 6028 (var 6027 (Ref.Global 4)) 0) ∷ []))))) ∷ []); parent = None; doc = 0 })
+      ∷ (record { params = 0; names = 0; own = false; body = stmts []; parent = None; doc = 1 })
+      ∷ (record { params = 0; names = 0; own = false; body = stmts []; parent = None; doc = 2 }) ∷ [];
   chunks = (chunk_of [] ∷ []);
   globals = ((record { name = (codes "alert"); chunk = None; doc = 0; flat = [] }) ∷ (record { name = (codes "Object"); chunk = None; doc = 0; flat = [] }) ∷ (record { name = (codes "Math"); chunk = None; doc = 0; flat = [] }) ∷ (record { name = (codes "String"); chunk = None; doc = 0; flat = [] }) ∷ (record { name = (codes "B"); chunk = Some 0; doc = 0; flat = [] }) ∷ (record { name = (codes "S"); chunk = Some 0; doc = 0; flat = [] }) ∷ (record { name = (codes "T"); chunk = Some 0; doc = 0; flat = [] }) ∷ []);
   props = (kept_prop (codes "prototype") ∷ kept_prop (codes "create") ∷ []);
@@ -388,10 +385,10 @@ prototype_by_alias_run = refl
 abbrev prototype_by_function : Program
 prototype_by_function = record {
   scopes =
-    (record { params = 0; names = 0; own = false; body = stmts ((fun_decl 2001 (Ref.Global 4) 1) ∷ (fun_decl 4001 (Ref.Global 5) 2) ∷ (fun_decl 5001 (Ref.Global 6) 3) ∷ (simple 6001 (call 6002 (var 6001 (Ref.Global 6)) (exprs []))) ∷ []); parent = None; doc = 0 })
-    ∷ (record { params = 0; names = 0; own = false; body = stmts []; parent = None; doc = 1 })
-    ∷ (record { params = 0; names = 0; own = false; body = stmts []; parent = None; doc = 2 })
-    ∷ (record { params = 0; names = 0; own = false; body = stmts ((simple 5014 (assign 5025 None (to_member 5015 (var 5014 (Ref.Global 5)) 0) (call 5039 (member 5032 (var 5026 (Ref.Global 1)) 1) (exprs ((member 5041 (var 5040 (Ref.Global 4)) 0) ∷ []))))) ∷ []); parent = None; doc = 0 }) ∷ [];
+      (record { params = 0; names = 0; own = false; body = stmts ((fun_decl 2001 (Ref.Global 4) 1) ∷ (fun_decl 4001 (Ref.Global 5) 2) ∷ (fun_decl 5001 (Ref.Global 6) 3) ∷ (simple 6001 (call 6002 (var 6001 (Ref.Global 6)) (exprs []))) ∷ []); parent = None; doc = 0 })
+      ∷ (record { params = 0; names = 0; own = false; body = stmts []; parent = None; doc = 1 })
+      ∷ (record { params = 0; names = 0; own = false; body = stmts []; parent = None; doc = 2 })
+      ∷ (record { params = 0; names = 0; own = false; body = stmts ((simple 5014 (assign 5025 None (to_member 5015 (var 5014 (Ref.Global 5)) 0) (call 5039 (member 5032 (var 5026 (Ref.Global 1)) 1) (exprs ((member 5041 (var 5040 (Ref.Global 4)) 0) ∷ []))))) ∷ []); parent = None; doc = 0 }) ∷ [];
   chunks = (chunk_of [] ∷ []);
   globals = ((record { name = (codes "alert"); chunk = None; doc = 0; flat = [] }) ∷ (record { name = (codes "Object"); chunk = None; doc = 0; flat = [] }) ∷ (record { name = (codes "Math"); chunk = None; doc = 0; flat = [] }) ∷ (record { name = (codes "String"); chunk = None; doc = 0; flat = [] }) ∷ (record { name = (codes "B"); chunk = Some 0; doc = 0; flat = [] }) ∷ (record { name = (codes "S"); chunk = Some 0; doc = 0; flat = [] }) ∷ (record { name = (codes "f"); chunk = Some 0; doc = 0; flat = [] }) ∷ []);
   props = (kept_prop (codes "prototype") ∷ kept_prop (codes "create") ∷ []);
@@ -409,8 +406,8 @@ prototype_by_function_run = refl
 abbrev prototype_of_plain : Program
 prototype_of_plain = record {
   scopes =
-    (record { params = 0; names = 0; own = false; body = stmts ((fun_decl 1001 (Ref.Global 4) 1) ∷ (simple 1015 (assign 1026 None (to_member 1016 (var 1015 (Ref.Global 4)) 0) (object 1027 (fields [])))) ∷ []); parent = None; doc = 0 })
-    ∷ (record { params = 0; names = 0; own = false; body = stmts []; parent = None; doc = 0 }) ∷ [];
+      (record { params = 0; names = 0; own = false; body = stmts ((fun_decl 1001 (Ref.Global 4) 1) ∷ (simple 1015 (assign 1026 None (to_member 1016 (var 1015 (Ref.Global 4)) 0) (object 1027 (fields [])))) ∷ []); parent = None; doc = 0 })
+      ∷ (record { params = 0; names = 0; own = false; body = stmts []; parent = None; doc = 0 }) ∷ [];
   chunks = (chunk_of [] ∷ []);
   globals = ((record { name = (codes "alert"); chunk = None; doc = 0; flat = [] }) ∷ (record { name = (codes "Object"); chunk = None; doc = 0; flat = [] }) ∷ (record { name = (codes "Math"); chunk = None; doc = 0; flat = [] }) ∷ (record { name = (codes "String"); chunk = None; doc = 0; flat = [] }) ∷ (record { name = (codes "f"); chunk = Some 0; doc = 0; flat = [] }) ∷ []);
   props = (kept_prop (codes "prototype") ∷ []);
@@ -428,7 +425,7 @@ prototype_of_plain_run = refl
 abbrev pushed_element : Program
 pushed_element = record {
   scopes =
-    (record { params = 0; names = 0; own = false; body = stmts ((vars 1029 ((record { site = 1033; variable = (Ref.Global 4); value = Some (list 1035 (exprs ((lit 1036 (whole (pos 1))) ∷ []))) }) ∷ [])) ∷ (simple 1039 (call 1045 (member 1040 (var 1039 (Ref.Global 4)) 0) (exprs ((lit 1046 (whole (pos 2))) ∷ [])))) ∷ (simple 1049 (call 1054 (var 1049 (Ref.Global 0)) (exprs ((member 1056 (var 1055 (Ref.Global 4)) 1) ∷ [])))) ∷ (simple 1065 (call 1071 (member 1066 (var 1065 (Ref.Global 4)) 0) (exprs ((lit 1072 (text (codes "x"))) ∷ [])))) ∷ []); parent = None; doc = 0 }) ∷ [];
+      (record { params = 0; names = 0; own = false; body = stmts ((vars 1029 ((record { site = 1033; variable = (Ref.Global 4); value = Some (list 1035 (exprs ((lit 1036 (whole (pos 1))) ∷ []))) }) ∷ [])) ∷ (simple 1039 (call 1045 (member 1040 (var 1039 (Ref.Global 4)) 0) (exprs ((lit 1046 (whole (pos 2))) ∷ [])))) ∷ (simple 1049 (call 1054 (var 1049 (Ref.Global 0)) (exprs ((member 1056 (var 1055 (Ref.Global 4)) 1) ∷ [])))) ∷ (simple 1065 (call 1071 (member 1066 (var 1065 (Ref.Global 4)) 0) (exprs ((lit 1072 (text (codes "x"))) ∷ [])))) ∷ []); parent = None; doc = 0 }) ∷ [];
   chunks = (chunk_of [] ∷ []);
   globals = ((record { name = (codes "alert"); chunk = None; doc = 0; flat = [] }) ∷ (record { name = (codes "Object"); chunk = None; doc = 0; flat = [] }) ∷ (record { name = (codes "Math"); chunk = None; doc = 0; flat = [] }) ∷ (record { name = (codes "String"); chunk = None; doc = 0; flat = [] }) ∷ (record { name = (codes "a"); chunk = Some 0; doc = 1; flat = [] }) ∷ []);
   props = (kept_prop (codes "push") ∷ kept_prop (codes "length") ∷ []);
@@ -446,8 +443,8 @@ pushed_element_run = refl
 abbrev entered_by_param : Program
 entered_by_param = record {
   scopes =
-    (record { params = 0; names = 0; own = false; body = stmts ((fun_decl 1032 (Ref.Global 4) 1) ∷ (vars 1047 ((record { site = 1051; variable = (Ref.Global 5); value = Some (list 1053 (exprs [])) }) ∷ [])) ∷ (simple 1056 (call 1062 (member 1057 (var 1056 (Ref.Global 5)) 0) (exprs ((lit 1063 (text (codes "x"))) ∷ [])))) ∷ (simple 1068 (call 1073 (member 1069 (var 1068 (Ref.Global 5)) 1) (exprs []))) ∷ (simple 1076 (call 1077 (var 1076 (Ref.Global 4)) (exprs ((var 1078 (Ref.Global 5)) ∷ [])))) ∷ (simple 1081 (call 1087 (member 1082 (var 1081 (Ref.Global 5)) 0) (exprs ((lit 1088 (text (codes "x"))) ∷ [])))) ∷ []); parent = None; doc = 0 })
-    ∷ (record { params = 1; names = 0; own = false; body = stmts []; parent = None; doc = 1 }) ∷ [];
+      (record { params = 0; names = 0; own = false; body = stmts ((fun_decl 1032 (Ref.Global 4) 1) ∷ (vars 1047 ((record { site = 1051; variable = (Ref.Global 5); value = Some (list 1053 (exprs [])) }) ∷ [])) ∷ (simple 1056 (call 1062 (member 1057 (var 1056 (Ref.Global 5)) 0) (exprs ((lit 1063 (text (codes "x"))) ∷ [])))) ∷ (simple 1068 (call 1073 (member 1069 (var 1068 (Ref.Global 5)) 1) (exprs []))) ∷ (simple 1076 (call 1077 (var 1076 (Ref.Global 4)) (exprs ((var 1078 (Ref.Global 5)) ∷ [])))) ∷ (simple 1081 (call 1087 (member 1082 (var 1081 (Ref.Global 5)) 0) (exprs ((lit 1088 (text (codes "x"))) ∷ [])))) ∷ []); parent = None; doc = 0 })
+      ∷ (record { params = 1; names = 0; own = false; body = stmts []; parent = None; doc = 1 }) ∷ [];
   chunks = (chunk_of [] ∷ []);
   globals = ((record { name = (codes "alert"); chunk = None; doc = 0; flat = [] }) ∷ (record { name = (codes "Object"); chunk = None; doc = 0; flat = [] }) ∷ (record { name = (codes "Math"); chunk = None; doc = 0; flat = [] }) ∷ (record { name = (codes "String"); chunk = None; doc = 0; flat = [] }) ∷ (record { name = (codes "f"); chunk = Some 0; doc = 0; flat = [] }) ∷ (record { name = (codes "a"); chunk = Some 0; doc = 0; flat = [] }) ∷ []);
   props = (kept_prop (codes "push") ∷ kept_prop (codes "pop") ∷ []);
@@ -467,8 +464,8 @@ entered_by_param_run = refl
 abbrev quoted_field : Program
 quoted_field = record {
   scopes =
-    (record { params = 0; names = 0; own = false; body = stmts ((fun_decl 2001 (Ref.Global 4) 1) ∷ (vars 3001 ((record { site = 3005; variable = (Ref.Global 5); value = Some (new 3007 (var 3011 (Ref.Global 4)) (exprs [])) }) ∷ (record { site = 3015; variable = (Ref.Global 6); value = Some (list 3017 (exprs [])) }) ∷ [])) ∷ (simple 3020 (assign 3026 None (to_index 3021 (var 3020 (Ref.Global 5)) (lit 3022 (text (codes "n")))) (var 3027 (Ref.Global 6)))) ∷ (simple 3029 (call 3035 (member 3030 (var 3029 (Ref.Global 6)) 1) (exprs ((lit 3036 (text (codes "x"))) ∷ [])))) ∷ (simple 3041 (call 3046 (var 3041 (Ref.Global 0)) (exprs ((member 3053 (index 3048 (var 3047 (Ref.Global 5)) (lit 3049 (text (codes "n")))) 2) ∷ [])))) ∷ []); parent = None; doc = 0 })
-    ∷ (record { params = 0; names = 0; own = false; body = stmts ((simple 2042 (member 2046 (this 2042) 0)) ∷ []); parent = None; doc = 2 }) ∷ [];
+      (record { params = 0; names = 0; own = false; body = stmts ((fun_decl 2001 (Ref.Global 4) 1) ∷ (vars 3001 ((record { site = 3005; variable = (Ref.Global 5); value = Some (new 3007 (var 3011 (Ref.Global 4)) (exprs [])) }) ∷ (record { site = 3015; variable = (Ref.Global 6); value = Some (list 3017 (exprs [])) }) ∷ [])) ∷ (simple 3020 (assign 3026 None (to_index 3021 (var 3020 (Ref.Global 5)) (lit 3022 (text (codes "n")))) (var 3027 (Ref.Global 6)))) ∷ (simple 3029 (call 3035 (member 3030 (var 3029 (Ref.Global 6)) 1) (exprs ((lit 3036 (text (codes "x"))) ∷ [])))) ∷ (simple 3041 (call 3046 (var 3041 (Ref.Global 0)) (exprs ((member 3053 (index 3048 (var 3047 (Ref.Global 5)) (lit 3049 (text (codes "n")))) 2) ∷ [])))) ∷ []); parent = None; doc = 0 })
+      ∷ (record { params = 0; names = 0; own = false; body = stmts ((simple 2042 (member 2046 (this 2042) 0)) ∷ []); parent = None; doc = 2 }) ∷ [];
   chunks = (chunk_of [] ∷ []);
   globals = ((record { name = (codes "alert"); chunk = None; doc = 0; flat = [] }) ∷ (record { name = (codes "Object"); chunk = None; doc = 0; flat = [] }) ∷ (record { name = (codes "Math"); chunk = None; doc = 0; flat = [] }) ∷ (record { name = (codes "String"); chunk = None; doc = 0; flat = [] }) ∷ (record { name = (codes "F"); chunk = Some 0; doc = 0; flat = [] }) ∷ (record { name = (codes "f"); chunk = Some 0; doc = 0; flat = [] }) ∷ (record { name = (codes "a"); chunk = Some 0; doc = 0; flat = [] }) ∷ []);
   props = (prop (codes "n") ∷ kept_prop (codes "push") ∷ kept_prop (codes "length") ∷ []);
@@ -488,8 +485,8 @@ quoted_field_run = refl
 abbrev entered_by_read : Program
 entered_by_read = record {
   scopes =
-    (record { params = 0; names = 0; own = false; body = stmts ((fun_decl 2001 (Ref.Global 4) 1) ∷ (vars 3001 ((record { site = 3005; variable = (Ref.Global 5); value = Some (list 3007 (exprs [])) }) ∷ [])) ∷ (simple 3010 (assign 3023 None (to_member 3021 (member 3011 (var 3010 (Ref.Global 4)) 1) 0) (var 3024 (Ref.Global 5)))) ∷ (simple 3026 (call 3032 (member 3027 (var 3026 (Ref.Global 5)) 2) (exprs ((lit 3033 (text (codes "x"))) ∷ [])))) ∷ (simple 3038 (call 3043 (member 3039 (var 3038 (Ref.Global 5)) 3) (exprs []))) ∷ (simple 3046 (call 3051 (var 3046 (Ref.Global 0)) (exprs ((lit 3052 (whole (pos 1))) ∷ [])))) ∷ (simple 3055 (new 3055 (var 3059 (Ref.Global 4)) (exprs []))) ∷ (simple 3063 (call 3069 (member 3064 (var 3063 (Ref.Global 5)) 2) (exprs ((lit 3070 (text (codes "x"))) ∷ [])))) ∷ []); parent = None; doc = 0 })
-    ∷ (record { params = 0; names = 0; own = false; body = stmts ((simple 2042 (member 2046 (this 2042) 0)) ∷ []); parent = None; doc = 2 }) ∷ [];
+      (record { params = 0; names = 0; own = false; body = stmts ((fun_decl 2001 (Ref.Global 4) 1) ∷ (vars 3001 ((record { site = 3005; variable = (Ref.Global 5); value = Some (list 3007 (exprs [])) }) ∷ [])) ∷ (simple 3010 (assign 3023 None (to_member 3021 (member 3011 (var 3010 (Ref.Global 4)) 1) 0) (var 3024 (Ref.Global 5)))) ∷ (simple 3026 (call 3032 (member 3027 (var 3026 (Ref.Global 5)) 2) (exprs ((lit 3033 (text (codes "x"))) ∷ [])))) ∷ (simple 3038 (call 3043 (member 3039 (var 3038 (Ref.Global 5)) 3) (exprs []))) ∷ (simple 3046 (call 3051 (var 3046 (Ref.Global 0)) (exprs ((lit 3052 (whole (pos 1))) ∷ [])))) ∷ (simple 3055 (new 3055 (var 3059 (Ref.Global 4)) (exprs []))) ∷ (simple 3063 (call 3069 (member 3064 (var 3063 (Ref.Global 5)) 2) (exprs ((lit 3070 (text (codes "x"))) ∷ [])))) ∷ []); parent = None; doc = 0 })
+      ∷ (record { params = 0; names = 0; own = false; body = stmts ((simple 2042 (member 2046 (this 2042) 0)) ∷ []); parent = None; doc = 2 }) ∷ [];
   chunks = (chunk_of [] ∷ []);
   globals = ((record { name = (codes "alert"); chunk = None; doc = 0; flat = [] }) ∷ (record { name = (codes "Object"); chunk = None; doc = 0; flat = [] }) ∷ (record { name = (codes "Math"); chunk = None; doc = 0; flat = [] }) ∷ (record { name = (codes "String"); chunk = None; doc = 0; flat = [] }) ∷ (record { name = (codes "F"); chunk = Some 0; doc = 0; flat = [] }) ∷ (record { name = (codes "a"); chunk = Some 0; doc = 0; flat = [] }) ∷ []);
   props = (prop (codes "n") ∷ kept_prop (codes "prototype") ∷ kept_prop (codes "push") ∷ kept_prop (codes "pop") ∷ []);
@@ -507,7 +504,7 @@ entered_by_read_run = refl
 abbrev elements_of_type : Program
 elements_of_type = record {
   scopes =
-    (record { params = 0; names = 0; own = false; body = stmts ((vars 1001 ((record { site = 1005; variable = (Ref.Global 4); value = Some (list 1007 (exprs ((lit 1008 (text (codes "x"))) ∷ []))) }) ∷ [])) ∷ (vars 1041 ((record { site = 1045; variable = (Ref.Global 5); value = Some (var 1047 (Ref.Global 4)) }) ∷ [])) ∷ []); parent = None; doc = 0 }) ∷ [];
+      (record { params = 0; names = 0; own = false; body = stmts ((vars 1001 ((record { site = 1005; variable = (Ref.Global 4); value = Some (list 1007 (exprs ((lit 1008 (text (codes "x"))) ∷ []))) }) ∷ [])) ∷ (vars 1041 ((record { site = 1045; variable = (Ref.Global 5); value = Some (var 1047 (Ref.Global 4)) }) ∷ [])) ∷ []); parent = None; doc = 0 }) ∷ [];
   chunks = (chunk_of [] ∷ []);
   globals = ((record { name = (codes "alert"); chunk = None; doc = 0; flat = [] }) ∷ (record { name = (codes "Object"); chunk = None; doc = 0; flat = [] }) ∷ (record { name = (codes "Math"); chunk = None; doc = 0; flat = [] }) ∷ (record { name = (codes "String"); chunk = None; doc = 0; flat = [] }) ∷ (record { name = (codes "a"); chunk = Some 0; doc = 0; flat = [] }) ∷ (record { name = (codes "b"); chunk = Some 0; doc = 1; flat = [] }) ∷ []);
   props = [];
@@ -525,8 +522,8 @@ elements_of_type_run = refl
 abbrev path_const : Program
 path_const = record {
   scopes =
-    (record { params = 0; names = 0; own = false; body = stmts ((vars 1001 ((record { site = 1005; variable = (Ref.Global 4); value = Some (object 1008 (fields [])) }) ∷ [])) ∷ (fun_decl 1011 (Ref.Global 5) 1) ∷ (simple 1037 (call 1038 (var 1037 (Ref.Global 5)) (exprs []))) ∷ (simple 1054 (assign 1058 None (to_member 1056 (var 1054 (Ref.Global 4)) 0) (lit 1059 (whole (pos 1))))) ∷ []); parent = None; doc = 0 })
-    ∷ (record { params = 0; names = 0; own = false; body = stmts ((return 1024 (Some (member 1033 (var 1031 (Ref.Global 4)) 0))) ∷ []); parent = None; doc = 0 }) ∷ [];
+      (record { params = 0; names = 0; own = false; body = stmts ((vars 1001 ((record { site = 1005; variable = (Ref.Global 4); value = Some (object 1008 (fields [])) }) ∷ [])) ∷ (fun_decl 1011 (Ref.Global 5) 1) ∷ (simple 1037 (call 1038 (var 1037 (Ref.Global 5)) (exprs []))) ∷ (simple 1054 (assign 1058 None (to_member 1056 (var 1054 (Ref.Global 4)) 0) (lit 1059 (whole (pos 1))))) ∷ []); parent = None; doc = 0 })
+      ∷ (record { params = 0; names = 0; own = false; body = stmts ((return 1024 (Some (member 1033 (var 1031 (Ref.Global 4)) 0))) ∷ []); parent = None; doc = 0 }) ∷ [];
   chunks = (chunk_of [] ∷ []);
   globals = ((record { name = (codes "alert"); chunk = None; doc = 0; flat = [] }) ∷ (record { name = (codes "Object"); chunk = None; doc = 0; flat = [] }) ∷ (record { name = (codes "Math"); chunk = None; doc = 0; flat = [] }) ∷ (record { name = (codes "String"); chunk = None; doc = 0; flat = [] }) ∷ (record { name = (codes "ns"); chunk = Some 0; doc = 0; flat = ((record { props = (0 ∷ []); doc = 1 }) ∷ []) }) ∷ (record { name = (codes "f"); chunk = Some 0; doc = 0; flat = [] }) ∷ []);
   props = (prop (codes "c") ∷ []);
@@ -544,7 +541,7 @@ path_const_run = refl
 abbrev path_type : Program
 path_type = record {
   scopes =
-    (record { params = 0; names = 0; own = false; body = stmts ((vars 1001 ((record { site = 1005; variable = (Ref.Global 4); value = Some (object 1008 (fields [])) }) ∷ [])) ∷ (simple 1032 (assign 1036 None (to_member 1034 (var 1032 (Ref.Global 4)) 0) (lit 1037 (text (codes "x"))))) ∷ []); parent = None; doc = 0 }) ∷ [];
+      (record { params = 0; names = 0; own = false; body = stmts ((vars 1001 ((record { site = 1005; variable = (Ref.Global 4); value = Some (object 1008 (fields [])) }) ∷ [])) ∷ (simple 1032 (assign 1036 None (to_member 1034 (var 1032 (Ref.Global 4)) 0) (lit 1037 (text (codes "x"))))) ∷ []); parent = None; doc = 0 }) ∷ [];
   chunks = (chunk_of [] ∷ []);
   globals = ((record { name = (codes "alert"); chunk = None; doc = 0; flat = [] }) ∷ (record { name = (codes "Object"); chunk = None; doc = 0; flat = [] }) ∷ (record { name = (codes "Math"); chunk = None; doc = 0; flat = [] }) ∷ (record { name = (codes "String"); chunk = None; doc = 0; flat = [] }) ∷ (record { name = (codes "ns"); chunk = Some 0; doc = 0; flat = ((record { props = (0 ∷ []); doc = 1 }) ∷ []) }) ∷ []);
   props = (prop (codes "c") ∷ []);

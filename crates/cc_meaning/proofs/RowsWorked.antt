@@ -1,15 +1,15 @@
 -- Programs with the reports that they were given with.
-use Rattle.std.specs.Prelude.{◌≡◌, refl, ℕ, ℤ, pos, negsuc, Bool, true, false, List, [], ◌∷◌, ◌++◌, Option, Some, None, codes}
-use Rattle.cc_ast.specs.Syntax.{Prim, undefined, null, truth, whole, text, Expr, lit, var, this, fun, list, object, unary, binary, and, or, cond, assign, step, member, index, call, new, comma, cast, tick, to_var, to_member, to_index, Declarator, no_init, init_value, init_vars, in_target, in_declared, Stmt, simple, vars, fun_decl, if, while, do_while, for, for_in, return, throw, break, continue, label, switch, try, pay_stmt, absent, present, no_cases, more_cases, Program}
-use Rattle.cc_ast.specs.declared.operator.BinOp.TheVariants.{Add, Sub, Mul, Div, Rem, BitAnd, BitXor, BitOr, Shl, Shr, UShr, Less, Greater, LessEq, GreaterEq, Equal, NotEqual, Strict, NotStrict, Instance, Has}
-use Rattle.cc_ast.specs.declared.operator.UnOp.TheVariants.{Minus, Plus, BitNot, Not, Void, Typeof, Delete}
+use Rattle.std.specs.Prelude.{◌≡◌, refl, pos, true, false, [], ◌∷◌, ◌++◌, Some, None, codes}
+use Rattle.cc_ast.specs.Syntax.{Prim, truth, whole, text, lit, var, this, fun, list, object, unary, binary, and, assign, step, member, index, call, new, to_var, to_member, to_index, in_declared, simple, vars, fun_decl, for_in, return, throw, try, absent, present, Program}
+use Rattle.cc_ast.specs.declared.operator.BinOp.TheVariants.{Add, Instance, Has}
+use Rattle.cc_ast.specs.declared.operator.UnOp.TheVariants.{Typeof}
 use Rattle.cc_ast.specs.declared.tree.Ref.{Ref}
 use Rattle.cc_ast.specs.declared.tree.Key.{Key}
-use Rattle.cc_meaning.specs.Values.{shown_prim, shown_out, handle, called, constructed, got, put, ended, threw, at_site, at_turn}
-use Rattle.cc_meaning.specs.State.{gives, throws}
+use Rattle.cc_meaning.specs.Values.{shown_prim, shown_out, handle, called, got, put, ended, at_site}
+use Rattle.cc_meaning.specs.State.{gives}
 use Rattle.cc_meaning.specs.Monad.{spent, waits, broken, strayed}
 use Rattle.cc_meaning.specs.Names.{always_kept}
-use Rattle.cc_meaning.specs.Script.{load, call as call_turn, get as get_turn, set as set_turn, run, checked, plain, finished, stopped}
+use Rattle.cc_meaning.specs.Script.{load, call as call_turn, run, checked, plain, finished, stopped}
 use Rattle.cc_meaning.proofs.Opened.{opened}
 use Rattle.cc_meaning.proofs.Trees.{exprs, fields, stmts, no_doc, chunk_of, prop, kept_prop, undef, stext}
 
@@ -17,7 +17,7 @@ use Rattle.cc_meaning.proofs.Trees.{exprs, fields, stmts, no_doc, chunk_of, prop
 abbrev greeting : Program
 greeting = record {
   scopes =
-    (record { params = 0; names = 0; own = false; body = stmts ((vars 1001 ((record { site = 1005; variable = (Ref.Global 4); value = Some (lit 1014 (text (codes "hi"))) }) ∷ [])) ∷ (simple 1019 (call 1024 (var 1019 (Ref.Global 0)) (exprs ((var 1025 (Ref.Global 4)) ∷ [])))) ∷ []); parent = None; doc = 0 }) ∷ [];
+      (record { params = 0; names = 0; own = false; body = stmts ((vars 1001 ((record { site = 1005; variable = (Ref.Global 4); value = Some (lit 1014 (text (codes "hi"))) }) ∷ [])) ∷ (simple 1019 (call 1024 (var 1019 (Ref.Global 0)) (exprs ((var 1025 (Ref.Global 4)) ∷ [])))) ∷ []); parent = None; doc = 0 }) ∷ [];
   chunks = (chunk_of [] ∷ []);
   globals = ((record { name = (codes "alert"); chunk = None; doc = 0; flat = [] }) ∷ (record { name = (codes "Object"); chunk = None; doc = 0; flat = [] }) ∷ (record { name = (codes "Math"); chunk = None; doc = 0; flat = [] }) ∷ (record { name = (codes "String"); chunk = None; doc = 0; flat = [] }) ∷ (record { name = (codes "greeting"); chunk = Some 0; doc = 0; flat = [] }) ∷ []);
   props = [];
@@ -39,7 +39,7 @@ greeting_waits = refl
 abbrev quoted_and_dotted : Program
 quoted_and_dotted = record {
   scopes =
-    (record { params = 0; names = 0; own = false; body = stmts ((vars 1001 ((record { site = 1005; variable = (Ref.Global 4); value = Some (object 1007 (fields [])) }) ∷ [])) ∷ (simple 1010 (assign 1015 None (to_member 1011 (var 1010 (Ref.Global 4)) 0) (lit 1016 (whole (pos 1))))) ∷ (simple 1018 (assign 1026 None (to_index 1019 (var 1018 (Ref.Global 4)) (lit 1020 (text (codes "foo")))) (lit 1027 (whole (pos 2))))) ∷ (simple 1029 (call 1034 (var 1029 (Ref.Global 0)) (exprs ((index 1036 (var 1035 (Ref.Global 4)) (lit 1037 (text (codes "foo")))) ∷ [])))) ∷ []); parent = None; doc = 0 }) ∷ [];
+      (record { params = 0; names = 0; own = false; body = stmts ((vars 1001 ((record { site = 1005; variable = (Ref.Global 4); value = Some (object 1007 (fields [])) }) ∷ [])) ∷ (simple 1010 (assign 1015 None (to_member 1011 (var 1010 (Ref.Global 4)) 0) (lit 1016 (whole (pos 1))))) ∷ (simple 1018 (assign 1026 None (to_index 1019 (var 1018 (Ref.Global 4)) (lit 1020 (text (codes "foo")))) (lit 1027 (whole (pos 2))))) ∷ (simple 1029 (call 1034 (var 1029 (Ref.Global 0)) (exprs ((index 1036 (var 1035 (Ref.Global 4)) (lit 1037 (text (codes "foo")))) ∷ [])))) ∷ []); parent = None; doc = 0 }) ∷ [];
   chunks = (chunk_of [] ∷ []);
   globals = ((record { name = (codes "alert"); chunk = None; doc = 0; flat = [] }) ∷ (record { name = (codes "Object"); chunk = None; doc = 0; flat = [] }) ∷ (record { name = (codes "Math"); chunk = None; doc = 0; flat = [] }) ∷ (record { name = (codes "String"); chunk = None; doc = 0; flat = [] }) ∷ (record { name = (codes "o"); chunk = Some 0; doc = 0; flat = [] }) ∷ []);
   props = (prop (codes "foo") ∷ []);
@@ -57,8 +57,8 @@ quoted_and_dotted_run = refl
 abbrev exported : Program
 exported = record {
   scopes =
-    (record { params = 0; names = 0; own = false; body = stmts ((fun_decl 1001 (Ref.Global 4) 1) ∷ (simple 1027 (assign 1038 None (to_index 1033 (var 1027 (Ref.Global 0)) (lit 1034 (text (codes "f")))) (var 1039 (Ref.Global 4)))) ∷ []); parent = None; doc = 0 })
-    ∷ (record { params = 1; names = 0; own = false; body = stmts ((return 1015 (Some (binary 1023 Add (var 1022 (Ref.Frame 0 0)) (lit 1024 (whole (pos 1)))))) ∷ []); parent = None; doc = 0 }) ∷ [];
+      (record { params = 0; names = 0; own = false; body = stmts ((fun_decl 1001 (Ref.Global 4) 1) ∷ (simple 1027 (assign 1038 None (to_index 1033 (var 1027 (Ref.Global 0)) (lit 1034 (text (codes "f")))) (var 1039 (Ref.Global 4)))) ∷ []); parent = None; doc = 0 })
+      ∷ (record { params = 1; names = 0; own = false; body = stmts ((return 1015 (Some (binary 1023 Add (var 1022 (Ref.Frame 0 0)) (lit 1024 (whole (pos 1)))))) ∷ []); parent = None; doc = 0 }) ∷ [];
   chunks = (chunk_of [] ∷ []);
   globals = ((record { name = (codes "window"); chunk = None; doc = 0; flat = [] }) ∷ (record { name = (codes "Object"); chunk = None; doc = 0; flat = [] }) ∷ (record { name = (codes "Math"); chunk = None; doc = 0; flat = [] }) ∷ (record { name = (codes "String"); chunk = None; doc = 0; flat = [] }) ∷ (record { name = (codes "f"); chunk = Some 0; doc = 0; flat = [] }) ∷ []);
   props = [];
@@ -86,12 +86,12 @@ exported_plain = refl
 abbrev draws : Program
 draws = record {
   scopes =
-    (record { params = 0; names = 0; own = false; body = stmts ((fun_decl 2001 (Ref.Global 4) 1) ∷ (simple 3001 (assign 3019 None (to_member 3014 (member 3004 (var 3001 (Ref.Global 4)) 0) 1) (fun 3020 2))) ∷ (fun_decl 5001 (Ref.Global 5) 3) ∷ (simple 6001 (assign 6019 None (to_member 6014 (member 6004 (var 6001 (Ref.Global 5)) 0) 1) (fun 6020 4))) ∷ (fun_decl 7001 (Ref.Global 6) 5) ∷ (simple 7028 (call 7032 (var 7028 (Ref.Global 6)) (exprs ((new 7033 (var 7037 (Ref.Global 4)) (exprs [])) ∷ [])))) ∷ (simple 7044 (call 7048 (var 7044 (Ref.Global 6)) (exprs ((new 7049 (var 7053 (Ref.Global 5)) (exprs [])) ∷ [])))) ∷ []); parent = None; doc = 0 })
-    ∷ (record { params = 0; names = 0; own = false; body = stmts []; parent = None; doc = 1 })
-    ∷ (record { params = 0; names = 0; own = false; body = stmts ((simple 3031 (call 3036 (var 3031 (Ref.Global 0)) (exprs ((lit 3037 (text (codes "c"))) ∷ [])))) ∷ []); parent = None; doc = 0 })
-    ∷ (record { params = 0; names = 0; own = false; body = stmts []; parent = None; doc = 2 })
-    ∷ (record { params = 0; names = 0; own = false; body = stmts ((simple 6031 (call 6036 (var 6031 (Ref.Global 0)) (exprs ((lit 6037 (text (codes "d"))) ∷ [])))) ∷ []); parent = None; doc = 0 })
-    ∷ (record { params = 1; names = 0; own = false; body = stmts ((simple 7018 (call 7024 (member 7019 (var 7018 (Ref.Frame 0 0)) 1) (exprs []))) ∷ []); parent = None; doc = 0 }) ∷ [];
+      (record { params = 0; names = 0; own = false; body = stmts ((fun_decl 2001 (Ref.Global 4) 1) ∷ (simple 3001 (assign 3019 None (to_member 3014 (member 3004 (var 3001 (Ref.Global 4)) 0) 1) (fun 3020 2))) ∷ (fun_decl 5001 (Ref.Global 5) 3) ∷ (simple 6001 (assign 6019 None (to_member 6014 (member 6004 (var 6001 (Ref.Global 5)) 0) 1) (fun 6020 4))) ∷ (fun_decl 7001 (Ref.Global 6) 5) ∷ (simple 7028 (call 7032 (var 7028 (Ref.Global 6)) (exprs ((new 7033 (var 7037 (Ref.Global 4)) (exprs [])) ∷ [])))) ∷ (simple 7044 (call 7048 (var 7044 (Ref.Global 6)) (exprs ((new 7049 (var 7053 (Ref.Global 5)) (exprs [])) ∷ [])))) ∷ []); parent = None; doc = 0 })
+      ∷ (record { params = 0; names = 0; own = false; body = stmts []; parent = None; doc = 1 })
+      ∷ (record { params = 0; names = 0; own = false; body = stmts ((simple 3031 (call 3036 (var 3031 (Ref.Global 0)) (exprs ((lit 3037 (text (codes "c"))) ∷ [])))) ∷ []); parent = None; doc = 0 })
+      ∷ (record { params = 0; names = 0; own = false; body = stmts []; parent = None; doc = 2 })
+      ∷ (record { params = 0; names = 0; own = false; body = stmts ((simple 6031 (call 6036 (var 6031 (Ref.Global 0)) (exprs ((lit 6037 (text (codes "d"))) ∷ [])))) ∷ []); parent = None; doc = 0 })
+      ∷ (record { params = 1; names = 0; own = false; body = stmts ((simple 7018 (call 7024 (member 7019 (var 7018 (Ref.Frame 0 0)) 1) (exprs []))) ∷ []); parent = None; doc = 0 }) ∷ [];
   chunks = (chunk_of [] ∷ []);
   globals = ((record { name = (codes "alert"); chunk = None; doc = 0; flat = [] }) ∷ (record { name = (codes "Object"); chunk = None; doc = 0; flat = [] }) ∷ (record { name = (codes "Math"); chunk = None; doc = 0; flat = [] }) ∷ (record { name = (codes "String"); chunk = None; doc = 0; flat = [] }) ∷ (record { name = (codes "Cat"); chunk = Some 0; doc = 0; flat = [] }) ∷ (record { name = (codes "Dog"); chunk = Some 0; doc = 0; flat = [] }) ∷ (record { name = (codes "show"); chunk = Some 0; doc = 0; flat = [] }) ∷ []);
   props = (kept_prop (codes "prototype") ∷ prop (codes "draw") ∷ []);
@@ -118,12 +118,12 @@ draws_run = refl
 abbrev prototypes : Program
 prototypes = record {
   scopes =
-    (record { params = 0; names = 0; own = false; body = stmts ((fun_decl 2001 (Ref.Global 4) 1) ∷ (simple 3001 (assign 3018 None (to_member 3015 (member 3005 (var 3001 (Ref.Global 4)) 0) 1) (fun 3019 2))) ∷ (fun_decl 5001 (Ref.Global 5) 3) ∷ (simple 6001 (assign 6014 None (to_member 6004 (var 6001 (Ref.Global 5)) 0) (call 6028 (member 6021 (var 6015 (Ref.Global 1)) 2) (exprs ((member 6033 (var 6029 (Ref.Global 4)) 0) ∷ []))))) ∷ (simple 7001 (assign 7017 None (to_member 7014 (member 7004 (var 7001 (Ref.Global 5)) 0) 1) (fun 7018 4))) ∷ (fun_decl 9001 (Ref.Global 6) 5) ∷ (simple 10001 (call 10004 (var 10001 (Ref.Global 6)) (exprs ((new 10005 (var 10009 (Ref.Global 5)) (exprs [])) ∷ [])))) ∷ []); parent = None; doc = 0 })
-    ∷ (record { params = 0; names = 0; own = false; body = stmts []; parent = None; doc = 1 })
-    ∷ (record { params = 0; names = 0; own = false; body = stmts ((simple 3030 (call 3035 (var 3030 (Ref.Global 0)) (exprs ((lit 3036 (whole (pos 1))) ∷ [])))) ∷ []); parent = None; doc = 0 })
-    ∷ (record { params = 0; names = 0; own = false; body = stmts []; parent = None; doc = 2 })
-    ∷ (record { params = 0; names = 0; own = false; body = stmts ((simple 7029 (call 7034 (var 7029 (Ref.Global 0)) (exprs ((lit 7035 (whole (pos 2))) ∷ [])))) ∷ []); parent = None; doc = 0 })
-    ∷ (record { params = 1; names = 0; own = false; body = stmts ((simple 9017 (call 9021 (member 9018 (var 9017 (Ref.Frame 0 0)) 1) (exprs []))) ∷ []); parent = None; doc = 3 }) ∷ [];
+      (record { params = 0; names = 0; own = false; body = stmts ((fun_decl 2001 (Ref.Global 4) 1) ∷ (simple 3001 (assign 3018 None (to_member 3015 (member 3005 (var 3001 (Ref.Global 4)) 0) 1) (fun 3019 2))) ∷ (fun_decl 5001 (Ref.Global 5) 3) ∷ (simple 6001 (assign 6014 None (to_member 6004 (var 6001 (Ref.Global 5)) 0) (call 6028 (member 6021 (var 6015 (Ref.Global 1)) 2) (exprs ((member 6033 (var 6029 (Ref.Global 4)) 0) ∷ []))))) ∷ (simple 7001 (assign 7017 None (to_member 7014 (member 7004 (var 7001 (Ref.Global 5)) 0) 1) (fun 7018 4))) ∷ (fun_decl 9001 (Ref.Global 6) 5) ∷ (simple 10001 (call 10004 (var 10001 (Ref.Global 6)) (exprs ((new 10005 (var 10009 (Ref.Global 5)) (exprs [])) ∷ [])))) ∷ []); parent = None; doc = 0 })
+      ∷ (record { params = 0; names = 0; own = false; body = stmts []; parent = None; doc = 1 })
+      ∷ (record { params = 0; names = 0; own = false; body = stmts ((simple 3030 (call 3035 (var 3030 (Ref.Global 0)) (exprs ((lit 3036 (whole (pos 1))) ∷ [])))) ∷ []); parent = None; doc = 0 })
+      ∷ (record { params = 0; names = 0; own = false; body = stmts []; parent = None; doc = 2 })
+      ∷ (record { params = 0; names = 0; own = false; body = stmts ((simple 7029 (call 7034 (var 7029 (Ref.Global 0)) (exprs ((lit 7035 (whole (pos 2))) ∷ [])))) ∷ []); parent = None; doc = 0 })
+      ∷ (record { params = 1; names = 0; own = false; body = stmts ((simple 9017 (call 9021 (member 9018 (var 9017 (Ref.Frame 0 0)) 1) (exprs []))) ∷ []); parent = None; doc = 3 }) ∷ [];
   chunks = (chunk_of [] ∷ []);
   globals = ((record { name = (codes "alert"); chunk = None; doc = 0; flat = [] }) ∷ (record { name = (codes "Object"); chunk = None; doc = 0; flat = [] }) ∷ (record { name = (codes "Math"); chunk = None; doc = 0; flat = [] }) ∷ (record { name = (codes "String"); chunk = None; doc = 0; flat = [] }) ∷ (record { name = (codes "Base"); chunk = Some 0; doc = 0; flat = [] }) ∷ (record { name = (codes "Sub"); chunk = Some 0; doc = 0; flat = [] }) ∷ (record { name = (codes "run"); chunk = Some 0; doc = 0; flat = [] }) ∷ []);
   props = (kept_prop (codes "prototype") ∷ prop (codes "go") ∷ kept_prop (codes "create") ∷ []);
@@ -145,8 +145,8 @@ prototypes_plain = refl
 abbrev paths : Program
 paths = record {
   scopes =
-    (record { params = 0; names = 0; own = false; body = stmts ((vars 1001 ((record { site = 1005; variable = (Ref.Global 4); value = Some (object 1008 (fields [])) }) ∷ [])) ∷ (simple 1011 (assign 1015 None (to_member 1013 (var 1011 (Ref.Global 4)) 0) (object 1016 (fields [])))) ∷ (simple 1019 (assign 1025 None (to_member 1023 (member 1021 (var 1019 (Ref.Global 4)) 0) 1) (fun 1026 1))) ∷ (simple 1049 (call 1055 (member 1053 (member 1051 (var 1049 (Ref.Global 4)) 0) 1) (exprs ((lit 1056 (whole (pos 1))) ∷ [])))) ∷ []); parent = None; doc = 0 })
-    ∷ (record { params = 1; names = 0; own = false; body = stmts ((simple 1038 (call 1043 (var 1038 (Ref.Global 0)) (exprs ((var 1044 (Ref.Frame 0 0)) ∷ [])))) ∷ []); parent = None; doc = 0 }) ∷ [];
+      (record { params = 0; names = 0; own = false; body = stmts ((vars 1001 ((record { site = 1005; variable = (Ref.Global 4); value = Some (object 1008 (fields [])) }) ∷ [])) ∷ (simple 1011 (assign 1015 None (to_member 1013 (var 1011 (Ref.Global 4)) 0) (object 1016 (fields [])))) ∷ (simple 1019 (assign 1025 None (to_member 1023 (member 1021 (var 1019 (Ref.Global 4)) 0) 1) (fun 1026 1))) ∷ (simple 1049 (call 1055 (member 1053 (member 1051 (var 1049 (Ref.Global 4)) 0) 1) (exprs ((lit 1056 (whole (pos 1))) ∷ [])))) ∷ []); parent = None; doc = 0 })
+      ∷ (record { params = 1; names = 0; own = false; body = stmts ((simple 1038 (call 1043 (var 1038 (Ref.Global 0)) (exprs ((var 1044 (Ref.Frame 0 0)) ∷ [])))) ∷ []); parent = None; doc = 0 }) ∷ [];
   chunks = (chunk_of [] ∷ []);
   globals = ((record { name = (codes "alert"); chunk = None; doc = 0; flat = [] }) ∷ (record { name = (codes "Object"); chunk = None; doc = 0; flat = [] }) ∷ (record { name = (codes "Math"); chunk = None; doc = 0; flat = [] }) ∷ (record { name = (codes "String"); chunk = None; doc = 0; flat = [] }) ∷ (record { name = (codes "ns"); chunk = Some 0; doc = 0; flat = ((record { props = (0 ∷ []); doc = 0 }) ∷ (record { props = (0 ∷ 1 ∷ []); doc = 0 }) ∷ []) }) ∷ []);
   props = (prop (codes "a") ∷ prop (codes "b") ∷ []);
@@ -168,9 +168,9 @@ paths_run = refl
 abbrev static_this : Program
 static_this = record {
   scopes =
-    (record { params = 0; names = 0; own = false; body = stmts ((fun_decl 2001 (Ref.Global 4) 1) ∷ (simple 3001 (assign 3004 None (to_member 3002 (var 3001 (Ref.Global 4)) 0) (lit 3005 (whole (pos 1))))) ∷ (simple 4001 (assign 4006 None (to_member 4002 (var 4001 (Ref.Global 4)) 1) (fun 4007 2))) ∷ (simple 5001 (call 5006 (var 5001 (Ref.Global 0)) (exprs ((call 5012 (member 5008 (var 5007 (Ref.Global 4)) 1) (exprs [])) ∷ [])))) ∷ []); parent = None; doc = 0 })
-    ∷ (record { params = 0; names = 0; own = false; body = stmts []; parent = None; doc = 1 })
-    ∷ (record { params = 0; names = 0; own = false; body = stmts ((return 4018 (Some (member 4029 (this 4025) 0))) ∷ []); parent = None; doc = 0 }) ∷ [];
+      (record { params = 0; names = 0; own = false; body = stmts ((fun_decl 2001 (Ref.Global 4) 1) ∷ (simple 3001 (assign 3004 None (to_member 3002 (var 3001 (Ref.Global 4)) 0) (lit 3005 (whole (pos 1))))) ∷ (simple 4001 (assign 4006 None (to_member 4002 (var 4001 (Ref.Global 4)) 1) (fun 4007 2))) ∷ (simple 5001 (call 5006 (var 5001 (Ref.Global 0)) (exprs ((call 5012 (member 5008 (var 5007 (Ref.Global 4)) 1) (exprs [])) ∷ [])))) ∷ []); parent = None; doc = 0 })
+      ∷ (record { params = 0; names = 0; own = false; body = stmts []; parent = None; doc = 1 })
+      ∷ (record { params = 0; names = 0; own = false; body = stmts ((return 4018 (Some (member 4029 (this 4025) 0))) ∷ []); parent = None; doc = 0 }) ∷ [];
   chunks = (chunk_of [] ∷ []);
   globals = ((record { name = (codes "alert"); chunk = None; doc = 0; flat = [] }) ∷ (record { name = (codes "Object"); chunk = None; doc = 0; flat = [] }) ∷ (record { name = (codes "Math"); chunk = None; doc = 0; flat = [] }) ∷ (record { name = (codes "String"); chunk = None; doc = 0; flat = [] }) ∷ (record { name = (codes "F"); chunk = Some 0; doc = 0; flat = ((record { props = (0 ∷ []); doc = 0 }) ∷ (record { props = (1 ∷ []); doc = 0 }) ∷ []) }) ∷ []);
   props = (prop (codes "n") ∷ prop (codes "get") ∷ []);
@@ -193,10 +193,10 @@ static_this_run = refl
 abbrev two_chunks : Program
 two_chunks = record {
   scopes =
-    (record { params = 0; names = 0; own = false; body = stmts ((fun_decl 1001 (Ref.Global 4) 3) ∷ (simple 1028 (call 1033 (var 1028 (Ref.Global 0)) (exprs ((lit 1034 (whole (pos 0))) ∷ [])))) ∷ []); parent = None; doc = 0 })
-    ∷ (record { params = 0; names = 0; own = false; body = stmts ((simple 1001 (call 1005 (var 1001 (Ref.Global 4)) (exprs ((lit 1006 (whole (pos 1))) ∷ [])))) ∷ []); parent = None; doc = 0 })
-    ∷ (record { params = 0; names = 0; own = false; body = stmts ((simple 1001 (call 1006 (var 1001 (Ref.Global 0)) (exprs ((lit 1007 (whole (pos 2))) ∷ [])))) ∷ []); parent = None; doc = 0 })
-    ∷ (record { params = 1; names = 0; own = false; body = stmts ((simple 1018 (call 1023 (var 1018 (Ref.Global 0)) (exprs ((var 1024 (Ref.Frame 0 0)) ∷ [])))) ∷ []); parent = None; doc = 0 }) ∷ [];
+      (record { params = 0; names = 0; own = false; body = stmts ((fun_decl 1001 (Ref.Global 4) 3) ∷ (simple 1028 (call 1033 (var 1028 (Ref.Global 0)) (exprs ((lit 1034 (whole (pos 0))) ∷ [])))) ∷ []); parent = None; doc = 0 })
+      ∷ (record { params = 0; names = 0; own = false; body = stmts ((simple 1001 (call 1005 (var 1001 (Ref.Global 4)) (exprs ((lit 1006 (whole (pos 1))) ∷ [])))) ∷ []); parent = None; doc = 0 })
+      ∷ (record { params = 0; names = 0; own = false; body = stmts ((simple 1001 (call 1006 (var 1001 (Ref.Global 0)) (exprs ((lit 1007 (whole (pos 2))) ∷ [])))) ∷ []); parent = None; doc = 0 })
+      ∷ (record { params = 1; names = 0; own = false; body = stmts ((simple 1018 (call 1023 (var 1018 (Ref.Global 0)) (exprs ((var 1024 (Ref.Frame 0 0)) ∷ [])))) ∷ []); parent = None; doc = 0 }) ∷ [];
   chunks = (chunk_of [] ∷ chunk_of (0 ∷ []) ∷ chunk_of (0 ∷ []) ∷ []);
   globals = ((record { name = (codes "alert"); chunk = None; doc = 0; flat = [] }) ∷ (record { name = (codes "Object"); chunk = None; doc = 0; flat = [] }) ∷ (record { name = (codes "Math"); chunk = None; doc = 0; flat = [] }) ∷ (record { name = (codes "String"); chunk = None; doc = 0; flat = [] }) ∷ (record { name = (codes "help"); chunk = Some 0; doc = 0; flat = [] }) ∷ []);
   props = [];
@@ -225,13 +225,13 @@ two_chunks_run = refl
 abbrev late_method : Program
 late_method = record {
   scopes =
-    (record { params = 0; names = 0; own = false; body = stmts ((fun_decl 2001 (Ref.Global 5) 3) ∷ (simple 3001 (assign 3015 None (to_member 3012 (member 3002 (var 3001 (Ref.Global 5)) 0) 1) (fun 3016 4))) ∷ (simple 4001 (assign 4015 None (to_member 4012 (member 4002 (var 4001 (Ref.Global 5)) 0) 2) (fun 4016 5))) ∷ (vars 6001 ((record { site = 6005; variable = (Ref.Global 6); value = Some (new 6007 (var 6011 (Ref.Global 5)) (exprs [])) }) ∷ [])) ∷ (simple 7001 (call 7005 (member 7002 (var 7001 (Ref.Global 6)) 2) (exprs []))) ∷ []); parent = None; doc = 0 })
-    ∷ (record { params = 0; names = 0; own = false; body = stmts ((simple 1001 (call 1005 (member 1002 (var 1001 (Ref.Global 6)) 1) (exprs []))) ∷ []); parent = None; doc = 0 })
-    ∷ (record { params = 0; names = 0; own = false; body = stmts ((simple 1001 (call 1007 (var 1001 (Ref.Global 1)) (exprs ((fun 1008 6) ∷ [])))) ∷ []); parent = None; doc = 0 })
-    ∷ (record { params = 0; names = 0; own = false; body = stmts []; parent = None; doc = 1 })
-    ∷ (record { params = 0; names = 0; own = false; body = stmts ((simple 3027 (call 3032 (var 3027 (Ref.Global 0)) (exprs ((lit 3033 (text (codes "hi"))) ∷ [])))) ∷ []); parent = None; doc = 0 })
-    ∷ (record { params = 0; names = 0; own = false; body = stmts ((simple 4027 (call 4032 (var 4027 (Ref.Global 0)) (exprs ((lit 4033 (text (codes "lo"))) ∷ [])))) ∷ []); parent = None; doc = 0 })
-    ∷ (record { params = 0; names = 0; own = false; body = stmts ((simple 1019 (call 1023 (member 1020 (var 1019 (Ref.Global 6)) 2) (exprs []))) ∷ []); parent = None; doc = 0 }) ∷ [];
+      (record { params = 0; names = 0; own = false; body = stmts ((fun_decl 2001 (Ref.Global 5) 3) ∷ (simple 3001 (assign 3015 None (to_member 3012 (member 3002 (var 3001 (Ref.Global 5)) 0) 1) (fun 3016 4))) ∷ (simple 4001 (assign 4015 None (to_member 4012 (member 4002 (var 4001 (Ref.Global 5)) 0) 2) (fun 4016 5))) ∷ (vars 6001 ((record { site = 6005; variable = (Ref.Global 6); value = Some (new 6007 (var 6011 (Ref.Global 5)) (exprs [])) }) ∷ [])) ∷ (simple 7001 (call 7005 (member 7002 (var 7001 (Ref.Global 6)) 2) (exprs []))) ∷ []); parent = None; doc = 0 })
+      ∷ (record { params = 0; names = 0; own = false; body = stmts ((simple 1001 (call 1005 (member 1002 (var 1001 (Ref.Global 6)) 1) (exprs []))) ∷ []); parent = None; doc = 0 })
+      ∷ (record { params = 0; names = 0; own = false; body = stmts ((simple 1001 (call 1007 (var 1001 (Ref.Global 1)) (exprs ((fun 1008 6) ∷ [])))) ∷ []); parent = None; doc = 0 })
+      ∷ (record { params = 0; names = 0; own = false; body = stmts []; parent = None; doc = 1 })
+      ∷ (record { params = 0; names = 0; own = false; body = stmts ((simple 3027 (call 3032 (var 3027 (Ref.Global 0)) (exprs ((lit 3033 (text (codes "hi"))) ∷ [])))) ∷ []); parent = None; doc = 0 })
+      ∷ (record { params = 0; names = 0; own = false; body = stmts ((simple 4027 (call 4032 (var 4027 (Ref.Global 0)) (exprs ((lit 4033 (text (codes "lo"))) ∷ [])))) ∷ []); parent = None; doc = 0 })
+      ∷ (record { params = 0; names = 0; own = false; body = stmts ((simple 1019 (call 1023 (member 1020 (var 1019 (Ref.Global 6)) 2) (exprs []))) ∷ []); parent = None; doc = 0 }) ∷ [];
   chunks = (chunk_of [] ∷ chunk_of (0 ∷ []) ∷ chunk_of (0 ∷ []) ∷ []);
   globals = ((record { name = (codes "alert"); chunk = None; doc = 0; flat = [] }) ∷ (record { name = (codes "listen"); chunk = None; doc = 0; flat = [] }) ∷ (record { name = (codes "Object"); chunk = None; doc = 0; flat = [] }) ∷ (record { name = (codes "Math"); chunk = None; doc = 0; flat = [] }) ∷ (record { name = (codes "String"); chunk = None; doc = 0; flat = [] }) ∷ (record { name = (codes "P"); chunk = Some 0; doc = 0; flat = [] }) ∷ (record { name = (codes "p"); chunk = Some 0; doc = 2; flat = [] }) ∷ []);
   props = (kept_prop (codes "prototype") ∷ prop (codes "hi") ∷ prop (codes "lo") ∷ []);
@@ -249,9 +249,9 @@ late_method_run = refl
 abbrev finally_returns : Program
 finally_returns = record {
   scopes =
-    (record { params = 0; names = 0; own = false; body = stmts ((fun_decl 1001 (Ref.Global 4) 1) ∷ (fun_decl 1046 (Ref.Global 5) 2) ∷ (simple 1071 (call 1076 (var 1071 (Ref.Global 0)) (exprs ((call 1078 (var 1077 (Ref.Global 5)) (exprs [])) ∷ [])))) ∷ []); parent = None; doc = 0 })
-    ∷ (record { params = 0; names = 0; own = false; body = stmts ((try 1014 (stmts ((throw 1018 (lit 1024 (whole (pos 1)))) ∷ [])) absent (present (stmts ((return 1035 (Some (lit 1042 (whole (pos 2))))) ∷ [])))) ∷ []); parent = None; doc = 0 })
-    ∷ (record { params = 0; names = 0; own = false; body = stmts ((return 1059 (Some (call 1067 (var 1066 (Ref.Global 4)) (exprs [])))) ∷ []); parent = None; doc = 0 }) ∷ [];
+      (record { params = 0; names = 0; own = false; body = stmts ((fun_decl 1001 (Ref.Global 4) 1) ∷ (fun_decl 1046 (Ref.Global 5) 2) ∷ (simple 1071 (call 1076 (var 1071 (Ref.Global 0)) (exprs ((call 1078 (var 1077 (Ref.Global 5)) (exprs [])) ∷ [])))) ∷ []); parent = None; doc = 0 })
+      ∷ (record { params = 0; names = 0; own = false; body = stmts ((try 1014 (stmts ((throw 1018 (lit 1024 (whole (pos 1)))) ∷ [])) absent (present (stmts ((return 1035 (Some (lit 1042 (whole (pos 2))))) ∷ [])))) ∷ []); parent = None; doc = 0 })
+      ∷ (record { params = 0; names = 0; own = false; body = stmts ((return 1059 (Some (call 1067 (var 1066 (Ref.Global 4)) (exprs [])))) ∷ []); parent = None; doc = 0 }) ∷ [];
   chunks = (chunk_of [] ∷ []);
   globals = ((record { name = (codes "alert"); chunk = None; doc = 0; flat = [] }) ∷ (record { name = (codes "Object"); chunk = None; doc = 0; flat = [] }) ∷ (record { name = (codes "Math"); chunk = None; doc = 0; flat = [] }) ∷ (record { name = (codes "String"); chunk = None; doc = 0; flat = [] }) ∷ (record { name = (codes "g"); chunk = Some 0; doc = 0; flat = [] }) ∷ (record { name = (codes "h"); chunk = Some 0; doc = 0; flat = [] }) ∷ []);
   props = [];
@@ -273,7 +273,7 @@ finally_returns_spent = refl
 abbrev greatest : Program
 greatest = record {
   scopes =
-    (record { params = 0; names = 0; own = false; body = stmts ((simple 1001 (call 1006 (var 1001 (Ref.Global 0)) (exprs ((binary 1023 Add (lit 1007 (whole (pos 9007199254740990))) (lit 1024 (whole (pos 1)))) ∷ [])))) ∷ []); parent = None; doc = 0 }) ∷ [];
+      (record { params = 0; names = 0; own = false; body = stmts ((simple 1001 (call 1006 (var 1001 (Ref.Global 0)) (exprs ((binary 1023 Add (lit 1007 (whole (pos 9007199254740990))) (lit 1024 (whole (pos 1)))) ∷ [])))) ∷ []); parent = None; doc = 0 }) ∷ [];
   chunks = (chunk_of [] ∷ []);
   globals = ((record { name = (codes "alert"); chunk = None; doc = 0; flat = [] }) ∷ (record { name = (codes "Object"); chunk = None; doc = 0; flat = [] }) ∷ (record { name = (codes "Math"); chunk = None; doc = 0; flat = [] }) ∷ (record { name = (codes "String"); chunk = None; doc = 0; flat = [] }) ∷ []);
   props = [];
@@ -291,7 +291,7 @@ greatest_run = refl
 abbrev past_greatest : Program
 past_greatest = record {
   scopes =
-    (record { params = 0; names = 0; own = false; body = stmts ((simple 1001 (call 1006 (var 1001 (Ref.Global 0)) (exprs ((binary 1023 Add (lit 1007 (whole (pos 9007199254740991))) (lit 1024 (whole (pos 1)))) ∷ [])))) ∷ []); parent = None; doc = 0 }) ∷ [];
+      (record { params = 0; names = 0; own = false; body = stmts ((simple 1001 (call 1006 (var 1001 (Ref.Global 0)) (exprs ((binary 1023 Add (lit 1007 (whole (pos 9007199254740991))) (lit 1024 (whole (pos 1)))) ∷ [])))) ∷ []); parent = None; doc = 0 }) ∷ [];
   chunks = (chunk_of [] ∷ []);
   globals = ((record { name = (codes "alert"); chunk = None; doc = 0; flat = [] }) ∷ (record { name = (codes "Object"); chunk = None; doc = 0; flat = [] }) ∷ (record { name = (codes "Math"); chunk = None; doc = 0; flat = [] }) ∷ (record { name = (codes "String"); chunk = None; doc = 0; flat = [] }) ∷ []);
   props = [];
@@ -309,8 +309,8 @@ past_greatest_run = refl
 abbrev stepped : Program
 stepped = record {
   scopes =
-    (record { params = 0; names = 0; own = false; body = stmts ((fun_decl 1001 (Ref.Global 4) 1) ∷ (vars 1023 ((record { site = 1027; variable = (Ref.Global 5); value = Some (lit 1029 (whole (pos 1))) }) ∷ (record { site = 1031; variable = (Ref.Global 6); value = Some (lit 1033 (whole (pos 2))) }) ∷ [])) ∷ (simple 1035 (var 1035 (Ref.Global 5))) ∷ (simple 1037 (step 1037 true true (to_var 1039 (Ref.Global 6)))) ∷ (simple 1041 (call 1046 (var 1041 (Ref.Global 0)) (exprs ((call 1048 (var 1047 (Ref.Global 4)) (exprs ((var 1049 (Ref.Global 6)) ∷ []))) ∷ [])))) ∷ []); parent = None; doc = 0 })
-    ∷ (record { params = 1; names = 0; own = false; body = stmts ((return 1015 None) ∷ []); parent = None; doc = 0 }) ∷ [];
+      (record { params = 0; names = 0; own = false; body = stmts ((fun_decl 1001 (Ref.Global 4) 1) ∷ (vars 1023 ((record { site = 1027; variable = (Ref.Global 5); value = Some (lit 1029 (whole (pos 1))) }) ∷ (record { site = 1031; variable = (Ref.Global 6); value = Some (lit 1033 (whole (pos 2))) }) ∷ [])) ∷ (simple 1035 (var 1035 (Ref.Global 5))) ∷ (simple 1037 (step 1037 true true (to_var 1039 (Ref.Global 6)))) ∷ (simple 1041 (call 1046 (var 1041 (Ref.Global 0)) (exprs ((call 1048 (var 1047 (Ref.Global 4)) (exprs ((var 1049 (Ref.Global 6)) ∷ []))) ∷ [])))) ∷ []); parent = None; doc = 0 })
+      ∷ (record { params = 1; names = 0; own = false; body = stmts ((return 1015 None) ∷ []); parent = None; doc = 0 }) ∷ [];
   chunks = (chunk_of [] ∷ []);
   globals = ((record { name = (codes "alert"); chunk = None; doc = 0; flat = [] }) ∷ (record { name = (codes "Object"); chunk = None; doc = 0; flat = [] }) ∷ (record { name = (codes "Math"); chunk = None; doc = 0; flat = [] }) ∷ (record { name = (codes "String"); chunk = None; doc = 0; flat = [] }) ∷ (record { name = (codes "f"); chunk = Some 0; doc = 0; flat = [] }) ∷ (record { name = (codes "a"); chunk = Some 0; doc = 0; flat = [] }) ∷ (record { name = (codes "b"); chunk = Some 0; doc = 0; flat = [] }) ∷ []);
   props = [];
@@ -328,7 +328,7 @@ stepped_run = refl
 abbrev name_order : Program
 name_order = record {
   scopes =
-    (record { params = 0; names = 0; own = false; body = stmts ((vars 1001 ((record { site = 1005; variable = (Ref.Global 4); value = Some (object 1007 (fields ((Key.Quoted (codes "2"), (lit 1012 (whole (pos 1)))) ∷ (Key.Quoted (codes "b"), (lit 1018 (whole (pos 2)))) ∷ (Key.Quoted (codes "1"), (lit 1024 (whole (pos 3)))) ∷ []))) }) ∷ [])) ∷ (for_in 1027 (in_declared (record { site = 1035; variable = (Ref.Global 5); value = None })) (var 1040 (Ref.Global 4)) (stmts ((simple 1042 (call 1047 (var 1042 (Ref.Global 0)) (exprs ((var 1048 (Ref.Global 5)) ∷ [])))) ∷ []))) ∷ []); parent = None; doc = 0 }) ∷ [];
+      (record { params = 0; names = 0; own = false; body = stmts ((vars 1001 ((record { site = 1005; variable = (Ref.Global 4); value = Some (object 1007 (fields ((Key.Quoted (codes "2"), (lit 1012 (whole (pos 1)))) ∷ (Key.Quoted (codes "b"), (lit 1018 (whole (pos 2)))) ∷ (Key.Quoted (codes "1"), (lit 1024 (whole (pos 3)))) ∷ []))) }) ∷ [])) ∷ (for_in 1027 (in_declared (record { site = 1035; variable = (Ref.Global 5); value = None })) (var 1040 (Ref.Global 4)) (stmts ((simple 1042 (call 1047 (var 1042 (Ref.Global 0)) (exprs ((var 1048 (Ref.Global 5)) ∷ [])))) ∷ []))) ∷ []); parent = None; doc = 0 }) ∷ [];
   chunks = (chunk_of [] ∷ []);
   globals = ((record { name = (codes "alert"); chunk = None; doc = 0; flat = [] }) ∷ (record { name = (codes "Object"); chunk = None; doc = 0; flat = [] }) ∷ (record { name = (codes "Math"); chunk = None; doc = 0; flat = [] }) ∷ (record { name = (codes "String"); chunk = None; doc = 0; flat = [] }) ∷ (record { name = (codes "d"); chunk = Some 0; doc = 0; flat = [] }) ∷ (record { name = (codes "k"); chunk = Some 0; doc = 0; flat = [] }) ∷ []);
   props = [];
@@ -350,7 +350,7 @@ name_order_plain = refl
 abbrev dotted_name : Program
 dotted_name = record {
   scopes =
-    (record { params = 0; names = 0; own = false; body = stmts ((vars 1001 ((record { site = 1005; variable = (Ref.Global 4); value = Some (object 1007 (fields ((Key.Dotted 0, (lit 1010 (whole (pos 1)))) ∷ []))) }) ∷ [])) ∷ (for_in 1013 (in_declared (record { site = 1021; variable = (Ref.Global 5); value = None })) (var 1026 (Ref.Global 4)) (stmts ((simple 1028 (call 1033 (var 1028 (Ref.Global 0)) (exprs ((var 1034 (Ref.Global 5)) ∷ [])))) ∷ []))) ∷ []); parent = None; doc = 0 }) ∷ [];
+      (record { params = 0; names = 0; own = false; body = stmts ((vars 1001 ((record { site = 1005; variable = (Ref.Global 4); value = Some (object 1007 (fields ((Key.Dotted 0, (lit 1010 (whole (pos 1)))) ∷ []))) }) ∷ [])) ∷ (for_in 1013 (in_declared (record { site = 1021; variable = (Ref.Global 5); value = None })) (var 1026 (Ref.Global 4)) (stmts ((simple 1028 (call 1033 (var 1028 (Ref.Global 0)) (exprs ((var 1034 (Ref.Global 5)) ∷ [])))) ∷ []))) ∷ []); parent = None; doc = 0 }) ∷ [];
   chunks = (chunk_of [] ∷ []);
   globals = ((record { name = (codes "alert"); chunk = None; doc = 0; flat = [] }) ∷ (record { name = (codes "Object"); chunk = None; doc = 0; flat = [] }) ∷ (record { name = (codes "Math"); chunk = None; doc = 0; flat = [] }) ∷ (record { name = (codes "String"); chunk = None; doc = 0; flat = [] }) ∷ (record { name = (codes "o"); chunk = Some 0; doc = 0; flat = [] }) ∷ (record { name = (codes "k"); chunk = Some 0; doc = 0; flat = [] }) ∷ []);
   props = (prop (codes "x") ∷ []);
@@ -368,7 +368,7 @@ dotted_name_run = refl
 abbrev keyed : Program
 keyed = record {
   scopes =
-    (record { params = 0; names = 0; own = false; body = stmts ((vars 1001 ((record { site = 1005; variable = (Ref.Global 4); value = Some (object 1007 (fields [])) }) ∷ [])) ∷ (simple 1010 (assign 1015 None (to_member 1011 (var 1010 (Ref.Global 4)) 0) (lit 1016 (whole (pos 1))))) ∷ (vars 1018 ((record { site = 1022; variable = (Ref.Global 5); value = Some (lit 1024 (text (codes "a"))) }) ∷ [])) ∷ (simple 1028 (call 1033 (var 1028 (Ref.Global 0)) (exprs ((index 1035 (var 1034 (Ref.Global 4)) (var 1036 (Ref.Global 5))) ∷ [])))) ∷ []); parent = None; doc = 0 }) ∷ [];
+      (record { params = 0; names = 0; own = false; body = stmts ((vars 1001 ((record { site = 1005; variable = (Ref.Global 4); value = Some (object 1007 (fields [])) }) ∷ [])) ∷ (simple 1010 (assign 1015 None (to_member 1011 (var 1010 (Ref.Global 4)) 0) (lit 1016 (whole (pos 1))))) ∷ (vars 1018 ((record { site = 1022; variable = (Ref.Global 5); value = Some (lit 1024 (text (codes "a"))) }) ∷ [])) ∷ (simple 1028 (call 1033 (var 1028 (Ref.Global 0)) (exprs ((index 1035 (var 1034 (Ref.Global 4)) (var 1036 (Ref.Global 5))) ∷ [])))) ∷ []); parent = None; doc = 0 }) ∷ [];
   chunks = (chunk_of [] ∷ []);
   globals = ((record { name = (codes "alert"); chunk = None; doc = 0; flat = [] }) ∷ (record { name = (codes "Object"); chunk = None; doc = 0; flat = [] }) ∷ (record { name = (codes "Math"); chunk = None; doc = 0; flat = [] }) ∷ (record { name = (codes "String"); chunk = None; doc = 0; flat = [] }) ∷ (record { name = (codes "o"); chunk = Some 0; doc = 0; flat = [] }) ∷ (record { name = (codes "k"); chunk = Some 0; doc = 0; flat = [] }) ∷ []);
   props = (prop (codes "foo") ∷ []);
@@ -386,7 +386,7 @@ keyed_run = refl
 abbrev value_callee : Program
 value_callee = record {
   scopes =
-    (record { params = 0; names = 0; own = false; body = stmts ((simple 1001 (call 1020 (and 1006 (lit 1002 (truth true)) (member 1015 (var 1008 (Ref.Global 0)) 0)) (exprs ((lit 1021 (whole (pos 1))) ∷ [])))) ∷ []); parent = None; doc = 0 }) ∷ [];
+      (record { params = 0; names = 0; own = false; body = stmts ((simple 1001 (call 1020 (and 1006 (lit 1002 (truth true)) (member 1015 (var 1008 (Ref.Global 0)) 0)) (exprs ((lit 1021 (whole (pos 1))) ∷ [])))) ∷ []); parent = None; doc = 0 }) ∷ [];
   chunks = (chunk_of [] ∷ []);
   globals = ((record { name = (codes "console"); chunk = None; doc = 0; flat = [] }) ∷ (record { name = (codes "Object"); chunk = None; doc = 0; flat = [] }) ∷ (record { name = (codes "Math"); chunk = None; doc = 0; flat = [] }) ∷ (record { name = (codes "String"); chunk = None; doc = 0; flat = [] }) ∷ []);
   props = (kept_prop (codes "log") ∷ []);
@@ -408,8 +408,8 @@ value_callee_plain = refl
 abbrev three_operators : Program
 three_operators = record {
   scopes =
-    (record { params = 0; names = 0; own = false; body = stmts ((fun_decl 1001 (Ref.Global 4) 1) ∷ (vars 1015 ((record { site = 1019; variable = (Ref.Global 5); value = Some (object 1021 (fields ((Key.Quoted (codes "x"), (lit 1026 (whole (pos 1)))) ∷ []))) }) ∷ [])) ∷ (simple 1029 (call 1034 (var 1029 (Ref.Global 0)) (exprs ((binary 1039 Has (lit 1035 (text (codes "x"))) (var 1042 (Ref.Global 5))) ∷ [])))) ∷ (simple 1045 (call 1050 (var 1045 (Ref.Global 0)) (exprs ((unary 1051 Typeof (var 1058 (Ref.Global 5))) ∷ [])))) ∷ (simple 1061 (call 1066 (var 1061 (Ref.Global 0)) (exprs ((binary 1069 Instance (var 1067 (Ref.Global 5)) (var 1080 (Ref.Global 4))) ∷ [])))) ∷ []); parent = None; doc = 0 })
-    ∷ (record { params = 0; names = 0; own = false; body = stmts []; parent = None; doc = 0 }) ∷ [];
+      (record { params = 0; names = 0; own = false; body = stmts ((fun_decl 1001 (Ref.Global 4) 1) ∷ (vars 1015 ((record { site = 1019; variable = (Ref.Global 5); value = Some (object 1021 (fields ((Key.Quoted (codes "x"), (lit 1026 (whole (pos 1)))) ∷ []))) }) ∷ [])) ∷ (simple 1029 (call 1034 (var 1029 (Ref.Global 0)) (exprs ((binary 1039 Has (lit 1035 (text (codes "x"))) (var 1042 (Ref.Global 5))) ∷ [])))) ∷ (simple 1045 (call 1050 (var 1045 (Ref.Global 0)) (exprs ((unary 1051 Typeof (var 1058 (Ref.Global 5))) ∷ [])))) ∷ (simple 1061 (call 1066 (var 1061 (Ref.Global 0)) (exprs ((binary 1069 Instance (var 1067 (Ref.Global 5)) (var 1080 (Ref.Global 4))) ∷ [])))) ∷ []); parent = None; doc = 0 })
+      ∷ (record { params = 0; names = 0; own = false; body = stmts []; parent = None; doc = 0 }) ∷ [];
   chunks = (chunk_of [] ∷ []);
   globals = ((record { name = (codes "alert"); chunk = None; doc = 0; flat = [] }) ∷ (record { name = (codes "Object"); chunk = None; doc = 0; flat = [] }) ∷ (record { name = (codes "Math"); chunk = None; doc = 0; flat = [] }) ∷ (record { name = (codes "String"); chunk = None; doc = 0; flat = [] }) ∷ (record { name = (codes "F"); chunk = Some 0; doc = 0; flat = [] }) ∷ (record { name = (codes "o"); chunk = Some 0; doc = 0; flat = [] }) ∷ []);
   props = [];
@@ -427,7 +427,7 @@ three_operators_run = refl
 abbrev type_of_number : Program
 type_of_number = record {
   scopes =
-    (record { params = 0; names = 0; own = false; body = stmts ((simple 1001 (call 1006 (var 1001 (Ref.Global 0)) (exprs ((unary 1007 Typeof (lit 1014 (whole (pos 1)))) ∷ [])))) ∷ []); parent = None; doc = 0 }) ∷ [];
+      (record { params = 0; names = 0; own = false; body = stmts ((simple 1001 (call 1006 (var 1001 (Ref.Global 0)) (exprs ((unary 1007 Typeof (lit 1014 (whole (pos 1)))) ∷ [])))) ∷ []); parent = None; doc = 0 }) ∷ [];
   chunks = (chunk_of [] ∷ []);
   globals = ((record { name = (codes "alert"); chunk = None; doc = 0; flat = [] }) ∷ (record { name = (codes "Object"); chunk = None; doc = 0; flat = [] }) ∷ (record { name = (codes "Math"); chunk = None; doc = 0; flat = [] }) ∷ (record { name = (codes "String"); chunk = None; doc = 0; flat = [] }) ∷ []);
   props = [];
@@ -445,8 +445,8 @@ type_of_number_run = refl
 abbrev calls_back : Program
 calls_back = record {
   scopes =
-    (record { params = 0; names = 0; own = false; body = stmts ((vars 1001 ((record { site = 1005; variable = (Ref.Global 5); value = Some (lit 1007 (whole (pos 0))) }) ∷ [])) ∷ (simple 1009 (call 1011 (var 1009 (Ref.Global 1)) (exprs ((fun 1012 1) ∷ [])))) ∷ (simple 1032 (call 1037 (var 1032 (Ref.Global 0)) (exprs ((var 1038 (Ref.Global 5)) ∷ [])))) ∷ []); parent = None; doc = 0 })
-    ∷ (record { params = 0; names = 0; own = false; body = stmts ((simple 1023 (assign 1024 None (to_var 1023 (Ref.Global 5)) (binary 1026 Add (var 1025 (Ref.Global 5)) (lit 1027 (whole (pos 1)))))) ∷ []); parent = None; doc = 0 }) ∷ [];
+      (record { params = 0; names = 0; own = false; body = stmts ((vars 1001 ((record { site = 1005; variable = (Ref.Global 5); value = Some (lit 1007 (whole (pos 0))) }) ∷ [])) ∷ (simple 1009 (call 1011 (var 1009 (Ref.Global 1)) (exprs ((fun 1012 1) ∷ [])))) ∷ (simple 1032 (call 1037 (var 1032 (Ref.Global 0)) (exprs ((var 1038 (Ref.Global 5)) ∷ [])))) ∷ []); parent = None; doc = 0 })
+      ∷ (record { params = 0; names = 0; own = false; body = stmts ((simple 1023 (assign 1024 None (to_var 1023 (Ref.Global 5)) (binary 1026 Add (var 1025 (Ref.Global 5)) (lit 1027 (whole (pos 1)))))) ∷ []); parent = None; doc = 0 }) ∷ [];
   chunks = (chunk_of [] ∷ []);
   globals = ((record { name = (codes "alert"); chunk = None; doc = 0; flat = [] }) ∷ (record { name = (codes "on"); chunk = None; doc = 0; flat = [] }) ∷ (record { name = (codes "Object"); chunk = None; doc = 0; flat = [] }) ∷ (record { name = (codes "Math"); chunk = None; doc = 0; flat = [] }) ∷ (record { name = (codes "String"); chunk = None; doc = 0; flat = [] }) ∷ (record { name = (codes "n"); chunk = Some 0; doc = 0; flat = [] }) ∷ []);
   props = [];
@@ -472,7 +472,7 @@ calls_back_not_given_plain = refl
 abbrev element_type : Program
 element_type = record {
   scopes =
-    (record { params = 0; names = 0; own = false; body = stmts ((vars 1029 ((record { site = 1033; variable = (Ref.Global 4); value = Some (list 1035 (exprs ((lit 1036 (whole (pos 1))) ∷ []))) }) ∷ [])) ∷ (simple 1039 (assign 1043 None (to_index 1040 (var 1039 (Ref.Global 4)) (lit 1041 (whole (pos 1)))) (lit 1044 (text (codes "x"))))) ∷ []); parent = None; doc = 0 }) ∷ [];
+      (record { params = 0; names = 0; own = false; body = stmts ((vars 1029 ((record { site = 1033; variable = (Ref.Global 4); value = Some (list 1035 (exprs ((lit 1036 (whole (pos 1))) ∷ []))) }) ∷ [])) ∷ (simple 1039 (assign 1043 None (to_index 1040 (var 1039 (Ref.Global 4)) (lit 1041 (whole (pos 1)))) (lit 1044 (text (codes "x"))))) ∷ []); parent = None; doc = 0 }) ∷ [];
   chunks = (chunk_of [] ∷ []);
   globals = ((record { name = (codes "alert"); chunk = None; doc = 0; flat = [] }) ∷ (record { name = (codes "Object"); chunk = None; doc = 0; flat = [] }) ∷ (record { name = (codes "Math"); chunk = None; doc = 0; flat = [] }) ∷ (record { name = (codes "String"); chunk = None; doc = 0; flat = [] }) ∷ (record { name = (codes "a"); chunk = Some 0; doc = 1; flat = [] }) ∷ []);
   props = [];
@@ -502,11 +502,11 @@ element_type_plain = refl
 abbrev cats : Program
 cats = record {
   scopes =
-    (record { params = 0; names = 0; own = false; body = stmts ((fun_decl 2001 (Ref.Global 4) 1) ∷ (simple 3001 (assign 3019 None (to_member 3014 (member 3004 (var 3001 (Ref.Global 4)) 0) 1) (fun 3020 2))) ∷ (fun_decl 5001 (Ref.Global 5) 3) ∷ (simple 6001 (assign 6019 None (to_member 6014 (member 6004 (var 6001 (Ref.Global 5)) 0) 1) (fun 6020 4))) ∷ (vars 8001 ((record { site = 8005; variable = (Ref.Global 6); value = Some (list 8010 (exprs ((new 8011 (var 8015 (Ref.Global 4)) (exprs [])) ∷ []))) }) ∷ [])) ∷ (simple 9001 (call 9013 (member 9008 (index 9005 (var 9001 (Ref.Global 6)) (lit 9006 (whole (pos 0)))) 1) (exprs []))) ∷ (simple 9016 (call 9030 (member 9025 (new 9016 (var 9020 (Ref.Global 5)) (exprs [])) 1) (exprs []))) ∷ []); parent = None; doc = 0 })
-    ∷ (record { params = 0; names = 0; own = false; body = stmts []; parent = None; doc = 1 })
-    ∷ (record { params = 0; names = 0; own = false; body = stmts ((simple 3031 (call 3036 (var 3031 (Ref.Global 0)) (exprs ((lit 3037 (text (codes "c"))) ∷ [])))) ∷ []); parent = None; doc = 0 })
-    ∷ (record { params = 0; names = 0; own = false; body = stmts []; parent = None; doc = 2 })
-    ∷ (record { params = 0; names = 0; own = false; body = stmts ((simple 6031 (call 6036 (var 6031 (Ref.Global 0)) (exprs ((lit 6037 (text (codes "d"))) ∷ [])))) ∷ []); parent = None; doc = 0 }) ∷ [];
+      (record { params = 0; names = 0; own = false; body = stmts ((fun_decl 2001 (Ref.Global 4) 1) ∷ (simple 3001 (assign 3019 None (to_member 3014 (member 3004 (var 3001 (Ref.Global 4)) 0) 1) (fun 3020 2))) ∷ (fun_decl 5001 (Ref.Global 5) 3) ∷ (simple 6001 (assign 6019 None (to_member 6014 (member 6004 (var 6001 (Ref.Global 5)) 0) 1) (fun 6020 4))) ∷ (vars 8001 ((record { site = 8005; variable = (Ref.Global 6); value = Some (list 8010 (exprs ((new 8011 (var 8015 (Ref.Global 4)) (exprs [])) ∷ []))) }) ∷ [])) ∷ (simple 9001 (call 9013 (member 9008 (index 9005 (var 9001 (Ref.Global 6)) (lit 9006 (whole (pos 0)))) 1) (exprs []))) ∷ (simple 9016 (call 9030 (member 9025 (new 9016 (var 9020 (Ref.Global 5)) (exprs [])) 1) (exprs []))) ∷ []); parent = None; doc = 0 })
+      ∷ (record { params = 0; names = 0; own = false; body = stmts []; parent = None; doc = 1 })
+      ∷ (record { params = 0; names = 0; own = false; body = stmts ((simple 3031 (call 3036 (var 3031 (Ref.Global 0)) (exprs ((lit 3037 (text (codes "c"))) ∷ [])))) ∷ []); parent = None; doc = 0 })
+      ∷ (record { params = 0; names = 0; own = false; body = stmts []; parent = None; doc = 2 })
+      ∷ (record { params = 0; names = 0; own = false; body = stmts ((simple 6031 (call 6036 (var 6031 (Ref.Global 0)) (exprs ((lit 6037 (text (codes "d"))) ∷ [])))) ∷ []); parent = None; doc = 0 }) ∷ [];
   chunks = (chunk_of [] ∷ []);
   globals = ((record { name = (codes "alert"); chunk = None; doc = 0; flat = [] }) ∷ (record { name = (codes "Object"); chunk = None; doc = 0; flat = [] }) ∷ (record { name = (codes "Math"); chunk = None; doc = 0; flat = [] }) ∷ (record { name = (codes "String"); chunk = None; doc = 0; flat = [] }) ∷ (record { name = (codes "Cat"); chunk = Some 0; doc = 0; flat = [] }) ∷ (record { name = (codes "Dog"); chunk = Some 0; doc = 0; flat = [] }) ∷ (record { name = (codes "cats"); chunk = Some 0; doc = 3; flat = [] }) ∷ []);
   props = (kept_prop (codes "prototype") ∷ prop (codes "draw") ∷ []);

@@ -1,18 +1,16 @@
 -- Small trees, programs, scripts and reports for the rows.
-use Rattle.std.specs.Prelude.{ℕ, ℤ, pos, Bool, true, false, List, [], ◌∷◌, ◌++◌, map, Option, Some, None, codes}
-use Rattle.cc_ast.specs.Syntax.{Prim, undefined, null, truth, whole, text, Expr, lit, var, this, fun, list, object, unary, binary, and, or, cond, assign, step, member, index, call, new, comma, cast, tick, Target, to_var, to_member, to_index, Exprs, no_exprs, more_exprs, Fields, no_fields, more_fields, Declarator, Stmt, simple, vars, fun_decl, Stmts, no_stmts, more_stmts, Scope, Program}
+use Rattle.std.specs.Prelude.{ℕ, pos, true, false, List, [], ◌∷◌, ◌++◌, map, Option, Some, None, codes}
+use Rattle.cc_ast.specs.Syntax.{Prim, undefined, whole, text, Expr, lit, var, assign, call, to_var, to_member, to_index, Exprs, no_exprs, more_exprs, Fields, no_fields, more_fields, Stmt, simple, vars, Stmts, no_stmts, more_stmts, Scope, Program}
 use Rattle.cc_ast.specs.declared.tree.Ref.{Ref}
 use Rattle.cc_ast.specs.declared.tree.Key.{Key}
 use Rattle.cc_ast.specs.declared.tables.ChunkInfo.{ChunkInfo}
-use Rattle.cc_ast.specs.declared.tables.ChunkName.{ChunkName}
 use Rattle.cc_ast.specs.declared.tables.GlobalInfo.{GlobalInfo}
 use Rattle.cc_ast.specs.declared.tables.PropInfo.{PropInfo}
-use Rattle.cc_ast.specs.declared.tables.Class.{Class}
 use Rattle.cc_ast.specs.declared.tables.SiteDoc.{SiteDoc}
-use Rattle.cc_meaning.specs.Values.{Val, View, shown_prim, shown_out, handle, Event, called, constructed, got, put, ended, threw, Spot, at_site, at_turn}
-use Rattle.cc_meaning.specs.State.{Inner, Answer, gives, throws, Reply}
+use Rattle.cc_meaning.specs.Values.{View, shown_prim, shown_out, Event, called, ended}
+use Rattle.cc_meaning.specs.State.{gives, throws, Reply}
 use Rattle.cc_meaning.specs.Names.{always_kept}
-use Rattle.cc_meaning.specs.Script.{Turn, load, Script}
+use Rattle.cc_meaning.specs.Script.{load, Script}
 
 abbrev pub num : ℕ → Expr
 num n = lit 0 (whole (pos n))

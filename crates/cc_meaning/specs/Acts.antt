@@ -1,7 +1,7 @@
 -- What a run does to the store: each act is judged, and then it happens. The two make one step.
-use Rattle.std.specs.Prelude.{ℕ, zero, suc, ◌+◌, Bool, true, false, not, ◌&&◌, ◌||◌, nat_eq, nat_lt, nat_le, is_some, List, [], ◌∷◌, ◌++◌, length, map, slice_get, slice_set, Option, Some, None, codes}
+use Rattle.std.specs.Prelude.{ℕ, suc, Bool, true, false, not, ◌&&◌, nat_eq, nat_lt, nat_le, is_some, List, [], ◌∷◌, ◌++◌, length, slice_get, slice_set, Option, Some, None, codes}
 use Rattle.std.specs.List.{list_any}
-use Rattle.cc_ast.specs.Syntax.{Prim, undefined, null, truth, whole, text}
+use Rattle.cc_ast.specs.Syntax.{Prim, undefined, truth, text}
 use Rattle.cc_ast.specs.declared.operator.BinOp.{BinOp}
 use Rattle.cc_ast.specs.declared.operator.BinOp.TheVariants.{Instance, Has}
 use Rattle.cc_ast.specs.declared.operator.UnOp.{UnOp}
@@ -9,17 +9,17 @@ use Rattle.cc_ast.specs.declared.operator.UnOp.TheVariants.{Typeof}
 use Rattle.cc_ast.specs.declared.tree.Ref.{Ref}
 use Rattle.cc_ast.specs.declared.tables.TypeSet.{TypeSet}
 use Rattle.cc_ast.specs.declared.tables.Element.{Element}
-use Rattle.cc_meaning.specs.Values.{Val, prim, obj, out, View, shown_prim, shown_out, handle, Spot, at_site}
+use Rattle.cc_meaning.specs.Values.{Val, prim, obj, out, View, shown_prim, shown_out, handle, Spot}
 use Rattle.cc_meaning.specs.Operators.{Outcome, gives, breaks, key_text, binary_of, unary_of}
-use Rattle.cc_meaning.specs.Names.{name_prototype, name_length, name_proto}
-use Rattle.cc_meaning.specs.Builtins.{ArrayChange, ArrayAnswer, answers, answers_array, or_undefined}
-use Rattle.cc_meaning.specs.State.{Kind, kept_kind, Slot, Code, Obj, bare, FrameKind, of_call, of_catch, of_own_name, Frame, Env, Head, Tables, Reply, State}
-use Rattle.cc_meaning.specs.Monad.{Said, told, End, waits, M, ret, skip, stop, raise, ◌>>=◌, with_tables, pick, Mode}
-use Rattle.cc_meaning.specs.Store.{Access, dotted, quoted, runtime, name_of, kind_for, kind_by, Global, extern, built_in, of_chunk, global_kind, Use, Found, found_value, found_use, nothing_found, look_up, has_name, value_found, chain_of, chain_in, names_on, put_own, drop_slot, change, frame_up, frame_at, flat_option, fitted, class_of_function}
-use Rattle.cc_meaning.specs.Typed.{Variable, global, local, flat, variable_type, function_doc, params_in, result_in, value_in, doc_at, field_types, entered_in}
+use Rattle.cc_meaning.specs.Names.{name_prototype}
+use Rattle.cc_meaning.specs.Builtins.{or_undefined}
+use Rattle.cc_meaning.specs.State.{Kind, kept_kind, Code, Obj, bare, FrameKind, of_call, of_catch, of_own_name, Frame, Env, Head, Reply, State}
+use Rattle.cc_meaning.specs.Monad.{waits, M, ret, skip, stop, ◌>>=◌, with_tables, pick, Mode}
+use Rattle.cc_meaning.specs.Store.{Access, runtime, name_of, kind_for, Global, extern, built_in, of_chunk, global_kind, look_up, has_name, value_found, chain_of, chain_in, names_on, put_own, drop_slot, change, frame_up, frame_at, flat_option, class_of_function}
+use Rattle.cc_meaning.specs.Typed.{Variable, global, local, variable_type, value_in, doc_at, entered_in}
 use Rattle.cc_meaning.specs.SlotRules.{fields_reached}
 use Rattle.cc_meaning.specs.Rules.{unary_op, binary_op, prototype_at}
-use Rattle.cc_meaning.specs.Judge.{Act, operates, reads, writes, removes, probes, walks, calls, enters, leaves, takes, keeps, reads_this, casts, hosts, calls_inner, answers_with, least_broken}
+use Rattle.cc_meaning.specs.Judge.{Act, operates, reads, writes, removes, probes, walks, takes, keeps, reads_this, casts, hosts, calls_inner, answers_with, least_broken}
 
 -- ---- judging
 

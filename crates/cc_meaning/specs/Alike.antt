@@ -2,8 +2,8 @@
 -- functions, globals, properties and places; up to sites, annotations, casts and price marks; and
 -- where minus of a positive whole number counts as the negative one, and `void 0` as undefined.
 -- Alike programs have equal plain runs.
-use Rattle.std.specs.Prelude.{◌≡◌, ℕ, suc, ℤ, pos, negsuc, Bool, true, false, IsTrue, List, [], ◌∷◌, slice_get, Option, Some, None}
-use Rattle.cc_ast.specs.Syntax.{Prim, undefined, null, truth, whole, text, Expr, lit, var, this, fun, list, object, unary, binary, and, or, cond, assign, step, member, index, call, new, comma, cast, tick, Target, to_var, to_member, to_index, Exprs, no_exprs, more_exprs, Fields, no_fields, more_fields, Declarator, ForInit, no_init, init_value, init_vars, ForTarget, in_target, in_declared, Stmt, simple, vars, fun_decl, if, while, do_while, for, for_in, return, throw, break, continue, label, switch, try, pay_stmt, Stmts, no_stmts, more_stmts, MaybeStmts, absent, present, Cases, no_cases, more_cases, Program}
+use Rattle.std.specs.Prelude.{◌≡◌, ℕ, suc, pos, negsuc, Bool, true, false, IsTrue, List, [], ◌∷◌, slice_get, Option, Some, None}
+use Rattle.cc_ast.specs.Syntax.{Prim, undefined, whole, Expr, lit, var, this, fun, list, object, unary, binary, and, or, cond, assign, step, member, index, call, new, comma, cast, tick, Target, to_var, to_member, to_index, Exprs, no_exprs, more_exprs, Fields, no_fields, more_fields, Declarator, ForInit, no_init, init_value, init_vars, ForTarget, in_target, in_declared, Stmt, simple, vars, fun_decl, if, while, do_while, for, for_in, return, throw, break, continue, label, switch, try, pay_stmt, Stmts, no_stmts, more_stmts, MaybeStmts, absent, present, Cases, no_cases, more_cases, Program}
 use Rattle.cc_ast.specs.declared.operator.BinOp.{BinOp}
 use Rattle.cc_ast.specs.declared.operator.UnOp.{UnOp}
 use Rattle.cc_ast.specs.declared.operator.UnOp.TheVariants.{Minus, Void}
@@ -11,8 +11,8 @@ use Rattle.cc_ast.specs.declared.tree.Ref.{Ref}
 use Rattle.cc_ast.specs.declared.tree.Key.{Key}
 use Rattle.cc_meaning.specs.Values.{Val}
 use Rattle.cc_meaning.specs.Operators.{is_exact}
-use Rattle.cc_meaning.specs.State.{Head, Tables}
-use Rattle.cc_meaning.specs.Store.{dotted, name_of, Global, extern, global_kind, fitted}
+use Rattle.cc_meaning.specs.State.{Tables}
+use Rattle.cc_meaning.specs.Store.{dotted, name_of, extern, global_kind, fitted}
 use Rattle.cc_meaning.specs.Acts.{has_own_name}
 use Rattle.cc_meaning.specs.Shapes.{tables_of, body_of}
 use Rattle.cc_meaning.specs.Meaning.{head_in}

@@ -1,9 +1,9 @@
 -- Uses of what is built in, on a store (ECMA-262 5.1, 15): what they come to, and what they break.
-use Rattle.std.specs.Prelude.{ℕ, ◌∷◌, Bool, true, false, not, ◌||◌, List, [], ◌++◌, slice_get, Option, Some, None}
-use Rattle.cc_ast.specs.Syntax.{Prim, undefined, null, truth, whole, text}
+use Rattle.std.specs.Prelude.{ℕ, ◌∷◌, Bool, true, false, List, [], slice_get, Option, Some, None}
+use Rattle.cc_ast.specs.Syntax.{Prim, null, text}
 use Rattle.cc_meaning.specs.Values.{Val, prim, obj, out}
 use Rattle.cc_meaning.specs.Operators.{Outcome, gives, breaks}
-use Rattle.cc_meaning.specs.Builtins.{ArrayUse, array_push, array_unshift, array_pop, array_shift, array_slice, array_concat, array_join, array_index_of, Arg, value_arg, list_arg, ArrayResult, changes, array_breaks, ArrayChange, ArrayAnswer, answers, answers_array, array_use, concat_use, text_use, math_use, string_use, from_char_codes}
+use Rattle.cc_meaning.specs.Builtins.{ArrayUse, array_push, array_unshift, array_concat, Arg, value_arg, list_arg, ArrayResult, changes, array_breaks, ArrayChange, array_use, concat_use, text_use, math_use, string_use, from_char_codes}
 use Rattle.cc_meaning.specs.State.{Code, Obj, Tables, State}
 use Rattle.cc_meaning.specs.Store.{Use, of_array, of_text, of_math, string_of_value, from_codes, create_object, has_own, call_with}
 use Rattle.cc_meaning.specs.Typed.{of_all_elements, elements_in, present}

@@ -1,21 +1,20 @@
 -- References, calls, and what goes to the outside (ECMA-262 5.1, 8.7, 11.2 and 13.2).
-use Rattle.std.specs.Prelude.{ℕ, zero, suc, ℤ, pos, Bool, true, false, not, ◌&&◌, nat_eq, List, [], ◌∷◌, ◌++◌, length, slice_get, Option, Some, None, is_some}
-use Rattle.cc_ast.specs.Syntax.{Prim, undefined, null, truth, whole, text}
+use Rattle.std.specs.Prelude.{ℕ, pos, Bool, true, false, nat_eq, List, [], ◌∷◌, ◌++◌, length, slice_get, Option, Some, None, is_some}
+use Rattle.cc_ast.specs.Syntax.{Prim, undefined, truth, whole, text}
 use Rattle.cc_ast.specs.declared.operator.UnOp.{UnOp}
 use Rattle.cc_ast.specs.declared.operator.UnOp.TheVariants.{Delete}
-use Rattle.cc_ast.specs.declared.tree.Ref.{Ref}
-use Rattle.cc_meaning.specs.Values.{Val, prim, obj, out, View, shown_prim, shown_out, handle, Event, called, constructed, got, put, ended, threw, Spot, at_site}
+use Rattle.cc_meaning.specs.Values.{Val, prim, obj, out, View, shown_out, handle, called, constructed, got, put, ended, threw, Spot, at_site}
 use Rattle.cc_meaning.specs.Operators.{list_eq}
 use Rattle.cc_meaning.specs.Names.{name_length, name_create, name_fromCharCode}
-use Rattle.cc_meaning.specs.Builtins.{ArrayChange, ArrayAnswer, answers, answers_array, TextUse, text_method, MathUse, math_method}
-use Rattle.cc_meaning.specs.State.{Kind, Code, Obj, Env, Tables, Inner, Answer, gives, throws, Reply, State}
+use Rattle.cc_meaning.specs.Builtins.{ArrayAnswer, answers, answers_array, TextUse, text_method, MathUse, math_method}
+use Rattle.cc_meaning.specs.State.{Kind, Code, Obj, Env, Inner, Answer, gives, throws, State}
 use Rattle.cc_meaning.specs.Monad.{told, M, ret, skip, raise, stop, say, ◌>>=◌, Way, went, thrown, attempt, pay, with_tables, pick, Mode}
-use Rattle.cc_meaning.specs.Store.{Access, dotted, quoted, runtime, name_of, kind_by, Built, object_global, math_global, string_global, Global, extern, built_in, of_chunk, global_kind, Use, of_array, of_text, of_math, string_of_value, from_codes, create_object, has_own, call_with, Found, found_value, found_use, nothing_found, look_up, own_value, change}
-use Rattle.cc_meaning.specs.Typed.{Variable, flat, params_in, result_in, function_doc}
-use Rattle.cc_meaning.specs.Rules.{Op, built_op, is_prim}
-use Rattle.cc_meaning.specs.Judge.{Act, operates, reads, writes, probes, calls, enters, leaves, takes, calls_inner, answers_with}
+use Rattle.cc_meaning.specs.Store.{Access, runtime, name_of, kind_by, Built, object_global, math_global, string_global, Use, of_text, of_math, string_of_value, from_codes, create_object, Found, found_value, found_use, nothing_found, look_up, own_value, change}
+use Rattle.cc_meaning.specs.Typed.{flat, params_in, result_in, function_doc}
+use Rattle.cc_meaning.specs.Rules.{built_op, is_prim}
+use Rattle.cc_meaning.specs.Judge.{operates, reads, writes, probes, calls, enters, leaves, takes, calls_inner, answers_with}
 use Rattle.cc_meaning.specs.Built.{BuiltOutcome, built_value, built_change, built_object, built_question, built_call, built_breaks, outcome_of}
-use Rattle.cc_meaning.specs.Acts.{judged, reading, changing, receive, receive_each, make_array, make_from, make_instance, keep, read_var, write_var, read_slot, write_slot, remove, is_there, operate_one, cast_to, show, show_all, show_receiver, next_reply, all_given, was_given, object_at, viewed}
+use Rattle.cc_meaning.specs.Acts.{judged, reading, changing, receive, receive_each, make_array, make_from, make_instance, keep, read_slot, write_slot, remove, is_there, operate_one, cast_to, show, show_all, show_receiver, next_reply, all_given, was_given, viewed}
 
 -- ---- what an expression reaches (8.7)
 

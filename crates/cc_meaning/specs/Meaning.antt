@@ -1,20 +1,19 @@
 -- What a program does: an equation for each expression and each statement (ECMA-262 5.1, 11 to 13).
 -- Calls go to the bodies of functions at a lesser depth, and loops take their count from the budget.
-use Rattle.std.specs.Prelude.{ℕ, zero, suc, ℤ, pos, Bool, true, false, List, [], ◌∷◌, ◌++◌, slice_get, Option, Some, None}
+use Rattle.std.specs.Prelude.{ℕ, zero, suc, pos, Bool, true, false, List, [], ◌∷◌, slice_get, Option, Some, None}
 use Rattle.cc_ast.specs.Syntax.{Prim, undefined, text, whole, Expr, lit, var, this, fun, list, object, unary, binary, and, or, cond, assign, step, member, index, call, new, comma, cast, tick, Target, to_var, to_member, to_index, Exprs, no_exprs, more_exprs, Fields, no_fields, more_fields, Declarator, ForInit, no_init, init_value, init_vars, ForTarget, in_target, in_declared, Stmt, simple, vars, fun_decl, if, while, do_while, for, for_in, return, throw, break, continue, label, switch, try, pay_stmt, Stmts, no_stmts, more_stmts, MaybeStmts, absent, present, Cases, no_cases, more_cases, Program}
 use Rattle.cc_ast.specs.declared.operator.BinOp.{BinOp}
 use Rattle.cc_ast.specs.declared.operator.BinOp.TheVariants.{Add, Sub}
 use Rattle.cc_ast.specs.declared.operator.UnOp.TheVariants.{Plus}
 use Rattle.cc_ast.specs.declared.tree.Ref.{Ref}
-use Rattle.cc_ast.specs.declared.tree.Key.{Key}
-use Rattle.cc_meaning.specs.Values.{Val, prim, obj, out, Spot, at_site}
+use Rattle.cc_meaning.specs.Values.{Val, prim, at_site}
 use Rattle.cc_meaning.specs.Operators.{truthy, strict_equal, list_eq, is_in}
-use Rattle.cc_meaning.specs.State.{FrameKind, of_call, of_catch, Code, Env, Head, Path, Tables}
+use Rattle.cc_meaning.specs.State.{of_call, of_catch, Code, Env, Head, Path}
 use Rattle.cc_meaning.specs.Monad.{M, ret, skip, raise, stop, spent, ◌>>=◌, Way, went, thrown, attempt, pay, with_budget, with_tables, pick, Mode}
-use Rattle.cc_meaning.specs.Store.{Access, dotted, quoted, name_of, kind_by, Built, Global, extern, built_in, of_chunk, global_kind, flat_of, fitted}
+use Rattle.cc_meaning.specs.Store.{Access, dotted, quoted, name_of, kind_by, Global, extern, built_in, of_chunk, global_kind, flat_of, fitted}
 use Rattle.cc_meaning.specs.Acts.{make_object, make_array, make_function, push_frame, read_var, write_var, read_this, probe, walk, operate, operate_one, runtime_key}
 use Rattle.cc_meaning.specs.Shapes.{site_of, literal_text, literal_key, longer, path_of, path_of_ref, path_of_target, path_of_key, declared_by, body_of}
-use Rattle.cc_meaning.specs.Calls.{Reference, Reach, plain, access, built_global, built_member, Callee, Returned, Bodies, put_on, keep_path, get, put_to, value_of, value, apply_unary, cast_reach, callee_of, apply, construct}
+use Rattle.cc_meaning.specs.Calls.{Reference, Reach, plain, access, built_global, built_member, Returned, Bodies, put_on, keep_path, get, put_to, value_of, value, apply_unary, cast_reach, callee_of, apply, construct}
 
 -- ---- ends of statements (8.9)
 

@@ -1,8 +1,8 @@
 -- Two programs that do the same, and a program that the plain run of another agrees with.
-use Rattle.std.specs.Prelude.{◌≡◌, ◌⊎◌, ℕ, ◌++◌, List, Option}
+use Rattle.std.specs.Prelude.{◌≡◌, ◌⊎◌, ℕ, ◌++◌, List}
 use Rattle.cc_ast.specs.Syntax.{Program}
 use Rattle.cc_meaning.specs.Values.{Event, Spot}
-use Rattle.cc_meaning.specs.Monad.{End, waits, broken, strayed}
+use Rattle.cc_meaning.specs.Monad.{waits, broken, strayed}
 use Rattle.cc_meaning.specs.Script.{Script, IsFollowing, graph_of, Finish, finished, stopped, run, checked, plain}
 
 -- a run that ended at an act that breaks a rule

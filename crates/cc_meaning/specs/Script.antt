@@ -1,13 +1,13 @@
 -- Scripts of the outside, and the run of a program under one.
-use Rattle.std.specs.Prelude.{◌≡◌, ℕ, zero, suc, ◌-◌, Bool, true, false, not, ◌&&◌, ◌||◌, nat_eq, nat_lt, List, [], ◌∷◌, ◌++◌, length, map, replicate, slice_get, Option, Some, None, IsTrue}
+use Rattle.std.specs.Prelude.{ℕ, suc, Bool, true, false, not, ◌&&◌, nat_eq, List, [], ◌∷◌, ◌++◌, map, slice_get, Option, Some, None, IsTrue}
 use Rattle.std.specs.List.{list_any}
-use Rattle.cc_ast.specs.Syntax.{Prim, undefined, Stmts, Program}
+use Rattle.cc_ast.specs.Syntax.{Prim, undefined, Program}
 use Rattle.cc_ast.specs.declared.tables.ChunkInfo.{ChunkInfo}
-use Rattle.cc_meaning.specs.Values.{Val, prim, obj, out, View, handle, Event, Spot, at_site, at_turn}
-use Rattle.cc_meaning.specs.State.{Kind, keyed_kind, Env, Tables, Inner, Reply, State}
-use Rattle.cc_meaning.specs.Monad.{Said, seen, End, spent, waits, broken, strayed, Res, ok, threw, over, M, ret, skip, ◌>>=◌, Way, went, thrown, attempt, pay, Mode, stop, say, passed, pick}
-use Rattle.cc_meaning.specs.Store.{Access, quoted}
-use Rattle.cc_meaning.specs.Judge.{Act, hosts}
+use Rattle.cc_meaning.specs.Values.{Val, prim, obj, out, View, handle, Event, Spot, at_turn}
+use Rattle.cc_meaning.specs.State.{keyed_kind, Env, Inner, Reply, State}
+use Rattle.cc_meaning.specs.Monad.{seen, End, broken, strayed, Res, ok, threw, over, M, ret, skip, ◌>>=◌, Way, went, thrown, attempt, pay, Mode, stop, say, passed}
+use Rattle.cc_meaning.specs.Store.{quoted}
+use Rattle.cc_meaning.specs.Judge.{hosts}
 use Rattle.cc_meaning.specs.Acts.{judged, changing, was_given, all_given, viewed}
 use Rattle.cc_meaning.specs.Shapes.{body_of, tables_of, plain_tables}
 use Rattle.cc_meaning.specs.Calls.{Bodies, tell_end, views, call_object, get_on, put_on}

@@ -1,7 +1,6 @@
 -- What a run reads off the trees before it runs them: sites, paths, and statements of a known shape.
-use Rattle.std.specs.Prelude.{ℕ, zero, suc, Bool, true, false, ◌&&◌, List, [], ◌∷◌, ◌++◌, map, length, slice_get, Option, Some, None, is_some}
-use Rattle.cc_ast.specs.Syntax.{Prim, undefined, null, truth, whole, text, Expr, lit, var, this, fun, list, object, unary, binary, and, or, cond, assign, step, member, index, call, new, comma, cast, tick, Target, to_var, to_member, to_index, Exprs, no_exprs, more_exprs, Fields, no_fields, more_fields, Declarator, Stmt, simple, vars, fun_decl, if, while, do_while, for, for_in, return, throw, break, continue, label, switch, try, pay_stmt, Stmts, no_stmts, more_stmts, Scope, Program}
-use Rattle.cc_ast.specs.declared.operator.BinOp.{BinOp}
+use Rattle.std.specs.Prelude.{ℕ, Bool, true, false, ◌&&◌, List, [], ◌∷◌, ◌++◌, map, slice_get, Option, Some, None, is_some}
+use Rattle.cc_ast.specs.Syntax.{Prim, text, Expr, lit, var, this, fun, list, object, unary, binary, and, or, cond, assign, step, member, index, call, new, comma, cast, tick, Target, to_var, to_member, to_index, Exprs, no_exprs, more_exprs, Fields, no_fields, more_fields, Declarator, Stmt, simple, vars, fun_decl, Stmts, no_stmts, more_stmts, Scope, Program}
 use Rattle.cc_ast.specs.declared.tree.Ref.{Ref}
 use Rattle.cc_ast.specs.declared.tree.Key.{Key}
 use Rattle.cc_ast.specs.declared.tables.ChunkInfo.{ChunkInfo}
@@ -10,7 +9,7 @@ use Rattle.cc_meaning.specs.Operators.{list_eq}
 use Rattle.cc_meaning.specs.Names.{name_prototype, name_create}
 use Rattle.cc_meaning.specs.State.{Head, Path, Tables}
 use Rattle.cc_meaning.specs.Monad.{pick}
-use Rattle.cc_meaning.specs.Store.{Access, dotted, quoted, name_of, Global, extern, built_in, of_chunk, Built, object_global, math_global, string_global, global_kind, set_to}
+use Rattle.cc_meaning.specs.Store.{Access, dotted, quoted, name_of, Global, extern, built_in, of_chunk, object_global, math_global, string_global, global_kind, set_to}
 
 -- ---- sites
 
@@ -139,6 +138,7 @@ declared_by T _ = None
 
 unfoldable mutual
   unfolding path_of_key
+
   pub sets_by : Option Path → Expr → List (Path × ℕ)
   sets_by (Some w) (fun i f) = (w, f) ∷ []
   sets_by w (object i fs) = sets_by_fields w fs

@@ -1,25 +1,17 @@
 -- What an access to an object breaks: reads, writes, removals, questions for a name, and `for-in`.
-use Rattle.std.specs.Prelude.{ℕ, zero, suc, ◌+◌, Bool, true, false, not, ◌&&◌, ◌||◌, nat_eq, nat_lt, List, [], ◌∷◌, ◌++◌, length, slice_get, Option, Some, None, is_some, is_none}
+use Rattle.std.specs.Prelude.{ℕ, Bool, true, false, not, ◌&&◌, ◌||◌, nat_eq, nat_lt, List, [], ◌∷◌, length, slice_get, Option, Some, None, is_some, is_none}
 use Rattle.std.specs.List.{list_any}
 use Rattle.cc_ast.specs.Syntax.{Prim, undefined, null, truth, whole, text}
-use Rattle.cc_ast.specs.declared.operator.BinOp.{BinOp}
-use Rattle.cc_ast.specs.declared.operator.BinOp.TheVariants.{Instance, Has}
-use Rattle.cc_ast.specs.declared.operator.UnOp.{UnOp}
-use Rattle.cc_ast.specs.declared.operator.UnOp.TheVariants.{Typeof}
 use Rattle.cc_ast.specs.declared.tables.Class.{Class}
 use Rattle.cc_ast.specs.declared.tables.TypeSet.{TypeSet}
-use Rattle.cc_ast.specs.declared.tables.Element.{Element}
 use Rattle.cc_meaning.specs.Values.{Val, prim, obj, out}
-use Rattle.cc_meaning.specs.Operators.{Outcome, gives, breaks, list_eq, is_in, key_text, binary_of, unary_of}
+use Rattle.cc_meaning.specs.Operators.{list_eq, is_in}
 use Rattle.cc_meaning.specs.Names.{is_index, index_value, standard_names, function_names, name_length, name_prototype, name_proto}
 use Rattle.cc_meaning.specs.Builtins.{text_method}
-use Rattle.cc_meaning.specs.Types.{extends}
 use Rattle.cc_meaning.specs.State.{Kind, kept_kind, indexed_kind, dotted_kind, quoted_kind, keyed_kind, Slot, Code, Obj, Tables, State}
 use Rattle.cc_meaning.specs.Monad.{pick}
-use Rattle.cc_meaning.specs.Store.{Access, dotted, quoted, runtime, name_of, is_kept, find_slot, find_own, own_value, chain_in, chain_of, slots_in, slots_on, look_up, has_name, value_found, Found, found_value, found_use, nothing_found, Use, of_array, of_text, of_math, string_of_value, from_codes, create_object, has_own, call_with, code_class_from, class_of_function}
-use Rattle.cc_meaning.specs.Typed.{present, Variable, of_type, of_opt_type, of_all_types, of_all_elements, elements_in, field_types, variable_type, is_settled, function_doc, doc_at, params_in, result_in, receiver_in, value_in, class_in}
-use Rattle.cc_meaning.specs.Built.{BuiltOutcome, outcome_of, rule_in}
-
+use Rattle.cc_meaning.specs.Store.{Access, dotted, quoted, runtime, name_of, is_kept, find_slot, own_value, chain_in, chain_of, slots_in, slots_on, look_up, value_found, Found, found_value, found_use, nothing_found, class_of_function}
+use Rattle.cc_meaning.specs.Typed.{present, of_all_types, of_all_elements, elements_in, field_types}
 
 -- ---- rules, one or none
 

@@ -1,16 +1,16 @@
 -- What is found in a store, and what an object is after a change (ECMA-262 5.1, 8.12).
-use Rattle.std.specs.Prelude.{ℕ, zero, suc, ◌+◌, ◌-◌, ℤ, pos, Bool, true, false, not, ◌&&◌, ◌||◌, nat_eq, nat_lt, is_some, List, [], ◌∷◌, ◌++◌, length, map, filter, slice_get, slice_set, replicate, Option, Some, None}
+use Rattle.std.specs.Prelude.{ℕ, zero, suc, ◌-◌, pos, Bool, true, false, not, ◌&&◌, ◌||◌, nat_eq, nat_lt, is_some, List, [], ◌∷◌, ◌++◌, length, map, filter, slice_get, slice_set, replicate, Option, Some, None}
 use Rattle.std.specs.List.{list_any}
 use Rattle.cc_ast.specs.Syntax.{undefined, whole}
 use Rattle.cc_ast.specs.declared.tables.GlobalInfo.{GlobalInfo}
 use Rattle.cc_ast.specs.declared.tables.PropInfo.{PropInfo}
 use Rattle.cc_ast.specs.declared.tables.Class.{Class}
 use Rattle.cc_ast.specs.declared.tables.FlatPath.{FlatPath}
-use Rattle.cc_meaning.specs.Values.{Val, prim, obj, out}
+use Rattle.cc_meaning.specs.Values.{Val, prim}
 use Rattle.cc_meaning.specs.Operators.{list_eq, is_in, decimal}
 use Rattle.cc_meaning.specs.Names.{is_index, index_value, enumeration, name_length, name_prototype, name_call, name_hasOwnProperty}
-use Rattle.cc_meaning.specs.Builtins.{TextUse, MathUse, ArrayUse, text_method, array_method}
-use Rattle.cc_meaning.specs.State.{Kind, kept_kind, indexed_kind, dotted_kind, quoted_kind, keyed_kind, Slot, Code, Obj, FrameKind, Frame, Head, Path, Tables, State}
+use Rattle.cc_meaning.specs.Builtins.{TextUse, MathUse, ArrayUse, array_method}
+use Rattle.cc_meaning.specs.State.{Kind, kept_kind, indexed_kind, dotted_kind, quoted_kind, keyed_kind, Slot, Obj, Frame, Path, Tables, State}
 use Rattle.cc_meaning.specs.Monad.{pick}
 
 -- ---- names

@@ -1,5 +1,5 @@
 -- Values of a type, and the types that annotations give (Closure Compiler, "Annotating JavaScript").
-use Rattle.std.specs.Prelude.{ℕ, zero, suc, ◌-◌, ◌/◌, ◌%◌, Bool, true, false, not, ◌&&◌, ◌||◌, nat_eq, nat_lt, List, [], ◌∷◌, ◌++◌, slice_get, Option, Some, None}
+use Rattle.std.specs.Prelude.{ℕ, suc, ◌-◌, ◌/◌, ◌%◌, Bool, true, false, not, ◌&&◌, ◌||◌, nat_eq, nat_lt, List, [], ◌∷◌, ◌++◌, slice_get, Option, Some, None}
 use Rattle.std.specs.List.{list_any}
 use Rattle.cc_ast.specs.Syntax.{Prim, undefined, null, truth, whole, text}
 use Rattle.cc_ast.specs.declared.tables.GlobalInfo.{GlobalInfo}
