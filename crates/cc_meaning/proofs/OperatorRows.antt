@@ -1,14 +1,13 @@
 -- The rows of the operator table at chosen values; the results are those of node 20, and rule 1
 -- stands where its result isn't whole, is past 2^53-1 or is the negative zero.
-use Rattle.std.specs.Prelude.{◌≡◌, ℕ, ℤ, pos, negsuc, zero, suc, Bool, true, false, List, [], ◌∷◌, codes, map}
+use Rattle.std.specs.Prelude.{◌≡◌, List, [], ◌∷◌, codes, map}
 use Rattle.std.proofs.Common.{refl}
-use Rattle.cc_ast.specs.Syntax.{undefined, null, truth, whole, text}
 use Rattle.cc_ast.specs.declared.operator.BinOp.{BinOp}
 use Rattle.cc_ast.specs.declared.operator.BinOp.TheVariants.{Add, Sub, Mul, Div, Rem, BitAnd, BitXor, BitOr, Shl, Shr, UShr, Less, Greater, LessEq, GreaterEq, Equal, NotEqual, Strict, NotStrict}
 use Rattle.cc_ast.specs.declared.operator.UnOp.{UnOp}
-use Rattle.cc_ast.specs.declared.operator.UnOp.TheVariants.{Minus, Plus, BitNot, Not, Void, Typeof, Delete}
-use Rattle.cc_meaning.specs.Values.{Val, prim, obj, out}
-use Rattle.cc_meaning.specs.Operators.{Outcome, gives, breaks, binary_of, unary_of}
+use Rattle.cc_ast.specs.declared.operator.UnOp.TheVariants.{Minus, Plus, BitNot, Not, Void, Typeof}
+use Rattle.cc_meaning.specs.Values.{Val, obj, out}
+use Rattle.cc_meaning.specs.Operators.{Outcome, gives, binary_of, unary_of}
 use Rattle.cc_meaning.proofs.Shown.{w, minus, t, undef, nul, yes, no, rule1, rule2}
 
 unfoldable results : BinOp → List (Val × Val) → List Outcome
@@ -156,4 +155,3 @@ rows-equal_objects = refl
 rows-other_objects : results Add ((obj 1, t (codes "a")) ∷ (t (codes "a"), out 1) ∷ (obj 1, obj 1) ∷ []) ≡ rule2 ∷ rule2 ∷ rule2 ∷ []
 unfolding results
 rows-other_objects = refl
-
