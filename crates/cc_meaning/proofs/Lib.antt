@@ -1,9 +1,13 @@
-pub mod Opened
-pub mod Trees
-pub mod RowsWorked
-pub mod RowsApplication
-pub mod RowsMended
-pub mod RowsStatements
-pub mod RowsCalls
-pub mod RowsStore
-pub mod RowsTypes
+mod Shown
+mod OperatorRows
+mod BuiltinRows
+pub mod SameLaws
+mod Opened
+mod Trees
+mod RowsWorked
+mod RowsApplication
+mod RowsMended
+mod RowsStatements
+mod RowsCalls
+mod RowsStore
+mod RowsTypes

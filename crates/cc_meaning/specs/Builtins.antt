@@ -1,9 +1,9 @@
 -- Uses of what is built in (ECMA-262 5.1, 15), as far as they need no store: an array is here the
 -- list of its elements. Rule 2 asks for the arguments of the built-in table, rule 1 for a number.
-use Rattle.std.specs.Prelude.{ℕ, zero, suc, ◌+◌, ◌-◌, ◌%◌, min, max, ℤ, pos, negsuc, Bool, true, false, nat_eq, nat_lt, if◌then◌else◌, List, [], ◌∷◌, ◌++◌, length, take, drop, slice_get, slice_set, slice_range, Option, Some, None, codes, unsigned_abs, ◌&&◌}
+use Rattle.std.specs.Prelude.{ℕ, suc, ◌-◌, min, max, ℤ, pos, negsuc, Bool, true, false, nat_eq, nat_lt, if◌then◌else◌, List, [], ◌∷◌, ◌++◌, length, take, drop, slice_get, slice_set, slice_range, Option, Some, None, codes, unsigned_abs, ◌&&◌}
 use Rattle.std.specs.Int.{int_max, int_min, int_rem_euclid}
 use Rattle.cc_ast.specs.Syntax.{Prim, undefined, null, truth, whole, text}
-use Rattle.cc_meaning.specs.Values.{Val, prim, obj, out}
+use Rattle.cc_meaning.specs.Values.{Val, prim}
 use Rattle.cc_meaning.specs.Operators.{Outcome, gives, breaks, number, list_eq, prim_text, strict_equal}
 use Rattle.cc_meaning.specs.Names.{name_push, name_unshift, name_pop, name_shift, name_slice, name_concat, name_join, name_indexOf, name_charAt, name_charCodeAt, name_lastIndexOf, name_substring, name_max, name_min, name_abs}
 

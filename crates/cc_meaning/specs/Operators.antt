@@ -1,14 +1,14 @@
 -- Operators on values (ECMA-262 5.1, 11), as far as they need no store. Numbers are whole ones
 -- within 2^53-1 either way, and there is no negative zero.
-use Rattle.std.specs.Prelude.{ℕ, zero, suc, ◌+◌, ◌-◌, ◌*◌, ◌/◌, ◌%◌, ◌^◌, ℤ, pos, negsuc, ◌+ℤ◌, ◌-ℤ◌, Bool, true, false, not, ◌&&◌, ◌||◌, nat_eq, nat_lt, nat_le, if◌then◌else◌, List, [], ◌∷◌, ◌++◌, Option, Some, None, codes, bit_and, bit_or, bit_xor, unsigned_abs, int_lt}
-use Rattle.std.specs.Bool.{xor, beq}
+use Rattle.std.specs.Prelude.{ℕ, zero, suc, ◌-◌, ◌*◌, ◌/◌, ◌%◌, ◌^◌, ℤ, pos, negsuc, ◌+ℤ◌, ◌-ℤ◌, Bool, true, false, not, ◌&&◌, ◌||◌, nat_eq, nat_lt, nat_le, if◌then◌else◌, List, [], ◌∷◌, ◌++◌, Option, Some, None, codes, bit_and, bit_or, bit_xor, unsigned_abs, int_lt}
+use Rattle.std.specs.Bool.{beq}
 use Rattle.std.specs.Int.{w32, cast_signed, int_shr, int_rem_euclid, is_negative}
 use Rattle.std.specs.Fmt.{digits, signed_decimal}
 use Rattle.cc_ast.specs.Syntax.{Prim, undefined, null, truth, whole, text}
 use Rattle.cc_ast.specs.declared.operator.BinOp.{BinOp}
-use Rattle.cc_ast.specs.declared.operator.BinOp.TheVariants.{Add, Sub, Mul, Div, Rem, BitAnd, BitXor, BitOr, Shl, Shr, UShr, Less, Greater, LessEq, GreaterEq, Equal, NotEqual, Strict, NotStrict, Instance, Has}
+use Rattle.cc_ast.specs.declared.operator.BinOp.TheVariants.{Add, Sub, Mul, Div, Rem, BitAnd, BitXor, BitOr, Shl, Shr, UShr, Less, Greater, LessEq, GreaterEq, Equal, NotEqual, Strict, NotStrict}
 use Rattle.cc_ast.specs.declared.operator.UnOp.{UnOp}
-use Rattle.cc_ast.specs.declared.operator.UnOp.TheVariants.{Minus, Plus, BitNot, Not, Void, Typeof, Delete}
+use Rattle.cc_ast.specs.declared.operator.UnOp.TheVariants.{Minus, Plus, BitNot, Not, Void, Typeof}
 use Rattle.cc_meaning.specs.Values.{Val, prim, obj, out}
 
 -- what an operator or a built-in use comes to: a value, or the rule that it breaks
@@ -76,7 +76,10 @@ with_sign true (suc n) = number (negsuc n)
 
 -- the signs of a product and a quotient (11.5.1, 11.5.2)
 abbrev pub signs_differ : ℤ → ℤ → Bool
-signs_differ a b = xor (is_negative a) (is_negative b)
+signs_differ (pos m) (pos n) = false
+signs_differ (pos m) (negsuc n) = true
+signs_differ (negsuc m) (pos n) = true
+signs_differ (negsuc m) (negsuc n) = false
 
 -- the quotient of two sizes, which is whole or breaks rule 1; so does each division by 0
 unfoldable pub divide_sizes : (minus : Bool) → ℕ → ℕ → Outcome
