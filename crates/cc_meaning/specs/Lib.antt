@@ -18,3 +18,5 @@ pub mod Meaning
 pub mod Script
 pub mod Same
 pub mod Alike
+pub mod Parts
+pub mod WellMade
