@@ -1,7 +1,7 @@
 -- Laws of doing the same.
-use Rattle.std.proofs.Common.{◌≡◌, ℕ, refl, ◌∙◌, sym, subst, ap, ◌⊎◌, inl, inr, IsTrue}
+use Rattle.std.proofs.Common.{◌≡◌, refl, ◌∙◌, sym, subst, ◌⊎◌, inl, inr, IsTrue}
 use Rattle.cc_ast.specs.Syntax.{Program}
-use Rattle.cc_meaning.specs.Script.{Script, IsFollowing, Graph, graph_of, follows, Finish, run, checked}
+use Rattle.cc_meaning.specs.Script.{follows, Finish}
 use Rattle.cc_meaning.specs.Values.{Event}
 use Rattle.cc_meaning.specs.Same.{IsBroken, Same}
 use Rattle.std.specs.Prelude.{List}

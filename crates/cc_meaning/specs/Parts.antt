@@ -1,17 +1,17 @@
 -- What stands in the trees: each part of a scope's own statements, with the number of catch clauses
 -- that are open there; and whether jumps and constructs stand where they may.
-use Rattle.std.specs.Prelude.{ℕ, zero, suc, Bool, true, false, not, ◌&&◌, ◌||◌, nat_le, List, [], ◌∷◌, ◌++◌, unsigned_abs, Option, Some, None, is_some, is_none}
-use Rattle.cc_ast.specs.Syntax.{Prim, undefined, null, truth, whole, text, Expr, lit, var, this, fun, list, object, unary, binary, and, or, cond, assign, step, member, index, call, new, comma, cast, tick, Target, to_var, to_member, to_index, Exprs, no_exprs, more_exprs, Fields, no_fields, more_fields, Declarator, ForInit, no_init, init_value, init_vars, ForTarget, in_target, in_declared, Stmt, simple, vars, fun_decl, if, while, do_while, for, for_in, return, throw, break, continue, label, switch, try, pay_stmt, Stmts, no_stmts, more_stmts, MaybeStmts, absent, present, Cases, no_cases, more_cases}
+use Rattle.std.specs.Prelude.{ℕ, suc, Bool, true, false, not, ◌&&◌, ◌||◌, List, [], ◌∷◌, ◌++◌, Option, Some, None, is_some}
+use Rattle.cc_ast.specs.Syntax.{Prim, whole, Expr, lit, var, this, fun, list, object, unary, binary, and, or, cond, assign, step, member, index, call, new, comma, cast, tick, Target, to_var, to_member, to_index, Exprs, no_exprs, more_exprs, Fields, no_fields, more_fields, Declarator, ForInit, no_init, init_value, init_vars, ForTarget, in_target, in_declared, Stmt, simple, vars, fun_decl, if, while, do_while, for, for_in, return, throw, break, continue, label, switch, try, pay_stmt, Stmts, no_stmts, more_stmts, MaybeStmts, absent, present, Cases, no_cases, more_cases}
 use Rattle.cc_ast.specs.declared.operator.BinOp.{BinOp}
 use Rattle.cc_ast.specs.declared.operator.BinOp.TheVariants.{Less, Greater, LessEq, GreaterEq, Equal, NotEqual, Strict, NotStrict, Instance, Has}
 use Rattle.cc_ast.specs.declared.operator.UnOp.{UnOp}
 use Rattle.cc_ast.specs.declared.operator.UnOp.TheVariants.{Delete}
 use Rattle.cc_ast.specs.declared.tree.Ref.{Ref}
 use Rattle.cc_ast.specs.declared.tree.Key.{Key}
-use Rattle.cc_meaning.specs.Operators.{is_in, is_exact}
+use Rattle.cc_meaning.specs.Operators.{is_exact}
 use Rattle.cc_meaning.specs.State.{Path, Tables}
 use Rattle.cc_meaning.specs.Monad.{pick}
-use Rattle.cc_meaning.specs.Store.{dotted, name_of, Built, object_global, math_global, string_global, Global, extern, built_in, of_chunk, global_kind}
+use Rattle.cc_meaning.specs.Store.{dotted, name_of, object_global, math_global, string_global, Global, extern, built_in, of_chunk, global_kind}
 use Rattle.cc_meaning.specs.Shapes.{is_named, path_of}
 use Rattle.cc_meaning.specs.Names.{name_prototype}
 use Rattle.cc_meaning.specs.Calls.{member_use}
@@ -53,6 +53,7 @@ key_parts (Key.Quoted t) = []
 
 unfoldable mutual
   unfolding method_in key_parts
+
   pub expr_parts : Tables → (catches : ℕ) → Expr → List Part
   expr_parts T c (lit i p) = has_site i ∷ []
   expr_parts T c (var i r) = has_site i ∷ mentions c r ∷ []
@@ -111,6 +112,7 @@ name_parts T c (in_declared d) = vars_parts T c (d ∷ [])
 
 unfoldable mutual
   unfolding expr_parts option_parts vars_parts init_parts name_parts
+
   pub stmt_parts : Tables → (catches : ℕ) → Stmt → List Part
   stmt_parts T c (simple i e) = has_site i ∷ expr_parts T c e
   stmt_parts T c (vars i ds) = has_site i ∷ vars_parts T c ds
@@ -226,6 +228,7 @@ takes_operand op e = true
 
 unfoldable mutual
   unfolding assigns may_write may_read built_callee exact_prim takes_operand
+
   pub expr_well : Tables → Expr → Bool
   expr_well T (lit i p) = exact_prim p
   expr_well T (var i r) = may_read T r

@@ -1,6 +1,5 @@
 -- The programs that reading answers and every rewriting keeps.
-use Rattle.std.specs.Prelude.{◌≡◌, ◌⊎◌, ℕ, zero, suc, ◌+◌, ◌-◌, ◌^◌, ◌<◌, ◌≤◌, Bool, true, false, not, ◌&&◌, ◌||◌, nat_eq, nat_lt, List, [], ◌∷◌, ◌++◌, length, map, take, drop, slice_get, Option, Some, None, is_some, is_none, IsTrue, IsFalse, codes}
-use Rattle.std.specs.List.{list_any}
+use Rattle.std.specs.Prelude.{◌≡◌, ℕ, suc, ◌+◌, ◌^◌, ◌<◌, ◌≤◌, Bool, true, false, not, ◌&&◌, ◌||◌, nat_eq, nat_lt, List, [], ◌∷◌, ◌++◌, length, map, take, slice_get, Option, Some, None, is_some, IsTrue, IsFalse, codes}
 use Rattle.cc_ast.specs.Syntax.{Expr, Declarator, ForInit, no_init, init_value, init_vars, ForTarget, in_target, in_declared, Stmt, simple, vars, fun_decl, if, while, do_while, for, for_in, return, throw, break, continue, label, switch, try, pay_stmt, Stmts, no_stmts, more_stmts, MaybeStmts, absent, present, Cases, no_cases, more_cases, Scope, Program}
 use Rattle.cc_ast.specs.declared.tree.Ref.{Ref}
 use Rattle.cc_ast.specs.declared.tables.ChunkInfo.{ChunkInfo}
@@ -8,11 +7,11 @@ use Rattle.cc_ast.specs.declared.tables.GlobalInfo.{GlobalInfo}
 use Rattle.cc_ast.specs.declared.tables.FlatPath.{FlatPath}
 use Rattle.cc_ast.specs.declared.tables.PropInfo.{PropInfo}
 use Rattle.cc_ast.specs.declared.tables.Class.{Class}
-use Rattle.cc_meaning.specs.Operators.{list_eq, is_in}
+use Rattle.cc_meaning.specs.Operators.{is_in}
 use Rattle.cc_meaning.specs.Names.{is_index, builtin_globals, always_kept}
 use Rattle.cc_meaning.specs.Types.{Ancestor, parents}
 use Rattle.cc_meaning.specs.State.{Path, Tables}
-use Rattle.cc_meaning.specs.Store.{Global, of_chunk, global_kind, without_chunk, class_of_function, is_number}
+use Rattle.cc_meaning.specs.Store.{of_chunk, global_kind, without_chunk, class_of_function}
 use Rattle.cc_meaning.specs.Shapes.{tables_of, body_of, set_by}
 use Rattle.cc_meaning.specs.Alike.{In}
 use Rattle.cc_meaning.specs.Parts.{Part, has_site, uses_prop, uses_doc, mentions, declares, makes, sets_method, stmts_parts, expr_well, target_well}
@@ -98,6 +97,7 @@ is_there (present ss) = true
 
 unfoldable mutual
   unfolding expr_well option_well some_vars init_well name_well may_break may_continue labels_for defaults is_there is_in
+
   pub stmt_well : Tables → Open → (ls : List (List ℕ)) → Stmt → Bool
   stmt_well T o ls (simple i e) = expr_well T e
   stmt_well T o ls (vars i ds) = some_vars T ds

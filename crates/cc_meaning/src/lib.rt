@@ -10,11 +10,9 @@ ghost use Rattle.cc_meaning.specs.Same.{Same};
 /// A program does the same as itself.
 pub fn same_is_reflexive()
     ensures { (P : Program) → Same P P }
-{
-}
+{}
 
 /// What does the same as a program that does the same as a third does the same as the third.
 pub fn same_is_transitive()
     ensures { (P Q R : Program) → Same P Q → Same Q R → Same P R }
-{
-}
+{}
