@@ -11,3 +11,4 @@ mod RowsStatements
 mod RowsCalls
 mod RowsStore
 mod RowsTypes
+mod WellMadeRow

@@ -10,12 +10,12 @@ pub reflexive : (P : Program) → Same P P
 reflexive P = record { graph = refl; runs = λ sc h n. inr refl }
 
 -- the one run breaks a rule, or the two are equal
-abbrev Alike : List Event × Finish → List Event × Finish → Type 0
-Alike x y = IsBroken x.1 ⊎ (x ≡ y)
+abbrev BrokenOrEqual : List Event × Finish → List Event × Finish → Type 0
+BrokenOrEqual x y = IsBroken x.1 ⊎ (x ≡ y)
 
-chained : {x y z : List Event × Finish} → Alike x y → Alike y z → Alike x z
+chained : {x y z : List Event × Finish} → BrokenOrEqual x y → BrokenOrEqual y z → BrokenOrEqual x z
 chained (inl b) k = inl b
-chained {x} {y} {z} (inr e) k = subst (λ w. Alike w z) (sym e) k
+chained {x} {y} {z} (inr e) k = subst (λ w. BrokenOrEqual w z) (sym e) k
 
 pub transitive : (P Q R : Program) → Same P Q → Same Q R → Same P R
 transitive P Q R f g = record {
