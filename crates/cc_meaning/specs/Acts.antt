@@ -147,15 +147,16 @@ place_in None n = None
 place_in (Some f) n = flat_option (slice_get f.values n)
 
 -- a place of a call's frame is judged; a catch variable and an own name aren't
+unfoldable pub read_by_kind : Mode → Spot → FrameKind → ℕ → Option Val → M Val
+unfolding judged or_undefined
+read_by_kind J i (of_call c) n v = judged J i (takes (local c n) true (is_some v)) (ret (or_undefined v))
+read_by_kind J i of_catch n v = ret (or_undefined v)
+read_by_kind J i of_own_name n v = ret (or_undefined v)
+
 unfoldable pub read_place : Mode → Spot → Option Frame → ℕ → M Val
-unfolding judged place_in or_undefined
+unfolding read_by_kind place_in
 read_place J i None n = stop (J.fault 3 i)
-read_place J i (Some f) n = by_kind f.kind (place_in (Some f) n)
-  where
-    by_kind : FrameKind → Option Val → M Val
-    by_kind (of_call c) v = judged J i (takes (local c n) true (is_some v)) (ret (or_undefined v))
-    by_kind of_catch v = ret (or_undefined v)
-    by_kind of_own_name v = ret (or_undefined v)
+read_place J i (Some f) n = read_by_kind J i f.kind n (place_in (Some f) n)
 
 unfoldable pub is_loaded : State → ℕ → Bool
 is_loaded s c = list_any (λ d. nat_eq d c) s.loaded
@@ -175,13 +176,14 @@ unfolding read_place read_global frame_up frame_at global_kind
 read_var J i g (Ref.Frame up n) s = read_place J i (frame_at s.frames (frame_up up s.frames g.at)) n s
 read_var J i g (Ref.Global n) s = read_global J i n (global_kind s.tables n) s
 
+unfoldable pub frames_with : List Frame → (frame place : ℕ) → Val → Option Frame → List Frame
+frames_with fs i n v None = fs
+frames_with fs i n v (Some f) = slice_set fs i (record f { values = slice_set f.values n (Some v) })
+
 unfoldable pub set_place : Option ℕ → ℕ → Val → State → State
+unfolding frames_with
 set_place None n v s = s
-set_place (Some i) n v s = record s { frames = by_frame (slice_get s.frames i) }
-  where
-    by_frame : Option Frame → List Frame
-    by_frame None = s.frames
-    by_frame (Some f) = slice_set s.frames i (record f { values = slice_set f.values n (Some v) })
+set_place (Some i) n v s = record s { frames = frames_with s.frames i n v (slice_get s.frames i) }
 
 unfoldable pub set_global : ℕ → Val → State → State
 set_global n v s = record s { globals = slice_set s.globals n (Some v) }
@@ -192,15 +194,16 @@ unfolding judged changing receive variable_type
 keep J i x v f = judged J i (keeps x v) (changing f) >>= λ _. with_tables (λ T. receive (variable_type T x) v)
 
 -- a write to an own name leaves it as it is
-unfoldable pub write_place : Mode → Spot → Option Frame → Option ℕ → ℕ → Val → M (Unit {0})
+unfoldable pub write_by_kind : Mode → Spot → FrameKind → Option ℕ → ℕ → Val → M (Unit {0})
 unfolding keep set_place changing
+write_by_kind J i (of_call c) at n v = keep J i (local c n) v (set_place at n v)
+write_by_kind J i of_catch at n v = changing (set_place at n v)
+write_by_kind J i of_own_name at n v = skip
+
+unfoldable pub write_place : Mode → Spot → Option Frame → Option ℕ → ℕ → Val → M (Unit {0})
+unfolding write_by_kind
 write_place J i None at n v = skip
-write_place J i (Some f) at n v = by_kind f.kind
-  where
-    by_kind : FrameKind → M (Unit {0})
-    by_kind (of_call c) = keep J i (local c n) v (set_place at n v)
-    by_kind of_catch = changing (set_place at n v)
-    by_kind of_own_name = skip
+write_place J i (Some f) at n v = write_by_kind J i f.kind at n v
 
 unfoldable pub write_var : Mode → Spot → Env → Ref → Val → M (Unit {0})
 unfolding write_place keep set_global frame_up frame_at

@@ -1,12 +1,12 @@
 -- Uses of what is built in, on a store (ECMA-262 5.1, 15): what they come to, and what they break.
-use Rattle.std.specs.Prelude.{ℕ, ◌∷◌, Bool, true, false, List, [], slice_get, Option, Some, None}
+use Rattle.std.specs.Prelude.{is_some, ℕ, ◌∷◌, Bool, true, false, List, [], slice_get, Option, Some, None}
 use Rattle.cc_ast.specs.Syntax.{Prim, null, text}
 use Rattle.cc_meaning.specs.Values.{Val, prim, obj, out}
 use Rattle.cc_meaning.specs.Operators.{Outcome, gives, breaks}
 use Rattle.cc_meaning.specs.Builtins.{ArrayUse, array_push, array_unshift, array_concat, Arg, value_arg, list_arg, ArrayResult, changes, array_breaks, ArrayChange, array_use, concat_use, text_use, math_use, string_use, from_char_codes}
 use Rattle.cc_meaning.specs.State.{Code, Obj, Tables, State}
 use Rattle.cc_meaning.specs.Store.{Use, of_array, of_text, of_math, string_of_value, from_codes, create_object, has_own, call_with}
-use Rattle.cc_meaning.specs.Typed.{of_all_elements, elements_in, present}
+use Rattle.cc_meaning.specs.Typed.{of_all_elements, elements_in}
 
 -- what a use comes to: a value; a change of an array's elements, with the values that are put in; a
 -- new object with a prototype or none; a question whether an object itself has a name; a call of a
@@ -58,15 +58,15 @@ unfolding from_result put_in array_result
 on_array os u n None vs = built_breaks 2
 on_array os u n (Some es) vs = from_result n (put_in u vs) (array_result os u es vs)
 
+unfoldable pub on_code : ℕ → Option Code → List Val → BuiltOutcome
+on_code n None vs = built_breaks 2
+on_code n (Some c) [] = built_breaks 2
+on_code n (Some c) (v ∷ vs) = built_call n v vs
+
 unfoldable pub on_function : ℕ → Option Obj → List Val → BuiltOutcome
-unfolding present
+unfolding on_code
 on_function n None vs = built_breaks 2
-on_function n (Some o) vs = by_code o.code vs
-  where
-    by_code : Option Code → List Val → BuiltOutcome
-    by_code None vs = built_breaks 2
-    by_code (Some c) [] = built_breaks 2
-    by_code (Some c) (v ∷ vs) = built_call n v vs
+on_function n (Some o) vs = on_code n o.code vs
 
 -- the receiver comes first where the use has one
 unfoldable pub outcome_of : State → Use → List Val → BuiltOutcome

@@ -96,12 +96,13 @@ member_use math_global n = math_use_of (math_method n)
 member_use string_global n = pick (list_eq n name_fromCharCode) (Some from_codes) None
 
 -- a flat path gives no receiver
+unfoldable pub receiver_by : Option (ℕ × ℕ) → Val → Option Val
+receiver_by None o = Some o
+receiver_by (Some w) o = None
+
 unfoldable pub receiver_of : Reference → Option Val
-receiver_of r = by_path r.path
-  where
-    by_path : Option (ℕ × ℕ) → Option Val
-    by_path None = Some r.on
-    by_path (Some w) = None
+unfolding receiver_by
+receiver_of r = receiver_by r.path r.on
 
 -- what texts have besides their methods
 unfoldable pub prim_member : Prim → List ℕ → Val

@@ -200,14 +200,15 @@ unfolding global_kind
 global_at T (Some (n, [])) = Some (global_kind T n)
 global_at T _ = None
 
+unfoldable pub is_use : Option Global → List ℕ → Bool
+unfolding has_use
+is_use None n = false
+is_use (Some g) n = has_use g n
+
 unfoldable pub built_callee : Tables → Expr → Bool
-unfolding is_string global_kind has_use global_at path_of name_of
+unfolding is_string global_kind is_use global_at path_of name_of
 built_callee T (var i (Ref.Global n)) = is_string (global_kind T n)
-built_callee T (member i e p) = used (global_at T (path_of e))
-  where
-    used : Option Global → Bool
-    used None = false
-    used (Some g) = has_use g (name_of T (dotted p))
+built_callee T (member i e p) = is_use (global_at T (path_of e)) (name_of T (dotted p))
 built_callee T _ = false
 
 unfoldable pub exact_prim : Prim → Bool

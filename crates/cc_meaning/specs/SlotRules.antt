@@ -11,7 +11,7 @@ use Rattle.cc_meaning.specs.Builtins.{text_method}
 use Rattle.cc_meaning.specs.State.{Kind, kept_kind, indexed_kind, dotted_kind, quoted_kind, keyed_kind, Slot, Code, Obj, Tables, State}
 use Rattle.cc_meaning.specs.Monad.{pick}
 use Rattle.cc_meaning.specs.Store.{Access, dotted, quoted, runtime, name_of, is_kept, find_slot, own_value, chain_in, chain_of, slots_in, slots_on, look_up, value_found, Found, found_value, found_use, nothing_found, class_of_function}
-use Rattle.cc_meaning.specs.Typed.{present, of_all_types, of_all_elements, elements_in, field_types}
+use Rattle.cc_meaning.specs.Typed.{of_all_types, of_all_elements, elements_in, field_types}
 
 -- ---- rules, one or none
 
@@ -72,15 +72,15 @@ walk_slots (x ∷ xs) = least (rule_if (is_dotted x.kind || is_in x.name standar
 
 -- ---- 10
 
+unfoldable pub is_function : Option Obj → Bool
+is_function None = false
+is_function (Some o) = is_some o.code
+
 -- the look-up comes to a function before it comes to a slot of that name
 unfoldable pub meets_function : List Obj → List ℕ → List ℕ → Bool
-unfolding own_value
+unfolding is_function own_value
 meets_function os [] n = false
-meets_function os (c ∷ cs) n = has_code (slice_get os c) || (is_none (own_value (slice_get os c) n) && meets_function os cs n)
-  where
-    has_code : Option Obj → Bool
-    has_code None = false
-    has_code (Some o) = is_some o.code
+meets_function os (c ∷ cs) n = is_function (slice_get os c) || (is_none (own_value (slice_get os c) n) && meets_function os cs n)
 
 -- what a look-up that doesn't come to a slot breaks
 unfoldable pub unfound_rule : List ℕ → Found → Option ℕ
@@ -148,10 +148,10 @@ array_write_rule (Some vs) n (Some i) = rule_if (nat_lt (length vs) i) 2
 
 -- an element is of each type that was entered
 unfoldable pub element_rule : Tables → List Obj → Option Obj → Option ℕ → Val → Option ℕ
-unfolding rule_unless of_all_elements present
+unfolding rule_unless of_all_elements
 element_rule T os None i v = None
 element_rule T os (Some o) None v = None
-element_rule T os (Some o) (Some i) v = rule_unless (not (present o.elements) || of_all_elements T os o.wanted (v ∷ [])) 6
+element_rule T os (Some o) (Some i) v = rule_unless (not (is_some o.elements) || of_all_elements T os o.wanted (v ∷ [])) 6
 
 unfoldable pub prototype_of_function : Option Obj → Option Val
 unfolding find_slot
@@ -205,13 +205,13 @@ fits_class T os c (obj n) = fits_extended T os (extended (slice_get T.classes c)
 fits_class T os c (out n) = false
 fits_class T os c (prim p) = false
 
+unfoldable pub no_slots : List Slot → Bool
+no_slots [] = true
+no_slots (x ∷ xs) = false
+
 unfoldable pub without_slots : List Obj → Option Val → Bool
-unfolding slots_in
+unfolding no_slots slots_in
 without_slots os (Some (obj n)) = no_slots (slots_in (slice_get os n))
-  where
-    no_slots : List Slot → Bool
-    no_slots [] = true
-    no_slots (x ∷ xs) = false
 without_slots os (Some (out n)) = false
 without_slots os (Some (prim p)) = false
 without_slots os None = false
@@ -222,14 +222,15 @@ unfolding fits_class without_slots prototype_of_function
 declares_well T s o None v declares = false
 declares_well T s o (Some c) v declares = declares && not (list_any (λ d. nat_eq d c) s.constructed) && without_slots s.objs (prototype_of_function o) && fits_class T s.objs c v
 
-unfoldable pub prototype_rule : Tables → State → Option Obj → List ℕ → Val → Bool → Option ℕ
+unfoldable pub code_rule : Tables → State → Obj → Option Code → List ℕ → Val → Bool → Option ℕ
 unfolding list_eq rule_unless declares_well class_of_function
+code_rule T s o None n v declares = None
+code_rule T s o (Some c) n v declares = pick (list_eq n name_prototype) (rule_unless (declares_well T s (Some o) (class_of_function T c.function) v declares) 12) None
+
+unfoldable pub prototype_rule : Tables → State → Option Obj → List ℕ → Val → Bool → Option ℕ
+unfolding code_rule
 prototype_rule T s None n v declares = None
-prototype_rule T s (Some o) n v declares = by_code o.code
-  where
-    by_code : Option Code → Option ℕ
-    by_code None = None
-    by_code (Some c) = pick (list_eq n name_prototype) (rule_unless (declares_well T s (Some o) (class_of_function T c.function) v declares) 12) None
+prototype_rule T s (Some o) n v declares = code_rule T s o o.code n v declares
 
 unfoldable pub object_write : Tables → State → ℕ → Access → List ℕ → Val → Bool → Option ℕ
 unfolding slots_rule slots_in least field_rule array_write_rule elements_in index_value element_rule prototype_rule

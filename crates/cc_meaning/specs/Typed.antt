@@ -1,5 +1,5 @@
 -- Values of a type, and the types that annotations give (Closure Compiler, "Annotating JavaScript").
-use Rattle.std.specs.Prelude.{ℕ, suc, ◌-◌, ◌/◌, ◌%◌, Bool, true, false, not, ◌&&◌, ◌||◌, nat_eq, nat_lt, List, [], ◌∷◌, ◌++◌, slice_get, Option, Some, None}
+use Rattle.std.specs.Prelude.{is_some, ℕ, suc, ◌-◌, ◌/◌, ◌%◌, Bool, true, false, not, ◌&&◌, ◌||◌, nat_eq, nat_lt, List, [], ◌∷◌, ◌++◌, slice_get, Option, Some, None}
 use Rattle.std.specs.List.{list_any}
 use Rattle.cc_ast.specs.Syntax.{Prim, undefined, null, truth, whole, text}
 use Rattle.cc_ast.specs.declared.tables.GlobalInfo.{GlobalInfo}
@@ -29,10 +29,6 @@ prim_of kinds (truth b) = has_kind kinds 4
 prim_of kinds (whole n) = has_kind kinds 1
 prim_of kinds (text t) = has_kind kinds 2
 
-unfoldable pub present : {A : Type 0} → Option A → Bool
-present None = false
-present (Some a) = true
-
 -- an object's class is one of these, or extends or implements one by a chain
 unfoldable pub class_of_any : List Class → Option ℕ → List ℕ → Bool
 unfolding subtype
@@ -40,9 +36,9 @@ class_of_any classes None ds = false
 class_of_any classes (Some c) ds = list_any (λ d. subtype classes c d) ds
 
 unfoldable pub object_of : Tables → (kinds : ℕ) → List ℕ → Option Obj → Bool
-unfolding has_kind present class_of_any
+unfolding has_kind class_of_any
 object_of T kinds ds None = false
-object_of T kinds ds (Some o) = (present o.code && has_kind kinds 8) || (present o.elements && has_kind kinds 16) || class_of_any T.classes o.class ds
+object_of T kinds ds (Some o) = (is_some o.code && has_kind kinds 8) || (is_some o.elements && has_kind kinds 16) || class_of_any T.classes o.class ds
 
 -- a value of these kinds or classes; undefined and null are of every type
 unfoldable pub of_kinds : Tables → List Obj → (kinds : ℕ) → List ℕ → Val → Bool
@@ -223,5 +219,5 @@ unfolding same_element
 entered e es = pick (list_any (λ d. same_element d e) es) es (es ++ e ∷ [])
 
 unfoldable pub entered_in : Element → Obj → Obj
-unfolding entered present
-entered_in e o = pick (present o.elements) (record o { wanted = entered e o.wanted }) o
+unfolding entered
+entered_in e o = pick (is_some o.elements) (record o { wanted = entered e o.wanted }) o

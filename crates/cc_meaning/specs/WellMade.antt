@@ -11,6 +11,7 @@ use Rattle.cc_meaning.specs.Operators.{is_in}
 use Rattle.cc_meaning.specs.Names.{is_index, builtin_globals, always_kept}
 use Rattle.cc_meaning.specs.Types.{Ancestor, parents}
 use Rattle.cc_meaning.specs.State.{Path, Tables}
+use Rattle.cc_meaning.specs.Monad.{pick}
 use Rattle.cc_meaning.specs.Store.{of_chunk, global_kind, without_chunk, class_of_function}
 use Rattle.cc_meaning.specs.Shapes.{tables_of, body_of, set_by}
 use Rattle.cc_meaning.specs.Alike.{In}
@@ -74,11 +75,7 @@ counted (more_stmts s ss) = suc (counted ss)
 -- labels are a loop's where nothing else stands with it
 unfoldable pub labels_for : List (List ℕ) → Stmts → List (List ℕ)
 unfolding counted
-labels_for ls ss = by_count (nat_eq (counted ss) 1)
-  where
-    by_count : Bool → List (List ℕ)
-    by_count true = ls
-    by_count false = []
+labels_for ls ss = pick (nat_eq (counted ss) 1) ls []
 
 abbrev pub nested : Open → Open
 nested o = record o { own = false }
