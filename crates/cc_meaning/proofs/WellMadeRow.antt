@@ -1,7 +1,7 @@
 -- A small program that is well made: `function f(x){return x;}f(alert);`.
-use Rattle.std.proofs.Common.{◌≡◌, refl, ℕ, zero, suc, ◌+◌, ◌<◌, ◌≤◌, Bool, true, false, List, [], ◌∷◌, Option, Some, None, subst, sym, ap, ◌∙◌, lit<, lit≤, IsTrue, IsFalse, is_some, arith}
+use Rattle.std.proofs.Common.{◌≡◌, refl, ℕ, zero, suc, ◌+◌, ◌<◌, ◌≤◌, true, false, List, [], ◌∷◌, Option, Some, None, subst, sym, ap, lit<, lit≤, IsTrue, IsFalse, is_some, arith}
 use Rattle.std.specs.Prelude.{slice_get, codes}
-use Rattle.cc_ast.specs.Syntax.{Scope, Program, Expr, lit, var, call, unary, cast, assign, to_var, Stmt, simple, fun_decl, if, while, return, break, continue, label, try, absent}
+use Rattle.cc_ast.specs.Syntax.{Scope, Program, call, unary, cast, assign, to_var, Stmt, simple, fun_decl, if, while, return, break, continue, label, try, absent}
 use Rattle.cc_ast.specs.declared.operator.UnOp.TheVariants.{Delete}
 use Rattle.cc_ast.specs.declared.tree.Ref.{Ref}
 use Rattle.cc_ast.specs.declared.tables.ChunkInfo.{ChunkInfo}
@@ -10,15 +10,15 @@ use Rattle.cc_ast.specs.declared.tables.FlatPath.{FlatPath}
 use Rattle.cc_meaning.specs.Operators.{is_in}
 use Rattle.cc_meaning.specs.State.{Path}
 use Rattle.cc_meaning.specs.Shapes.{tables_of}
-use Rattle.cc_meaning.specs.Store.{of_chunk, class_of_function}
-use Rattle.cc_meaning.specs.Names.{always_kept, builtin_globals}
+use Rattle.cc_meaning.specs.Store.{class_of_function}
+use Rattle.cc_meaning.specs.Names.{builtin_globals}
 use Rattle.cc_meaning.specs.Alike.{In, here, there}
 use Rattle.cc_meaning.specs.Parts as Pa
 use Rattle.cc_meaning.specs.Parts.{Part, has_site, mentions, declares, makes}
 use Rattle.cc_meaning.specs.WellMade as W
 use Rattle.cc_meaning.specs.WellMade.{WellMade, IsScope, IsPart, a_site, a_mention, a_declaration, a_function, IsMade, IsSound, sound_place, sound_global, sound_outer, IsDeclared, IsPlaced, placed_global, IsOwn, is_param, Holds, of_frame, Reached, Encloses, directly, further, IsOrdered, IsGlobal, IsMeant, IsCounted, IsDistinct, parts_of, all_functions}
 use Rattle.cc_meaning.proofs.Opened.{opened}
-use Rattle.cc_meaning.proofs.Trees.{exprs, stmts, fn, one_chunk, chunk_of, glo, loc}
+use Rattle.cc_meaning.proofs.Trees.{exprs, stmts, fn, one_chunk, glo, loc}
 
 abbrev chunk : Scope
 chunk = fn 0 0 (fun_decl 0 (Ref.Global 4) 1 ∷ simple 0 (call 0 (glo 4) (exprs (glo 0 ∷ []))) ∷ [])
@@ -162,6 +162,7 @@ well = record {
   where
     no_deps : (d c : ℕ) → In d [] → d < c
     no_deps d c h = elim h [ ]
+
     deps : (c d : ℕ) (k : ChunkInfo) → slice_get small.chunks c ≡ Some k → In d k.deps → d < c
     deps zero d k e h = no_deps d 0 (subst (λ t. In d t.deps) (sym (same_some e)) h)
     deps (suc c) d k e h = cc

@@ -1,5 +1,5 @@
 -- Uses of what is built in, on a store (ECMA-262 5.1, 15): what they come to, and what they break.
-use Rattle.std.specs.Prelude.{is_some, ℕ, ◌∷◌, Bool, true, false, List, [], slice_get, Option, Some, None}
+use Rattle.std.specs.Prelude.{ℕ, ◌∷◌, Bool, true, false, List, [], slice_get, Option, Some, None}
 use Rattle.cc_ast.specs.Syntax.{Prim, null, text}
 use Rattle.cc_meaning.specs.Values.{Val, prim, obj, out}
 use Rattle.cc_meaning.specs.Operators.{Outcome, gives, breaks}
