@@ -1,7 +1,6 @@
 -- Values, what the outside sees of them, and what a run tells (ECMA-262 5.1, 8).
-use Rattle.std.specs.Prelude.{ℕ, List, Option}
+use Rattle.std.specs.Prelude.{ℕ, List}
 use Rattle.cc_ast.specs.Syntax.{Prim}
-use Rattle.cc_ast.specs.declared.place.Place.{Place}
 
 -- a primitive value, an object of the program by its number, or an object of the outside
 pub data Val : Type 0 where
