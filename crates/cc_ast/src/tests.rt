@@ -1,4 +1,4 @@
-// Each copy once with ample memory, and that programs may pass between threads.
+// Each copy once with ample memory.
 
 use crate::copy::{copy_program, copy_scope};
 use crate::place::Place;
@@ -9,8 +9,6 @@ use crate::units::Units;
 use sqlite_items::Items;
 use std::alloc::{AllocError, Global};
 use std::test::Fail;
-
-fn crosses_threads<T: Send + Sync>(_value: &T) {}
 
 fn units(alloc: Global, text: &[u16]) -> Result<Units, AllocError> {
     Ok(Units {
@@ -89,7 +87,6 @@ fn a_scope_is_copied(rt: HostRuntime) -> Result<(), Fail> {
 #[test]
 fn a_program_is_copied(rt: HostRuntime) -> Result<(), Fail> {
     let program = program(rt.alloc())?;
-    crosses_threads(&program);
     let copy = copy_program(rt.alloc(), &program)?;
     assert_eq!(rt; copy.scopes.len(), 1);
     assert_eq!(rt; copy.globals.len(), 1);
