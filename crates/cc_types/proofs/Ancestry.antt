@@ -1,13 +1,17 @@
 -- The test of ancestry decides it: a chain can do without repeats, and so with no more steps than
 -- there are classes.
-use Rattle.std.proofs.Common.{◌≡◌, ℕ, zero, suc, ◌<◌, ◌≤◌, Bool, true, false, ◌||◌, eqb, List, [], ◌∷◌, length, get_or, Contains, Any, IsTrue, ◌↔◌, refl, sym, subst, inl, inr, arith}
+use Rattle.std.proofs.Common.{◌≡◌, ◌≢◌, ℕ, zero, suc, ◌-◌, ◌<◌, ◌≤◌, Bool, true, false, ◌||◌, eqb, List, [], ◌∷◌, ◌++◌, length, get_or, Contains, Any, IsTrue, ◌↔◌, Option, Some, None, option_to_list, refl, sym, ap, ◌∙◌, subst, inl, inr, arith}
+use Rattle.std.specs.Bool.{one_answer}
+use Rattle.std.proofs.Math.Bool.{or-false}
+use Rattle.std.proofs.lemmas.Option.{slice_get_read}
 use Rattle.std.specs.List.{IsDistinct, AllByRecursion, list_any}
-use Rattle.std.proofs.lemmas.Bool.{or_cases, or_left, or_right, or_parts, eqb-true, eq-eqb, cases_Bool, false≢true}
-use Rattle.std.proofs.lemmas.List.Folds.{Any-from_list_any, list_any-from_Any}
+use Rattle.std.proofs.lemmas.Bool.{or_cases, or_left, or_right, or_parts, or_from, ne_eqb, eqb-true, eq-eqb, cases_Bool, false≢true}
+use Rattle.std.proofs.lemmas.List.Folds.{list_any-append, list_any_at, Any-from_list_any, list_any-from_Any}
 use Rattle.std.proofs.lemmas.Map.Keys.{IsDistinct-cons, IsDistinct-tail}
 use Rattle.std.proofs.lemmas.Map.Steps.{length-le_from_distinct_below}
 use Rattle.cc_ast.specs.declared.tables.Class.{Class}
-use Rattle.cc_types.specs.Types.{parents, parents_of, Ancestor, itself, above, reaches, subtype}
+use Rattle.cc_ast.specs.declared.tables.TypeSet.{TypeSet}
+use Rattle.cc_types.specs.Types.{parents, parents_of, Ancestor, itself, above, reaches, subtype, instance_of, IsInstance}
 
 -- ---- the test is right
 
@@ -82,3 +86,82 @@ unfolding subtype
 subtype-complete cs a b r =
     let s = simple cs a b r in
     walk cs s.nodes a b s.path (length cs) (length-le_from_distinct_below s.nodes (length cs) s.distinct s.below)
+
+-- the test is the only answer that tells the ancestors
+pub subtype-only : (r : Bool) (cs : List Class) (a b : ℕ) → (IsTrue r ↔ Ancestor cs a b) → r ≡ subtype cs a b
+subtype-only r cs a b tells = one_answer r (subtype cs a b) (tells.0, tells.1) (subtype-sound cs a b, subtype-complete cs a b)
+
+pub subtype-tells : (r : Bool) (cs : List Class) (a b : ℕ) → r ≡ subtype cs a b → IsTrue r ↔ Ancestor cs a b
+subtype-tells r cs a b e = (λ h. subtype-sound cs a b (sym e ∙ h), λ h. e ∙ subtype-complete cs a b h)
+
+-- ---- the test, step by step
+
+pub reaches-itself : (n : ℕ) (cs : List Class) (a b : ℕ) → a ≡ b → reaches n cs a b ≡ true
+unfolding reaches
+reaches-itself zero cs a b e = eq-eqb a b e
+reaches-itself (suc n) cs a b e = or_left (eqb a b) (list_any (λ p. reaches n cs p b) (parents cs a)) (eq-eqb a b e)
+
+pub reaches-stops : (n : ℕ) (cs : List Class) (a b : ℕ) → a ≢ b → n ≡ 0 → reaches n cs a b ≡ false
+unfolding reaches
+reaches-stops zero cs a b k e = ne_eqb a b k
+reaches-stops (suc n) cs a b k e = absurd (omega arith)
+
+no_parents : (cs : List Class) (a : ℕ) → length cs ≤ a → parents cs a ≡ []
+unfolding parents
+no_parents [] a h = refl
+no_parents (k ∷ cs) zero h = absurd (omega arith)
+no_parents (k ∷ cs) (suc a) h = no_parents cs a (omega arith)
+
+pub reaches-past : (n : ℕ) (cs : List Class) (a b : ℕ) → a ≢ b → length cs ≤ a → reaches n cs a b ≡ false
+unfolding reaches
+reaches-past zero cs a b k h = ne_eqb a b k
+reaches-past (suc n) cs a b k h = or_from (eqb a b) (list_any (λ p. reaches n cs p b) (parents cs a)) (ne_eqb a b k) (ap (list_any (λ p. reaches n cs p b)) (no_parents cs a h))
+
+reaches-next : (n : ℕ) (cs : List Class) (a b : ℕ) (k : Class) → a ≢ b → a < length cs → k ≡ get_or cs a k
+    → reaches (suc n) cs a b ≡ (list_any (λ p. reaches n cs p b) (option_to_list k.extends) || list_any (λ p. reaches n cs p b) k.implements)
+unfolding reaches parents
+reaches-next n cs a b k other h e =
+    let p : ℕ → Bool = λ q. reaches n cs q b in
+    let here : parents cs a ≡ option_to_list k.extends ++ k.implements = ap parents_of (slice_get_read cs (length cs) a k refl h e) in
+    ap (λ (t : Bool). t || list_any p (parents cs a)) (ne_eqb a b other) ∙ ap (list_any p) here ∙ list_any-append p (option_to_list k.extends) k.implements
+
+-- a class reaches what its parents reach
+pub reaches-by_parents : (n : ℕ) (cs : List Class) (a b : ℕ) (k : Class) → a ≢ b → n ≢ 0 → a < length cs → k ≡ get_or cs a k
+    → reaches n cs a b ≡ (list_any (λ p. reaches (n - 1) cs p b) (option_to_list k.extends) || list_any (λ p. reaches (n - 1) cs p b) k.implements)
+reaches-by_parents n cs a b k other some h e =
+    let more : n ≡ suc (n - 1) = omega arith in
+    ap (λ (m : ℕ). reaches m cs a b) more ∙ reaches-next (n - 1) cs a b k other h e
+
+pub any_option-Some : (f : ℕ → Bool) (o : Option ℕ) (p : ℕ) (r : Bool) → o ≡ Some p → r ≡ f p → r ≡ list_any f (option_to_list o)
+any_option-Some f o p r e is = rw e (is ∙ sym (or-false (f p)))
+
+pub any_option-None : (f : ℕ → Bool) (o : Option ℕ) → o ≡ None → false ≡ list_any f (option_to_list o)
+any_option-None f o e = rw e refl
+
+pub reaches-join : (n : ℕ) (cs : List Class) (a b : ℕ) (k : Class) (x y : Bool) → a ≢ b → n ≢ 0 → a < length cs → k ≡ get_or cs a k
+    → x ≡ list_any (λ p. reaches (n - 1) cs p b) (option_to_list k.extends) → y ≡ list_any (λ p. reaches (n - 1) cs p b) k.implements → (x || y) ≡ reaches n cs a b
+reaches-join n cs a b k x y other some h e ex ey = rw (ex, ey) (sym (reaches-by_parents n cs a b k other some h e))
+
+-- ---- types
+
+pub instance-tells : (r : Bool) (cs : List Class) (c : ℕ) (t : TypeSet) → r ≡ instance_of cs c t → IsTrue r ↔ IsInstance cs c t
+unfolding instance_of
+instance-tells r cs c t e =
+    let f : ℕ → Bool = λ d. subtype cs c d in
+    (λ h. elim (or_cases t.unknown (list_any f t.classes) (sym e ∙ h)) [ inl u ↦ inl u | inr k ↦ let any = Any-from_list_any f t.classes k in inr (any.1, (any.0, any.2, any.3), subtype-sound cs c any.1 any.4) ],
+     λ i. elim i [ inl u ↦ e ∙ or_left t.unknown (list_any f t.classes) u | inr d ↦ e ∙ or_right t.unknown (list_any f t.classes) (list_any-from_Any f t.classes (d.1.0, d.0, d.1.1, d.1.2, subtype-complete cs c d.0 d.2)) ])
+
+pub instance-unknown : (cs : List Class) (c : ℕ) (t : TypeSet) → t.unknown ≡ true → true ≡ instance_of cs c t
+unfolding instance_of
+instance-unknown cs c t u = sym (or_left t.unknown (list_any (λ d. subtype cs c d) t.classes) u)
+
+pub instance-found : (cs : List Class) (c d : ℕ) (t : TypeSet) (items : List ℕ) (i : ℕ) → items ≡ t.classes → i < length items → d ≡ get_or items i 0 → subtype cs c d ≡ true → true ≡ instance_of cs c t
+unfolding instance_of
+instance-found cs c d t items i same h e k =
+    let f : ℕ → Bool = λ x. subtype cs c x in
+    let here : list_any f items ≡ true = list_any_at f items i 0 h (ap f (sym e) ∙ k) in
+    sym (or_right t.unknown (list_any f t.classes) (ap (list_any f) (sym same) ∙ here))
+
+pub instance-none : (cs : List Class) (c : ℕ) (t : TypeSet) → t.unknown ≡ false → list_any (λ d. subtype cs c d) t.classes ≡ false → false ≡ instance_of cs c t
+unfolding instance_of
+instance-none cs c t u k = sym (or_from t.unknown (list_any (λ d. subtype cs c d) t.classes) u k)
