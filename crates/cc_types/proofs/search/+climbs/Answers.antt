@@ -6,7 +6,7 @@ use Rattle.std.specs.List.{list_any}
 use Rattle.cc_types.specs.Types.{reaches}
 use Rattle.cc_types.proofs.search.+climbs.Goals as goal
 use Rattle.cc_types.proofs.search.+climbs.Goals.{then-steps-eq0-via-then-steps-eq0, then-steps-eq0-via-else-steps-eq0+then-a-classes, in-Some, in-None}
-use Rattle.cc_types.proofs.Ancestry.{reaches-itself, reaches-stops, reaches-past, reaches-by_parents, any_option-Some, any_option-None, reaches-join}
+use Rattle.cc_types.proofs.Ancestry.{reaches-itself, reaches-stops, reaches-past, any_option-Some, any_option-None, reaches-join}
 
 pub returns-then-a-b : goal.returns-then-a-b
 returns-then-a-b t c = sym (reaches-itself c.args.steps c.args.classes.now c.args.a c.args.b c.if-a-b.true)

@@ -1,7 +1,6 @@
-use Rattle.std.proofs.Common.{◌≡◌, ◌≢◌, ◌<◌, ◌≤◌, length, set, refl, sym, ◌∙◌, subst, ap, arith, List, ℕ, Some, get_or-set_same, get_or-set_other}
+use Rattle.std.proofs.Common.{◌≡◌, ◌≢◌, ◌<◌, ◌≤◌, length, set, ◌∙◌, arith, Some, get_or-set_same, get_or-set_other}
 use Rattle.std.proofs.lemmas.List.{length-set}
-use Rattle.cc_types.specs.declared.search.Mark.{Mark}
-use Rattle.cc_types.specs.declared.search.Mark.TheVariants.{Unseen, Open, Done}
+use Rattle.cc_types.specs.declared.search.Mark.TheVariants.{Unseen, Open}
 use Rattle.cc_types.specs.Marks.{mark_at, NoneOpenBelow}
 use Rattle.cc_types.specs.Types.{parents_of}
 use Rattle.cc_types.proofs.Marking.{walk_begins, walk_ends, turn_walks, turn_goes_down, none_below_done}

@@ -1,4 +1,4 @@
-use Rattle.std.proofs.Common.{arith, sym}
+use Rattle.std.proofs.Common.{sym}
 use Rattle.cc_types.proofs.Marking.{opened_past, opened_unseen, opened_seen}
 use Rattle.cc_types.proofs.search.open_class.Goals as goal
 
