@@ -1,8 +1,8 @@
 -- The value, view and event of the meaning for which one of src/ stands, and what an answer says.
-use Rattle.std.specs.Prelude.{◌≡◌, ℕ, List, [], ◌∷◌, map, ◌≤◌, unsigned_abs, ⊤, Result, Ok, Err}
+use Rattle.std.specs.Prelude.{◌≡◌, ℕ, Bool, List, map, ◌++◌, ◌≤◌, unsigned_abs, nat_eq, ⊤, Option, Some, None, IsSome, Result, Ok, Err}
 use Rattle.cc_ast.specs.Syntax.{undefined, null, truth, whole, text}
 use Rattle.cc_meaning.specs.Values.{Val, prim, obj, out, View, shown_prim, shown_out, handle, Event, called, constructed, got, put, ended, threw}
-use Rattle.cc_meaning.specs.Operators.{Outcome, gives, breaks, greatest_whole}
+use Rattle.cc_meaning.specs.Operators.{Outcome, gives, breaks, greatest_whole, prim_text, prim_less, equal_prims, equal_object}
 use Rattle.cc_value.specs.declared.value.Value.{Value}
 use Rattle.cc_value.specs.declared.value.Value.TheVariants as V
 use Rattle.cc_value.specs.declared.value.View as Seen
@@ -30,6 +30,14 @@ view_of (S.Text t) = shown_prim (text t)
 view_of (S.Handle n) = handle n
 view_of (S.Outside n) = shown_out n
 
+abbrev pub event_of : Told.Event → Event
+event_of (E.Call target this args) = called (view_of target) (view_of this) (map view_of args)
+event_of (E.New target args) = constructed (view_of target) (map view_of args)
+event_of (E.Get target name) = got (view_of target) name
+event_of (E.Set target name value) = put (view_of target) name (view_of value)
+event_of (E.Ended value) = ended (view_of value)
+event_of (E.Threw value) = threw (view_of value)
+
 -- a number is within 2^53-1, as each is that the meaning makes
 abbrev pub IsMade : Value → Type 0
 IsMade V.Undefined = ⊤
@@ -47,3 +55,32 @@ Answers (Ok v) o = o ≡ gives (value_of v)
 Answers (Err Rule1) o = o ≡ breaks 1
 Answers (Err Rule2) o = o ≡ breaks 2
 Answers (Err Memory) o = (t : List ℕ) × (o ≡ gives (prim (text t)))
+
+-- the text of a value that is no object
+abbrev pub text_of : Val → Option (List ℕ)
+text_of (prim p) = Some (prim_text p)
+text_of (obj n) = None
+text_of (out n) = None
+
+-- a text is appended, or there is none and rule 2 is broken
+abbrev pub Appends : (old new : List ℕ) → Option (List ℕ) → Result (Unit {0}) OpFault → Type 0
+Appends old new t (Ok _) = (s : List ℕ) × (t ≡ Some s) × (new ≡ old ++ s)
+Appends old new t (Err Rule1) = ⊥
+Appends old new t (Err Rule2) = t ≡ None
+Appends old new t (Err Memory) = IsSome t
+
+-- `<` and `==`, where the kinds are in the operator table
+abbrev pub less_of : Val → Val → Option Bool
+less_of (prim p) (prim q) = prim_less p q
+less_of _ _ = None
+
+abbrev pub equal_of : Val → Val → Option Bool
+equal_of (prim p) (prim q) = equal_prims p q
+equal_of (obj m) (obj n) = Some (nat_eq m n)
+equal_of (out m) (out n) = Some (nat_eq m n)
+equal_of (obj m) (out n) = None
+equal_of (out m) (obj n) = None
+equal_of (prim p) (obj n) = equal_object p
+equal_of (prim p) (out n) = equal_object p
+equal_of (obj m) (prim q) = equal_object q
+equal_of (out m) (prim q) = equal_object q

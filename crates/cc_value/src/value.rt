@@ -1,6 +1,7 @@
 // Values, views, events, and why an operator gives none.
 
 use cc_ast::units::Units;
+use sqlite_items::Items;
 use std::alloc::AllocError;
 use thiserror::Error;
 
@@ -34,11 +35,11 @@ pub enum Event {
     Call {
         target: View,
         this: View,
-        args: Vec<View>,
+        args: Items<View>,
     },
     New {
         target: View,
-        args: Vec<View>,
+        args: Items<View>,
     },
     Get {
         target: View,
