@@ -1,8 +1,8 @@
 -- The value, view and event of the meaning for which one of src/ stands, and what an answer says.
-use Rattle.std.specs.Prelude.{◌≡◌, ℕ, Bool, List, map, ◌++◌, ◌≤◌, unsigned_abs, nat_eq, ⊤, Option, Some, None, IsSome, Result, Ok, Err}
+use Rattle.std.specs.Prelude.{◌≡◌, ℕ, Bool, false, List, map, ◌++◌, ◌≤◌, unsigned_abs, nat_eq, ⊤, Option, Some, None, IsSome, Result, Ok, Err}
 use Rattle.cc_ast.specs.Syntax.{undefined, null, truth, whole, text}
 use Rattle.cc_meaning.specs.Values.{Val, prim, obj, out, View, shown_prim, shown_out, handle, Event, called, constructed, got, put, ended, threw}
-use Rattle.cc_meaning.specs.Operators.{Outcome, gives, breaks, greatest_whole, prim_text, prim_less, equal_prims, equal_object}
+use Rattle.cc_meaning.specs.Operators.{Outcome, gives, breaks, greatest_whole, prim_text, prim_less, equal_prims, equal_object, is_nothing}
 use Rattle.cc_value.specs.declared.value.Value.{Value}
 use Rattle.cc_value.specs.declared.value.Value.TheVariants as V
 use Rattle.cc_value.specs.declared.value.View as Seen
@@ -84,3 +84,15 @@ equal_of (prim p) (obj n) = equal_object p
 equal_of (prim p) (out n) = equal_object p
 equal_of (obj m) (prim q) = equal_object q
 equal_of (out m) (prim q) = equal_object q
+
+-- undefined and null
+abbrev pub nothing_of : Val → Bool
+nothing_of (prim p) = is_nothing p
+nothing_of (obj n) = false
+nothing_of (out n) = false
+
+-- the texts of both sides joined, where both have one
+abbrev pub joined_of : Option (List ℕ) → Option (List ℕ) → Outcome
+joined_of None t = breaks 2
+joined_of (Some s) None = breaks 2
+joined_of (Some s) (Some t) = gives (prim (text (s ++ t)))

@@ -1,7 +1,7 @@
 // Texts: their order, and the text of a value (ECMA-262 5.1, 9.8, 11.8.5).
 
 ghost use Rattle.std.specs.Prelude.{◌≡◌, ◌++◌, OnOk};
-ghost use Rattle.cc_meaning.specs.Operators.{decimal, list_eq, text_less};
+ghost use Rattle.cc_meaning.specs.Operators.{decimal, list_eq, text_less, truth_text};
 ghost use Rattle.cc_value.specs.Bridge.{Appends, text_of, value_of};
 
 use crate::value::{OpFault, Value};
@@ -55,8 +55,7 @@ pub(crate) fn append_text(into: &mut Vec<u16>, value: &Value) -> Result<(), OpFa
     match value {
         Value::Undefined => append_ascii(into, b"undefined")?,
         Value::Null => append_ascii(into, b"null")?,
-        Value::Truth(true) => append_ascii(into, b"true")?,
-        Value::Truth(false) => append_ascii(into, b"false")?,
+        Value::Truth(b) => append_truth(into, *b)?,
         Value::Whole(z) => append_whole(into, *z)?,
         Value::Text(text) => into.extend_from_slice(text.list.as_slice())?,
         Value::Object(_) | Value::Outside(_) => return Err(OpFault::Rule2),
@@ -69,4 +68,14 @@ fn append_whole(into: &mut Vec<u16>, z: i64) -> Result<(), AllocError>
 {
     let mut buffer = Buffer::new();
     append_ascii(into, buffer.format(z).as_bytes())
+}
+
+fn append_truth(into: &mut Vec<u16>, b: bool) -> Result<(), AllocError>
+    ensures { OnOk result (into.new.items ≡ into.old.items ++ truth_text b) }
+{
+    if b {
+        append_ascii(into, b"true")
+    } else {
+        append_ascii(into, b"false")
+    }
 }
