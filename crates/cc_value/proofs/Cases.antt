@@ -1,15 +1,17 @@
 -- Operators at values of each kind beside those of the others.
-use Rattle.std.proofs.Common.{◌≡◌, ℕ, zero, suc, ◌-◌, ℤ, pos, negsuc, Bool, true, false, not, eqb, List, [], ◌∷◌, ◌++◌, length, FitsSigned, inl, inr, sym, arith, Option, Some, None, if◌then◌else◌, nat_eq, refl, ap, ◌∙◌}
+use Rattle.std.proofs.Common.{◌≡◌, ℕ, zero, suc, ◌-◌, ◌+ℤ◌, ℤ, pos, negsuc, Bool, true, false, not, eqb, List, [], ◌∷◌, ◌++◌, length, FitsSigned, inl, inr, sym, arith, ◌⊎◌, Option, Some, None, is_none, Result, Ok, Err, if◌then◌else◌, nat_eq, refl, ap, ◌∙◌}
 use Rattle.std.specs.Int.{w64, cast_unsigned}
 use Rattle.std.proofs.lemmas.Bool.{cases_eq, eq-eqb, ne_eqb}
 use Rattle.cc_ast.specs.Syntax.{undefined, null, truth, whole, text}
 use Rattle.cc_ast.specs.declared.operator.BinOp.{BinOp}
 use Rattle.cc_ast.specs.declared.operator.BinOp.TheVariants.{Add, Sub, Mul, Div, Rem, BitAnd, BitXor, BitOr, Shl, Shr, UShr, Less, Greater, LessEq, GreaterEq, Equal, NotEqual, Strict, NotStrict, Instance, Has}
 use Rattle.cc_meaning.specs.Values.{Val, prim, obj, out}
-use Rattle.cc_meaning.specs.Operators.{Outcome, gives, breaks, binary_of, strict_equal, equal_prims, equal_object, prim_less, add_prims, prim_text, answer_of, answer_not, answer, whole_eq, truthy_prim}
+use Rattle.cc_meaning.specs.Operators.{Outcome, gives, breaks, number, binary_of, strict_equal, equal_prims, equal_object, prim_less, add_prims, prim_text, answer_of, answer_not, answer, whole_eq, truthy_prim}
 use Rattle.cc_value.specs.declared.value.Value.{Value}
 use Rattle.cc_value.specs.declared.value.Value.TheVariants as V
-use Rattle.cc_value.specs.Bridge.{value_of, less_of, equal_of, nothing_of, text_of, joined_of}
+use Rattle.cc_value.specs.Bridge.{value_of, less_of, equal_of, nothing_of, text_of, joined_of, Appends, Answers}
+use Rattle.cc_value.specs.declared.value.OpFault.{OpFault}
+use Rattle.cc_value.specs.declared.value.OpFault.TheVariants.{Rule1, Rule2, Memory}
 
 pub same-Undefined : (v : Value) → (v ≡ V.Undefined → ⊥) → strict_equal (value_of V.Undefined) (value_of v) ≡ false
 unfolding strict_equal
@@ -389,3 +391,32 @@ pub truthy_length : (t : List ℕ) → not (eqb (length t) 0) ≡ truthy_prim (t
 unfolding truthy_prim
 truthy_length [] = refl
 truthy_length (c ∷ t) = ap not (ne_eqb (length (c ∷ t)) 0 (λ e. omega arith))
+
+-- ---- joined texts
+
+pub joined_objects : (o p : Option (List ℕ)) → (is_none o ≡ true) ⊎ (is_none p ≡ true) → joined_of o p ≡ breaks 2
+joined_objects None p h = refl
+joined_objects (Some s) None h = refl
+joined_objects (Some s) (Some t) (inl h) = cc
+joined_objects (Some s) (Some t) (inr h) = cc
+
+pub joined_first : (o p : Option (List ℕ)) (e : OpFault) (old new : List ℕ) → is_none o ≡ false → is_none p ≡ false → Appends old new o (Err e) → Answers (Err e) (joined_of o p)
+joined_first None p e old new h k a = cc
+joined_first (Some s) None e old new h k a = cc
+joined_first (Some s) (Some t) Rule1 old new h k a = absurd a
+joined_first (Some s) (Some t) Rule2 old new h k a = cc
+joined_first (Some s) (Some t) Memory old new h k a = (s ++ t, refl)
+
+pub joined_second : (o p : Option (List ℕ)) (e : OpFault) (old new : List ℕ) → is_none o ≡ false → is_none p ≡ false → Appends old new p (Err e) → Answers (Err e) (joined_of o p)
+joined_second None p e old new h k a = cc
+joined_second (Some s) None e old new h k a = cc
+joined_second (Some s) (Some t) Rule1 old new h k a = absurd a
+joined_second (Some s) (Some t) Rule2 old new h k a = cc
+joined_second (Some s) (Some t) Memory old new h k a = (s ++ t, refl)
+
+pub joined_both : (o p : Option (List ℕ)) (s t list : List ℕ) → o ≡ Some s → p ≡ Some t → list ≡ s ++ t → joined_of o p ≡ gives (prim (text list))
+joined_both o p s t list e f is = rw (e, f, is) refl
+
+pub add-wholes : (x y : ℤ) → number (x +ℤ y) ≡ binary_of Add (prim (whole x)) (prim (whole y))
+unfolding binary_of
+add-wholes x y = refl

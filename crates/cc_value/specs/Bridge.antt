@@ -2,7 +2,8 @@
 use Rattle.std.specs.Prelude.{◌≡◌, ℕ, Bool, false, List, map, ◌++◌, ◌≤◌, unsigned_abs, nat_eq, ⊤, Option, Some, None, IsSome, Result, Ok, Err}
 use Rattle.cc_ast.specs.Syntax.{undefined, null, truth, whole, text}
 use Rattle.cc_meaning.specs.Values.{Val, prim, obj, out, View, shown_prim, shown_out, handle, Event, called, constructed, got, put, ended, threw}
-use Rattle.cc_meaning.specs.Operators.{Outcome, gives, breaks, greatest_whole, prim_text, prim_less, equal_prims, equal_object, is_nothing}
+use Rattle.cc_meaning.specs.Operators.{Outcome, gives, breaks, greatest_whole, prim_text, prim_less, equal_prims, equal_object, is_nothing, on_wholes}
+use Rattle.cc_ast.specs.declared.operator.BinOp.{BinOp}
 use Rattle.cc_value.specs.declared.value.Value.{Value}
 use Rattle.cc_value.specs.declared.value.Value.TheVariants as V
 use Rattle.cc_value.specs.declared.value.View as Seen
@@ -96,3 +97,8 @@ abbrev pub joined_of : Option (List ℕ) → Option (List ℕ) → Outcome
 joined_of None t = breaks 2
 joined_of (Some s) None = breaks 2
 joined_of (Some s) (Some t) = gives (prim (text (s ++ t)))
+
+-- the operators that only whole numbers have
+abbrev pub wholes_of : BinOp → Val → Val → Outcome
+wholes_of op (prim p) (prim q) = on_wholes op p q
+wholes_of op _ _ = breaks 2

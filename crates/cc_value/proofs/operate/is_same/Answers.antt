@@ -47,7 +47,7 @@ returns-in_default-b-3 c = left c.args.a.now c.args.b.now (V.Whole c.in-Whole.x)
 
 pub returns-in-Text-b : goal.returns-in-Text-b
 unfolding strict_equal
-returns-in-Text-b c = c.is_equal.ensures ∙ ap (λ (s : List ℕ). list_eq s c.as_slice-in-Text-b.result.now) (c.as_slice.ensures.value ∙ first_of (c.x.view_is, sym c.x.view_is)) ∙ ap (λ (s : List ℕ). list_eq c.in-Text.x s) (c.as_slice-in-Text-b.ensures.value ∙ first_of (c.y.view_is, sym c.y.view_is)) ∙ both c.args.a.now c.args.b.now (V.Text c.in-Text.x) (V.Text c.in-Text-b.y) c.in-Text.is c.in-Text-b.is
+returns-in-Text-b c = c.is_equal.ensures ∙ ap (λ (s : List ℕ). list_eq s c.as_slice-in-Text-b.result.now) (c.as_slice.ensures.value ∙ c.x.view_is) ∙ ap (λ (s : List ℕ). list_eq c.in-Text.x s) (c.as_slice-in-Text-b.ensures.value ∙ c.y.view_is) ∙ both c.args.a.now c.args.b.now (V.Text c.in-Text.x) (V.Text c.in-Text-b.y) c.in-Text.is c.in-Text-b.is
 
 pub returns-in_default-b-4 : goal.returns-in_default-b-4
 returns-in_default-b-4 c = left c.args.a.now c.args.b.now (V.Text c.in-Text.x) c.in-Text.is (same-Text c.in-Text.x c.args.b.now c.in_default-b-4.not-Text)

@@ -26,8 +26,8 @@ returns-in_default-b c = left c.args.a.now c.args.b.now (V.Whole c.in-Whole.x) c
 pub returns-in-Text-b : goal.returns-in-Text-b
 unfolding prim_less
 returns-in-Text-b c =
-    let first : c.as_slice.result.now ≡ c.in-Text.x = c.as_slice.ensures.value ∙ first_of (c.x.view_is, sym c.x.view_is) in
-    let second : c.as_slice-in-Text-b.result.now ≡ c.in-Text-b.y = c.as_slice-in-Text-b.ensures.value ∙ first_of (c.y.view_is, sym c.y.view_is) in
+    let first : c.as_slice.result.now ≡ c.in-Text.x = c.as_slice.ensures.value ∙ c.x.view_is in
+    let second : c.as_slice-in-Text-b.result.now ≡ c.in-Text-b.y = c.as_slice-in-Text-b.ensures.value ∙ c.y.view_is in
     ap (λ (b : Bool). Some b) (c.is_less.ensures ∙ ap (λ (s : List ℕ). text_less s c.as_slice-in-Text-b.result.now) first ∙ ap (text_less c.in-Text.x) second)
     ∙ both c.args.a.now c.args.b.now (V.Text c.in-Text.x) (V.Text c.in-Text-b.y) c.in-Text.is c.in-Text-b.is
 

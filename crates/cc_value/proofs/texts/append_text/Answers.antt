@@ -36,4 +36,4 @@ returns-in_ok-append_whole-in-Whole c = (decimal c.in-Whole.z, known c.args.valu
 
 pub returns-in_ok-extend_from_slice-in-Text : goal.returns-in_ok-extend_from_slice-in-Text
 unfolding prim_text
-returns-in_ok-extend_from_slice-in-Text c = (c.in-Text.text, known c.args.value.now (V.Text c.in-Text.text) c.in-Text.text c.in-Text.is refl, c.in_ok-extend_from_slice-in-Text.ensures.items ∙ ap (λ (t : List ℕ). c.args.into.now.items ++ t) (c.as_slice.ensures.value ∙ first_of (c.text.view_is, sym c.text.view_is)))
+returns-in_ok-extend_from_slice-in-Text c = (c.in-Text.text, known c.args.value.now (V.Text c.in-Text.text) c.in-Text.text c.in-Text.is refl, c.in_ok-extend_from_slice-in-Text.ensures.items ∙ ap (λ (t : List ℕ). c.args.into.now.items ++ t) (c.as_slice.ensures.value ∙ c.text.view_is))
