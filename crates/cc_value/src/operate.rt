@@ -20,7 +20,7 @@ pub fn is_truthy(value: &Value) -> bool
         Value::Null => false,
         Value::Truth(b) => *b,
         Value::Whole(z) => *z != 0,
-        Value::Text(text) => !text.list.is_empty(),
+        Value::Text(text) => !text.list.as_slice().is_empty(),
         Value::Object(_) => true,
         Value::Outside(_) => true,
     }

@@ -31,7 +31,7 @@ returns-in-Whole c = truthy_bits c.in-Whole.z (search rules) ∙ at c.args.value
 
 pub returns-in-Text : goal.returns-in-Text
 unfolding truthy
-returns-in-Text c = ap not (c.is_empty.ensures ∙ ap (λ (t : List ℕ). eqb (length t) 0) (c.text.view_is)) ∙ truthy_length c.in-Text.text ∙ at c.args.value.now (V.Text c.in-Text.text) c.in-Text.is
+returns-in-Text c = ap not (c.is_empty.ensures ∙ ap (λ (t : List ℕ). eqb (length t) 0) (c.as_slice.ensures.value ∙ c.text.view_is)) ∙ truthy_length c.in-Text.text ∙ at c.args.value.now (V.Text c.in-Text.text) c.in-Text.is
 
 pub returns-in-Object : goal.returns-in-Object
 unfolding truthy
