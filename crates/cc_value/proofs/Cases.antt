@@ -6,10 +6,12 @@ use Rattle.cc_ast.specs.Syntax.{undefined, null, truth, whole, text}
 use Rattle.cc_ast.specs.declared.operator.BinOp.{BinOp}
 use Rattle.cc_ast.specs.declared.operator.BinOp.TheVariants.{Add, Sub, Mul, Div, Rem, BitAnd, BitXor, BitOr, Shl, Shr, UShr, Less, Greater, LessEq, GreaterEq, Equal, NotEqual, Strict, NotStrict, Instance, Has}
 use Rattle.cc_meaning.specs.Values.{Val, prim, obj, out}
-use Rattle.cc_meaning.specs.Operators.{Outcome, gives, breaks, number, binary_of, strict_equal, equal_prims, equal_object, prim_less, add_prims, prim_text, answer_of, answer_not, answer, whole_eq, truthy_prim, on_wholes, whole_binary}
+use Rattle.cc_meaning.specs.Operators.{Outcome, gives, breaks, number, binary_of, strict_equal, equal_prims, equal_object, prim_less, add_prims, prim_text, answer_of, answer_not, answer, whole_eq, truthy_prim, on_wholes, whole_binary, on_whole, whole_unary, unary_of, truthy}
+use Rattle.cc_ast.specs.declared.operator.UnOp.{UnOp}
+use Rattle.cc_ast.specs.declared.operator.UnOp.TheVariants.{Minus, Plus, BitNot, Not, Void, Typeof, Delete}
 use Rattle.cc_value.specs.declared.value.Value.{Value}
 use Rattle.cc_value.specs.declared.value.Value.TheVariants as V
-use Rattle.cc_value.specs.Bridge.{value_of, less_of, equal_of, nothing_of, text_of, joined_of, wholes_of, Appends, Answers}
+use Rattle.cc_value.specs.Bridge.{value_of, less_of, equal_of, nothing_of, text_of, joined_of, wholes_of, whole_of, type_of, Appends, Answers}
 use Rattle.cc_value.specs.declared.value.OpFault.{OpFault}
 use Rattle.cc_value.specs.declared.value.OpFault.TheVariants.{Rule1, Rule2, Memory}
 
@@ -620,3 +622,55 @@ by-others Has (obj m) (out n) h1 h2 h3 h4 h5 h6 h7 h8 h9 = refl
 by-others Has (out m) (prim q) h1 h2 h3 h4 h5 h6 h7 h8 h9 = refl
 by-others Has (out m) (obj n) h1 h2 h3 h4 h5 h6 h7 h8 h9 = refl
 by-others Has (out m) (out n) h1 h2 h3 h4 h5 h6 h7 h8 h9 = refl
+
+-- ---- unary operators
+
+pub whole-other : (op : UnOp) (u : Value) → ((z : ℤ) → u ≡ V.Whole z → ⊥) → whole_of op (value_of u) ≡ breaks 2
+unfolding on_whole
+whole-other op V.Undefined h = refl
+whole-other op V.Null h = refl
+whole-other op (V.Truth b) h = refl
+whole-other op (V.Whole z) h = absurd (h z refl)
+whole-other op (V.Text t) h = refl
+whole-other op (V.Object n) h = refl
+whole-other op (V.Outside n) h = refl
+
+pub whole-same : (op : UnOp) (u : Value) (z : ℤ) → u ≡ V.Whole z → whole_unary op z ≡ whole_of op (value_of u)
+unfolding on_whole
+whole-same op u z e = ap (λ (v : Value). whole_of op (value_of v)) (sym e)
+
+pub by-Not : (x : Val) → unary_of Not x ≡ answer (not (truthy x))
+unfolding unary_of truthy
+by-Not (prim p) = refl
+by-Not (obj n) = refl
+by-Not (out n) = refl
+
+pub by-Void : (x : Val) → unary_of Void x ≡ gives (prim undefined)
+unfolding unary_of
+by-Void (prim p) = refl
+by-Void (obj n) = refl
+by-Void (out n) = refl
+
+pub by-Typeof : (x : Val) → unary_of Typeof x ≡ type_of x
+unfolding unary_of
+by-Typeof (prim p) = refl
+by-Typeof (obj n) = refl
+by-Typeof (out n) = refl
+
+pub by-signs : (op : UnOp) (x : Val) → (op ≡ Not → ⊥) → (op ≡ Void → ⊥) → (op ≡ Typeof → ⊥) → whole_of op x ≡ unary_of op x
+unfolding unary_of
+by-signs Not x h1 h2 h3 = absurd (h1 refl)
+by-signs Void x h1 h2 h3 = absurd (h2 refl)
+by-signs Typeof x h1 h2 h3 = absurd (h3 refl)
+by-signs Minus (prim p) h1 h2 h3 = refl
+by-signs Minus (obj m) h1 h2 h3 = refl
+by-signs Minus (out m) h1 h2 h3 = refl
+by-signs Plus (prim p) h1 h2 h3 = refl
+by-signs Plus (obj m) h1 h2 h3 = refl
+by-signs Plus (out m) h1 h2 h3 = refl
+by-signs BitNot (prim p) h1 h2 h3 = refl
+by-signs BitNot (obj m) h1 h2 h3 = refl
+by-signs BitNot (out m) h1 h2 h3 = refl
+by-signs Delete (prim p) h1 h2 h3 = refl
+by-signs Delete (obj m) h1 h2 h3 = refl
+by-signs Delete (out m) h1 h2 h3 = refl

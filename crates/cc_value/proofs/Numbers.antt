@@ -1,12 +1,14 @@
 -- Numbers that are made, and those that break rule 1.
-use Rattle.std.proofs.Common.{◌≡◌, ◌≢◌, ℕ, zero, suc, ◌*◌, ◌/◌, ◌%◌, ◌^◌, ◌-ℤ◌, bit_and, bit_or, bit_xor, ◌<◌, ◌≤◌, Bool, true, false, cond, eqb, leb, ℤ, pos, negsuc, neg_ℤ, unsigned_abs, ◌⊎◌, inl, inr, refl, sym, ap, ◌∙◌, arith}
+use Rattle.std.proofs.Common.{◌≡◌, ◌≢◌, ℕ, zero, suc, ◌*◌, ◌/◌, ◌%◌, ◌^◌, ◌-ℤ◌, bit_and, bit_or, bit_xor, ◌<◌, ◌≤◌, Bool, true, false, not, ◌-◌, cond, eqb, leb, ℤ, pos, negsuc, neg_ℤ, unsigned_abs, ◌⊎◌, inl, inr, refl, sym, ap, ◌∙◌, arith}
 use Rattle.std.proofs.lemmas.Bool.{le-leb, lt-leb, eq-eqb, ne_eqb}
 use Rattle.std.specs.Int.{is_negative, int_shr}
 use Rattle.cc_ast.specs.Syntax.{whole}
 use Rattle.cc_ast.specs.declared.operator.BinOp.{BinOp}
 use Rattle.cc_ast.specs.declared.operator.BinOp.TheVariants.{Add, Sub, Mul, Div, Rem, BitAnd, BitXor, BitOr, Shl, Shr, UShr, Less, Greater, LessEq, GreaterEq, Equal, NotEqual, Strict, NotStrict, Instance, Has}
+use Rattle.cc_ast.specs.declared.operator.UnOp.{UnOp}
+use Rattle.cc_ast.specs.declared.operator.UnOp.TheVariants.{Minus, Plus, BitNot, Not, Void, Typeof, Delete}
 use Rattle.cc_meaning.specs.Values.{prim}
-use Rattle.cc_meaning.specs.Operators.{Outcome, gives, breaks, greatest_whole, number, with_sign, divide_sizes, rest_of_sizes, whole_binary, signs_differ, from_bits32, to_uint32, to_int32, shift_count}
+use Rattle.cc_meaning.specs.Operators.{Outcome, gives, breaks, greatest_whole, number, with_sign, divide_sizes, rest_of_sizes, whole_binary, whole_unary, signs_differ, from_bits32, to_uint32, to_int32, shift_count}
 
 pub number-made : (z : ℤ) → unsigned_abs z ≤ 9007199254740991 → number z ≡ gives (prim (whole z))
 unfolding number
@@ -130,3 +132,25 @@ at-others Strict a b h1 h2 h3 h4 h5 h6 h7 h8 h9 h10 = refl
 at-others NotStrict a b h1 h2 h3 h4 h5 h6 h7 h8 h9 h10 = refl
 at-others Instance a b h1 h2 h3 h4 h5 h6 h7 h8 h9 h10 = refl
 at-others Has a b h1 h2 h3 h4 h5 h6 h7 h8 h9 h10 = refl
+
+pub at-Minus : (z : ℤ) → whole_unary Minus z ≡ with_sign (not (is_negative z)) (unsigned_abs z)
+unfolding whole_unary
+at-Minus z = refl
+
+pub at-Plus : (z : ℤ) → whole_unary Plus z ≡ gives (prim (whole z))
+unfolding whole_unary
+at-Plus z = refl
+
+pub at-BitNot : (z : ℤ) → whole_unary BitNot z ≡ from_bits32 (4294967295 - to_uint32 z)
+unfolding whole_unary
+at-BitNot z = refl
+
+pub at-unary_others : (op : UnOp) (z : ℤ) → op ≢ Minus → op ≢ Plus → op ≢ BitNot → whole_unary op z ≡ breaks 2
+unfolding whole_unary
+at-unary_others Minus z h1 h2 h3 = absurd (h1 refl)
+at-unary_others Plus z h1 h2 h3 = absurd (h2 refl)
+at-unary_others BitNot z h1 h2 h3 = absurd (h3 refl)
+at-unary_others Not z h1 h2 h3 = refl
+at-unary_others Void z h1 h2 h3 = refl
+at-unary_others Typeof z h1 h2 h3 = refl
+at-unary_others Delete z h1 h2 h3 = refl

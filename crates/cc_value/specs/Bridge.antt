@@ -2,7 +2,8 @@
 use Rattle.std.specs.Prelude.{◌≡◌, ℕ, Bool, false, List, map, ◌++◌, ◌≤◌, unsigned_abs, nat_eq, ⊤, Option, Some, None, IsSome, Result, Ok, Err}
 use Rattle.cc_ast.specs.Syntax.{undefined, null, truth, whole, text}
 use Rattle.cc_meaning.specs.Values.{Val, prim, obj, out, View, shown_prim, shown_out, handle, Event, called, constructed, got, put, ended, threw}
-use Rattle.cc_meaning.specs.Operators.{Outcome, gives, breaks, greatest_whole, prim_text, prim_less, equal_prims, equal_object, is_nothing, on_wholes}
+use Rattle.cc_meaning.specs.Operators.{Outcome, gives, breaks, greatest_whole, prim_text, prim_less, equal_prims, equal_object, is_nothing, on_wholes, on_whole, type_text}
+use Rattle.cc_ast.specs.declared.operator.UnOp.{UnOp}
 use Rattle.cc_ast.specs.declared.operator.BinOp.{BinOp}
 use Rattle.cc_value.specs.declared.value.Value.{Value}
 use Rattle.cc_value.specs.declared.value.Value.TheVariants as V
@@ -102,3 +103,24 @@ joined_of (Some s) (Some t) = gives (prim (text (s ++ t)))
 abbrev pub wholes_of : BinOp → Val → Val → Outcome
 wholes_of op (prim p) (prim q) = on_wholes op p q
 wholes_of op _ _ = breaks 2
+
+-- a sign or `~`, which only whole numbers have
+abbrev pub whole_of : UnOp → Val → Outcome
+whole_of op (prim p) = on_whole op p
+whole_of op (obj n) = breaks 2
+whole_of op (out n) = breaks 2
+
+-- `typeof`, where it needs no store
+abbrev pub type_of : Val → Outcome
+type_of (prim p) = gives (prim (text (type_text p)))
+type_of (obj n) = breaks 2
+type_of (out n) = breaks 2
+
+abbrev pub IsNoObject : Value → Type 0
+IsNoObject V.Undefined = ⊤
+IsNoObject V.Null = ⊤
+IsNoObject (V.Truth b) = ⊤
+IsNoObject (V.Whole z) = ⊤
+IsNoObject (V.Text t) = ⊤
+IsNoObject (V.Object n) = ⊥
+IsNoObject (V.Outside n) = ⊤

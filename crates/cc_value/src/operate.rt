@@ -1,13 +1,15 @@
 // The operators (ECMA-262 5.1, 11), as far as they need no store.
 
 ghost use Rattle.std.specs.Prelude.{◌≡◌, ◌≢◌, Some, None, false, is_none, if◌then◌else◌};
-ghost use Rattle.cc_meaning.specs.Operators.{answer_of, answer_not, binary_of, strict_equal, truthy};
-ghost use Rattle.cc_value.specs.Bridge.{Answers, IsMade, equal_of, joined_of, less_of, nothing_of, text_of, value_of, wholes_of};
+ghost use Rattle.cc_meaning.specs.Operators.{answer_of, answer_not, binary_of, gives, strict_equal, truthy, unary_of};
+ghost use Rattle.cc_meaning.specs.Values.{prim};
+ghost use Rattle.cc_ast.specs.Syntax.{text};
+ghost use Rattle.cc_value.specs.Bridge.{Answers, IsMade, IsNoObject, equal_of, joined_of, less_of, nothing_of, text_of, type_of, value_of, whole_of, wholes_of};
 
 use crate::texts;
 use crate::value::{OpFault, Value};
 use crate::whole;
-use cc_ast::operator::BinOp;
+use cc_ast::operator::{BinOp, UnOp};
 use cc_ast::units::Units;
 use std::alloc::Global;
 
@@ -232,5 +234,57 @@ pub fn binary(alloc: Global, op: BinOp, a: &Value, b: &Value) -> Result<Value, O
         BinOp::Strict => Ok(Value::Truth(is_same(a, b))),
         BinOp::NotStrict => Ok(Value::Truth(!is_same(a, b))),
         _ => on_wholes(op, a, b),
+    }
+}
+
+// A sign or `~`, which only whole numbers have.
+fn on_whole(op: UnOp, value: &Value) -> Result<Value, OpFault>
+    requires { IsMade value.now }
+    ensures { Answers result (whole_of op (value_of value.now)) }
+{
+    match value {
+        Value::Whole(z) => whole::operate_one(op, *z),
+        _ => Err(OpFault::Rule2),
+    }
+}
+
+// The type of a value that is no object of the program (ECMA-262 5.1, 11.4.3).
+fn type_name(alloc: Global, value: &Value) -> Result<Value, OpFault>
+    ensures { Answers result (type_of (value_of value.now)) }
+{
+    match value {
+        Value::Undefined => ascii(alloc, b"undefined"),
+        Value::Null => ascii(alloc, b"object"),
+        Value::Truth(_) => ascii(alloc, b"boolean"),
+        Value::Whole(_) => ascii(alloc, b"number"),
+        Value::Text(_) => ascii(alloc, b"string"),
+        Value::Object(_) => Err(OpFault::Rule2),
+        Value::Outside(_) => Err(OpFault::Rule2),
+    }
+}
+
+fn ascii(alloc: Global, bytes: &[u8]) -> Result<Value, OpFault>
+    ensures { Answers result (gives (prim (text bytes.now))) }
+{
+    let mut list = Vec::new(alloc);
+    if let Err(_refused) = texts::append_ascii(&mut list, bytes) {
+        return Err(OpFault::Memory);
+    }
+    Ok(Value::Text(Units { list }))
+}
+
+/// A unary operator. `delete`, and `typeof` of an object of the program, need a heap. Memory is
+/// wanted only where the value is a text.
+pub fn unary(alloc: Global, op: UnOp, value: &Value) -> Result<Value, OpFault>
+    requires made { IsMade value.now }
+    requires no_delete { op ≢ UnOp.Delete }
+    requires no_type { op ≡ UnOp.Typeof → IsNoObject value.now }
+    ensures { Answers result (unary_of op (value_of value.now)) }
+{
+    match op {
+        UnOp::Not => Ok(Value::Truth(!is_truthy(value))),
+        UnOp::Void => Ok(Value::Undefined),
+        UnOp::Typeof => type_name(alloc, value),
+        _ => on_whole(op, value),
     }
 }

@@ -2,10 +2,10 @@
 
 ghost use Rattle.std.specs.Prelude.{◌≡◌, ◌*◌, ◌<◌, ◌≤◌, unsigned_abs, ◌+ℤ◌, ◌-ℤ◌};
 ghost use Rattle.std.specs.Int.{is_negative};
-ghost use Rattle.cc_meaning.specs.Operators.{gives, number, with_sign, divide_sizes, rest_of_sizes, signs_differ, to_uint32, to_int32, from_bits32, shift_count, greatest_whole, whole_binary};
+ghost use Rattle.cc_meaning.specs.Operators.{gives, number, with_sign, divide_sizes, rest_of_sizes, signs_differ, to_uint32, to_int32, from_bits32, shift_count, greatest_whole, whole_binary, whole_unary};
 ghost use Rattle.cc_value.specs.Bridge.{Answers, value_of};
 
-use cc_ast::operator::BinOp;
+use cc_ast::operator::{BinOp, UnOp};
 use crate::value::{OpFault, Value};
 
 /// The greatest number: 2^53-1.
@@ -134,6 +134,22 @@ pub(crate) fn operate(op: BinOp, a: i64, b: i64) -> Result<Value, OpFault>
         BinOp::Shl => Ok(from_bits32(to_uint32(a) << shift_count(b))),
         BinOp::Shr => Ok(Value::Whole(i64::from(to_int32(a) >> shift_count(b)))),
         BinOp::UShr => Ok(Value::Whole(i64::from(to_uint32(a) >> shift_count(b)))),
+        _ => Err(OpFault::Rule2),
+    }
+}
+
+/// A sign or `~` of a whole number.
+pub(crate) fn operate_one(op: UnOp, z: i64) -> Result<Value, OpFault>
+    requires { unsigned_abs z ≤ greatest_whole }
+    ensures { Answers result (whole_unary op z) }
+{
+    match op {
+        UnOp::Minus => {
+            let minus = z < 0;
+            with_sign(!minus, z.unsigned_abs())
+        }
+        UnOp::Plus => Ok(Value::Whole(z)),
+        UnOp::BitNot => Ok(from_bits32(!to_uint32(z))),
         _ => Err(OpFault::Rule2),
     }
 }
