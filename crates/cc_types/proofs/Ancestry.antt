@@ -1,6 +1,6 @@
 -- The test of ancestry decides it: a chain can do without repeats, and so with no more steps than
 -- there are classes.
-use Rattle.std.proofs.Common.{◌≡◌, ◌≢◌, ℕ, zero, suc, ◌-◌, ◌<◌, ◌≤◌, Bool, true, false, ◌||◌, eqb, List, [], ◌∷◌, ◌++◌, length, get_or, Contains, Any, IsTrue, ◌↔◌, Option, Some, None, option_to_list, refl, sym, ap, ◌∙◌, subst, inl, inr, arith}
+use Rattle.std.proofs.Common.{◌≡◌, ◌≢◌, ℕ, zero, suc, ◌-◌, ◌<◌, ◌≤◌, Bool, true, false, ◌||◌, eqb, List, [], ◌∷◌, ◌++◌, length, get_or, Contains, IsTrue, ◌↔◌, Option, Some, None, option_to_list, refl, sym, ap, ◌∙◌, subst, inl, inr, arith}
 use Rattle.std.specs.Bool.{one_answer}
 use Rattle.std.proofs.Math.Bool.{or-false}
 use Rattle.std.proofs.lemmas.Option.{slice_get_read}
@@ -19,9 +19,10 @@ pub reaches-sound : (n : ℕ) (cs : List Class) (a b : ℕ) → reaches n cs a b
 unfolding reaches
 reaches-sound zero cs a b h = subst (λ (x : ℕ). Ancestor cs a x) (eqb-true a b h) (itself a)
 reaches-sound (suc n) cs a b h =
-    elim (or_cases (eqb a b) (list_any (λ p. reaches n cs p b) (parents cs a)) h)
-    [ inl e ↦ subst (λ (x : ℕ). Ancestor cs a x) (eqb-true a b e) (itself a)
-    | inr e ↦ let any = Any-from_list_any (λ p. reaches n cs p b) (parents cs a) e in above a any.1 b (any.0, any.2, any.3) (reaches-sound n cs any.1 b any.4) ]
+    elim (or_cases (eqb a b) (list_any (λ p. reaches n cs p b) (parents cs a)) h) [
+      | inl e ↦ subst (λ (x : ℕ). Ancestor cs a x) (eqb-true a b e) (itself a)
+      | inr e ↦ let any = Any-from_list_any (λ p. reaches n cs p b) (parents cs a) e in above a any.1 b (any.0, any.2, any.3) (reaches-sound n cs any.1 b any.4)
+    ]
 
 -- ---- a class with a parent is in the table
 
@@ -47,9 +48,10 @@ record Simple (cs : List Class) (a b : ℕ) : Type 0 where
 cut : (cs : List Class) (a p b : ℕ) (ns : List ℕ) → Path cs ns p b → IsDistinct eqb ns → ((q : ℕ) → list_any (eqb q) ns ≡ true → q < length cs) → list_any (eqb a) ns ≡ true → Simple cs a b
 cut cs a p b [] r d w h = absurd (false≢true h)
 cut cs a p b (n ∷ ns) (go _ p' _ _ c r) d w h =
-    elim (or_cases (eqb a n) (list_any (eqb a) ns) h)
-    [ inl e ↦ subst (λ (x : ℕ). Simple cs x b) (sym (eqb-true a n e)) (record { nodes = n ∷ ns; path = go n p' b ns c r; distinct = d; below = w })
-    | inr e ↦ cut cs a p' b ns r (IsDistinct-tail eqb n ns d) (λ q k. w q (or_right (eqb q n) (list_any (eqb q) ns) k)) e ]
+    elim (or_cases (eqb a n) (list_any (eqb a) ns) h) [
+      | inl e ↦ subst (λ (x : ℕ). Simple cs x b) (sym (eqb-true a n e)) (record { nodes = n ∷ ns; path = go n p' b ns c r; distinct = d; below = w })
+      | inr e ↦ cut cs a p' b ns r (IsDistinct-tail eqb n ns d) (λ q k. w q (or_right (eqb q n) (list_any (eqb q) ns) k)) e
+    ]
 
 none_equal : (a : ℕ) (ns : List ℕ) → list_any (eqb a) ns ≡ false → AllByRecursion (λ y. eqb a y ≡ false) ns
 none_equal a [] h = tt
@@ -57,9 +59,10 @@ none_equal a (n ∷ ns) h = let both = or_parts (eqb a n) (list_any (eqb a) ns) 
 
 longer : (cs : List Class) (a p b : ℕ) → Contains (parents cs a) p → Simple cs p b → Simple cs a b
 longer cs a p b c s =
-    elim (cases_Bool (list_any (eqb a) s.nodes))
-    [ inl h ↦ cut cs a p b s.nodes s.path s.distinct s.below h
-    | inr h ↦ record { nodes = a ∷ s.nodes; path = go a p b s.nodes c s.path; distinct = IsDistinct-cons eqb a s.nodes (none_equal a s.nodes h) s.distinct; below = λ q k. elim (or_cases (eqb q a) (list_any (eqb q) s.nodes) k) [ inl e ↦ subst (λ (x : ℕ). x < length cs) (sym (eqb-true q a e)) (parents-in cs a p c) | inr e ↦ s.below q e ] } ]
+    elim (cases_Bool (list_any (eqb a) s.nodes)) [
+      | inl h ↦ cut cs a p b s.nodes s.path s.distinct s.below h
+      | inr h ↦ record { nodes = a ∷ s.nodes; path = go a p b s.nodes c s.path; distinct = IsDistinct-cons eqb a s.nodes (none_equal a s.nodes h) s.distinct; below = λ q k. elim (or_cases (eqb q a) (list_any (eqb q) s.nodes) k) [ inl e ↦ subst (λ (x : ℕ). x < length cs) (sym (eqb-true q a e)) (parents-in cs a p c) | inr e ↦ s.below q e ] }
+    ]
 
 simple : (cs : List Class) (a b : ℕ) → Ancestor cs a b → Simple cs a b
 unfolding IsDistinct
@@ -75,7 +78,7 @@ walk cs [] a b (stop _) (suc n) h = or_left (eqb b b) (list_any (λ p. reaches n
 walk cs (m ∷ ns) a b (go _ p _ _ c r) zero h = absurd (omega arith)
 walk cs (m ∷ ns) a b (go _ p _ _ c r) (suc n) h =
     or_right (eqb a b) (list_any (λ q. reaches n cs q b) (parents cs a))
-      (list_any-from_Any (λ q. reaches n cs q b) (parents cs a) (c.0, p, c.1, c.2, walk cs ns p b r n (omega arith)))
+    (list_any-from_Any (λ q. reaches n cs q b) (parents cs a) (c.0, p, c.1, c.2, walk cs ns p b r n (omega arith)))
 
 pub subtype-sound : (cs : List Class) (a b : ℕ) → subtype cs a b ≡ true → Ancestor cs a b
 unfolding subtype
@@ -147,9 +150,10 @@ reaches-join n cs a b k x y other some h e ex ey = rw (ex, ey) (sym (reaches-by_
 pub instance-tells : (r : Bool) (cs : List Class) (c : ℕ) (t : TypeSet) → r ≡ instance_of cs c t → IsTrue r ↔ IsInstance cs c t
 unfolding instance_of
 instance-tells r cs c t e =
-    let f : ℕ → Bool = λ d. subtype cs c d in
-    (λ h. elim (or_cases t.unknown (list_any f t.classes) (sym e ∙ h)) [ inl u ↦ inl u | inr k ↦ let any = Any-from_list_any f t.classes k in inr (any.1, (any.0, any.2, any.3), subtype-sound cs c any.1 any.4) ],
-     λ i. elim i [ inl u ↦ e ∙ or_left t.unknown (list_any f t.classes) u | inr d ↦ e ∙ or_right t.unknown (list_any f t.classes) (list_any-from_Any f t.classes (d.1.0, d.0, d.1.1, d.1.2, subtype-complete cs c d.0 d.2)) ])
+    let f : ℕ → Bool = λ d. subtype cs c d in (
+      λ h. elim (or_cases t.unknown (list_any f t.classes) (sym e ∙ h)) [ inl u ↦ inl u | inr k ↦ let any = Any-from_list_any f t.classes k in inr (any.1, (any.0, any.2, any.3), subtype-sound cs c any.1 any.4) ],
+      λ i. elim i [ inl u ↦ e ∙ or_left t.unknown (list_any f t.classes) u | inr d ↦ e ∙ or_right t.unknown (list_any f t.classes) (list_any-from_Any f t.classes (d.1.0, d.0, d.1.1, d.1.2, subtype-complete cs c d.0 d.2)) ],
+    )
 
 pub instance-unknown : (cs : List Class) (c : ℕ) (t : TypeSet) → t.unknown ≡ true → true ≡ instance_of cs c t
 unfolding instance_of

@@ -1,6 +1,6 @@
 -- What opening classes does to marks, and that a search that has nothing open has marked the
 -- ancestors.
-use Rattle.std.proofs.Common.{◌≡◌, ◌≢◌, ℕ, zero, suc, ◌+◌, ◌*◌, ◌<◌, ◌≤◌, ◌⊎◌, ◌↔◌, Bool, true, false, cond, List, [], ◌∷◌, length, get_or, set, Contains, sum_by, Some, refl, sym, subst, ap, ◌∙◌, inl, inr, arith, get_or-set_same, get_or-set_other}
+use Rattle.std.proofs.Common.{◌≡◌, ◌≢◌, ℕ, zero, suc, ◌<◌, ◌≤◌, ◌⊎◌, ◌↔◌, cond, List, [], ◌∷◌, length, get_or, set, Contains, sum_by, Some, refl, sym, subst, ap, ◌∙◌, inl, inr, arith, get_or-set_same, get_or-set_other}
 use Rattle.std.proofs.Math.ListN.{get_or-eq_default}
 use Rattle.std.proofs.lemmas.List.{length-set}
 use Rattle.std.proofs.lemmas.List.Sums.{sum_by-set}
@@ -50,9 +50,10 @@ record Keeps (ms : List Mark) (p : ℕ) : Type 0 where
 
 opened_cases : (ms : List Mark) (p : ℕ) → Opens ms p ⊎ Keeps ms p
 opened_cases ms p =
-    elim (cases_lt p (length ms))
-    [ inl h ↦ elim (unseen_or_not (mark_at ms p)) [ inl e ↦ inl (record { within = h; was = e; is = opened_unseen ms p h e }) | inr k ↦ inr (record { seen = λ _. k; is = opened_seen ms p k h }) ]
-    | inr h ↦ inr (record { seen = λ j. absurd (omega arith); is = opened_past ms p h }) ]
+    elim (cases_lt p (length ms)) [
+      | inl h ↦ elim (unseen_or_not (mark_at ms p)) [ inl e ↦ inl (record { within = h; was = e; is = opened_unseen ms p h e }) | inr k ↦ inr (record { seen = λ _. k; is = opened_seen ms p k h }) ]
+      | inr h ↦ inr (record { seen = λ j. absurd (omega arith); is = opened_past ms p h })
+    ]
 
 pub length-opened : (ms : List Mark) (p : ℕ) → length (opened ms p) ≡ length ms
 length-opened ms p = elim (opened_cases ms p) [ inl o ↦ rw o.is (length-set ms p Open) | inr k ↦ ap length k.is ]
@@ -60,15 +61,17 @@ length-opened ms p = elim (opened_cases ms p) [ inl o ↦ rw o.is (length-set ms
 -- a class that is seen keeps its mark
 opened-keeps : (ms : List Mark) (p x : ℕ) → mark_at ms x ≢ Unseen → mark_at (opened ms p) x ≡ mark_at ms x
 opened-keeps ms p x k =
-    elim (opened_cases ms p)
-    [ inl o ↦ let other : x ≢ p = λ e. k (ap (mark_at ms) e ∙ o.was) in rw o.is (get_or-set_other ms p x Open Unseen other)
-    | inr j ↦ ap (λ (m : List Mark). mark_at m x) j.is ]
+    elim (opened_cases ms p) [
+      | inl o ↦ let other : x ≢ p = λ e. k (ap (mark_at ms) e ∙ o.was) in rw o.is (get_or-set_other ms p x Open Unseen other)
+      | inr j ↦ ap (λ (m : List Mark). mark_at m x) j.is
+    ]
 
 opened-sees : (ms : List Mark) (p : ℕ) → p < length ms → mark_at (opened ms p) p ≢ Unseen
 opened-sees ms p h =
-    elim (opened_cases ms p)
-    [ inl o ↦ λ e. let there : mark_at (set ms p Open) p ≡ Open = get_or-set_same ms p Open Unseen h in let now : mark_at (set ms p Open) p ≡ Unseen = ap (λ (m : List Mark). mark_at m p) (sym o.is) ∙ e in cc
-    | inr j ↦ λ e. j.seen h (ap (λ (m : List Mark). mark_at m p) (sym j.is) ∙ e) ]
+    elim (opened_cases ms p) [
+      | inl o ↦ λ e. let there : mark_at (set ms p Open) p ≡ Open = get_or-set_same ms p Open Unseen h in let now : mark_at (set ms p Open) p ≡ Unseen = ap (λ (m : List Mark). mark_at m p) (sym o.is) ∙ e in cc
+      | inr j ↦ λ e. j.seen h (ap (λ (m : List Mark). mark_at m p) (sym j.is) ∙ e)
+    ]
 
 -- the mark of a class after it, and what it was before
 data After (ms : List Mark) (p x : ℕ) : Type 0 where
@@ -77,11 +80,13 @@ data After (ms : List Mark) (p x : ℕ) : Type 0 where
 
 after : (ms : List Mark) (p x : ℕ) → After ms p x
 after ms p x =
-    elim (opened_cases ms p)
-    [ inl o ↦ elim (cases_eq x p)
-        [ inl e ↦ now_open e (subst (λ (y : ℕ). mark_at (opened ms p) y ≡ Open) (sym e) (ap (λ (m : List Mark). mark_at m p) o.is ∙ get_or-set_same ms p Open Unseen o.within))
-        | inr other ↦ as_before (ap (λ (m : List Mark). mark_at m x) o.is ∙ get_or-set_other ms p x Open Unseen other) ]
-    | inr j ↦ as_before (ap (λ (m : List Mark). mark_at m x) j.is) ]
+    elim (opened_cases ms p) [
+      | inl o ↦ elim (cases_eq x p) [
+        | inl e ↦ now_open e (subst (λ (y : ℕ). mark_at (opened ms p) y ≡ Open) (sym e) (ap (λ (m : List Mark). mark_at m p) o.is ∙ get_or-set_same ms p Open Unseen o.within))
+        | inr other ↦ as_before (ap (λ (m : List Mark). mark_at m x) o.is ∙ get_or-set_other ms p x Open Unseen other)
+      ]
+      | inr j ↦ as_before (ap (λ (m : List Mark). mark_at m x) j.is)
+    ]
 
 opened-new : (ms : List Mark) (p x : ℕ) → mark_at (opened ms p) x ≢ Unseen → (mark_at ms x ≢ Unseen) ⊎ (x ≡ p)
 opened-new ms p x k = elim (after ms p x) [ as_before e ↦ inl (λ h. k (e ∙ h)) | now_open e o ↦ inr e ]
@@ -99,9 +104,10 @@ left_of Done = 0
 pub opened-left : (ms : List Mark) (p : ℕ) → sum_by left_of (opened ms p) ≤ sum_by left_of ms
 unfolding left_of
 opened-left ms p =
-    elim (opened_cases ms p)
-    [ inl o ↦ let one = sum_by-set left_of ms p Open Unseen o.within in let two : left_of (get_or ms p Unseen) ≡ 2 = ap left_of o.was in rw o.is (omega arith)
-    | inr j ↦ rw j.is (omega arith) ]
+    elim (opened_cases ms p) [
+      | inl o ↦ let one = sum_by-set left_of ms p Open Unseen o.within in let two : left_of (get_or ms p Unseen) ≡ 2 = ap left_of o.was in rw o.is (omega arith)
+      | inr j ↦ rw j.is (omega arith)
+    ]
 
 -- ---- several classes
 
@@ -124,9 +130,10 @@ contains_more p x ps c = (suc c.0, (let h : c.0 < length ps = c.1 in omega arith
 all-new : (ms : List Mark) (ps : List ℕ) (x : ℕ) → mark_at (opened_all ms ps) x ≢ Unseen → (mark_at ms x ≢ Unseen) ⊎ Contains ps x
 all-new ms [] x k = inl k
 all-new ms (p ∷ ps) x k =
-    elim (all-new (opened ms p) ps x k)
-    [ inl h ↦ elim (opened-new ms p x h) [ inl j ↦ inl j | inr e ↦ inr (0, omega arith, sym e) ]
-    | inr c ↦ inr (contains_more p x ps c) ]
+    elim (all-new (opened ms p) ps x k) [
+      | inl h ↦ elim (opened-new ms p x h) [ inl j ↦ inl j | inr e ↦ inr (0, omega arith, sym e) ]
+      | inr c ↦ inr (contains_more p x ps c)
+    ]
 
 all-done : (ms : List Mark) (ps : List ℕ) (x : ℕ) → mark_at (opened_all ms ps) x ≡ Done → mark_at ms x ≡ Done
 all-done ms [] x d = d
@@ -152,7 +159,8 @@ walk_begins cs a ms h e clear =
       size = length-set ms a Open ∙ e;
       start = λ k. cc;
       sound = λ x k. elim (cases_eq x a) [ inl same ↦ subst (λ (y : ℕ). Ancestor cs a y) (sym same) (itself a) | inr other ↦ absurd (k (get_or-set_other ms a x Open Unseen other ∙ clear x)) ];
-      closed = λ x p d c w. elim (cases_eq x a) [ inl same ↦ absurd (let now : mark_at (set ms a Open) a ≡ Done = subst (λ (y : ℕ). mark_at (set ms a Open) y ≡ Done) same d in cc) | inr other ↦ absurd (let now : mark_at (set ms a Open) x ≡ Unseen = get_or-set_other ms a x Open Unseen other ∙ clear x in cc) ] }
+      closed = λ x p d c w. elim (cases_eq x a) [ inl same ↦ absurd (let now : mark_at (set ms a Open) a ≡ Done = subst (λ (y : ℕ). mark_at (set ms a Open) y ≡ Done) same d in cc) | inr other ↦ absurd (let now : mark_at (set ms a Open) x ≡ Unseen = get_or-set_other ms a x Open Unseen other ∙ clear x in cc) ];
+    }
 
 one_more : (cs : List Class) (a x p : ℕ) → Ancestor cs a x → Contains (parents cs x) p → Ancestor cs a p
 one_more cs a x p (itself _) c = above a p p c (itself p)
@@ -171,9 +179,11 @@ walk_goes cs a n ms w h o =
       size = length-opened_all done (parents cs n) ∙ len;
       start = on_all a w.start;
       sound = λ x k. elim (all-new done (parents cs n) x k) [ inl j ↦ w.sound x (back x j) | inr c ↦ one_more cs a n x (w.sound n (λ u. cc)) c ];
-      closed = λ x p d c q. elim (cases_eq x n)
-        [ inl same ↦ let at : Contains (parents cs n) p = subst (λ (y : ℕ). Contains (parents cs y) p) same c in subst (λ (y : ℕ). mark_at (opened_all done (parents cs n)) y ≢ Unseen) at.2 (all-sees done (parents cs n) at.0 p at.1 (rw len (rw at.2 q)))
-        | inr other ↦ on_all p (w.closed x p (sym (get_or-set_other ms n x Done Unseen other) ∙ all-done done (parents cs n) x d) c q) ] }
+      closed = λ x p d c q. elim (cases_eq x n) [
+        | inl same ↦ let at : Contains (parents cs n) p = subst (λ (y : ℕ). Contains (parents cs y) p) same c in subst (λ (y : ℕ). mark_at (opened_all done (parents cs n)) y ≢ Unseen) at.2 (all-sees done (parents cs n) at.0 p at.1 (rw len (rw at.2 q)))
+        | inr other ↦ on_all p (w.closed x p (sym (get_or-set_other ms n x Done Unseen other) ∙ all-done done (parents cs n) x d) c q)
+      ];
+    }
 
 done_of : (m : Mark) → m ≢ Open → m ≢ Unseen → m ≡ Done
 done_of Unseen o u = absurd (u refl)

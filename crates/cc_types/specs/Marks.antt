@@ -1,6 +1,6 @@
 -- The marks of a search for the ancestors of a class: what it has seen, and what of this is open,
 -- so that its parents are still to be seen.
-use Rattle.std.specs.Prelude.{◌≡◌, ◌≢◌, ℕ, ◌+◌, ◌<◌, Bool, true, false, List, [], ◌∷◌, slice_index_or, slice_set, if◌then◌else◌}
+use Rattle.std.specs.Prelude.{◌≢◌, ℕ, ◌<◌, Bool, true, false, List, slice_index_or, slice_set, if◌then◌else◌}
 use Rattle.std.specs.List.{fold}
 use Rattle.cc_types.specs.declared.search.Mark.{Mark}
 use Rattle.cc_types.specs.declared.search.Mark.TheVariants.{Unseen, Open, Done}

@@ -1,5 +1,5 @@
 -- Classes and types: ancestry, and the objects of a type by their class.
-use Rattle.std.specs.Prelude.{◌≡◌, ℕ, zero, suc, ◌⊎◌, Bool, true, false, ◌||◌, nat_eq, List, [], ◌∷◌, ◌++◌, length, slice_get, Option, Some, None}
+use Rattle.std.specs.Prelude.{◌≡◌, ℕ, zero, suc, ◌⊎◌, Bool, true, false, ◌||◌, nat_eq, List, [], ◌++◌, length, slice_get, Option, Some, None}
 use Rattle.std.specs.Option.{option_to_list}
 use Rattle.std.specs.List.{Contains, list_any}
 use Rattle.cc_ast.specs.declared.tables.Class.{Class}

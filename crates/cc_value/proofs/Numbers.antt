@@ -1,5 +1,5 @@
 -- Numbers that are made, and those that break rule 1.
-use Rattle.std.proofs.Common.{◌≡◌, ◌≢◌, ℕ, zero, suc, ◌*◌, ◌/◌, ◌%◌, ◌^◌, ◌-ℤ◌, bit_and, bit_or, bit_xor, ◌<◌, ◌≤◌, Bool, true, false, not, ◌-◌, cond, eqb, leb, ℤ, pos, negsuc, neg_ℤ, unsigned_abs, ◌⊎◌, inl, inr, refl, sym, ap, ◌∙◌, arith}
+use Rattle.std.proofs.Common.{◌≡◌, ◌≢◌, ℕ, zero, suc, ◌*◌, ◌/◌, ◌%◌, ◌^◌, ◌-ℤ◌, bit_and, bit_or, bit_xor, ◌<◌, ◌≤◌, Bool, true, false, not, ◌-◌, cond, ℤ, pos, negsuc, neg_ℤ, unsigned_abs, refl, ap, arith}
 use Rattle.std.proofs.lemmas.Bool.{le-leb, lt-leb, eq-eqb, ne_eqb}
 use Rattle.std.specs.Int.{is_negative, int_shr}
 use Rattle.cc_ast.specs.Syntax.{whole}
@@ -8,7 +8,7 @@ use Rattle.cc_ast.specs.declared.operator.BinOp.TheVariants.{Add, Sub, Mul, Div,
 use Rattle.cc_ast.specs.declared.operator.UnOp.{UnOp}
 use Rattle.cc_ast.specs.declared.operator.UnOp.TheVariants.{Minus, Plus, BitNot, Not, Void, Typeof, Delete}
 use Rattle.cc_meaning.specs.Values.{prim}
-use Rattle.cc_meaning.specs.Operators.{Outcome, gives, breaks, greatest_whole, number, with_sign, divide_sizes, rest_of_sizes, whole_binary, whole_unary, signs_differ, from_bits32, to_uint32, to_int32, shift_count}
+use Rattle.cc_meaning.specs.Operators.{gives, breaks, number, with_sign, divide_sizes, rest_of_sizes, whole_binary, whole_unary, signs_differ, from_bits32, to_uint32, to_int32, shift_count}
 
 pub number-made : (z : ℤ) → unsigned_abs z ≤ 9007199254740991 → number z ≡ gives (prim (whole z))
 unfolding number

@@ -4,6 +4,6 @@
 #![tactic(auto)]
 
 pub mod operate;
-pub mod value;
 mod texts;
+pub mod value;
 mod whole;

@@ -6,9 +6,8 @@ ghost use Rattle.cc_meaning.specs.Values.{prim};
 ghost use Rattle.cc_ast.specs.Syntax.{text};
 ghost use Rattle.cc_value.specs.Bridge.{Answers, IsMade, IsNoObject, equal_of, joined_of, less_of, nothing_of, text_of, type_of, value_of, whole_of, wholes_of};
 
-use crate::texts;
 use crate::value::{OpFault, Value};
-use crate::whole;
+use crate::{texts, whole};
 use cc_ast::operator::{BinOp, UnOp};
 use cc_ast::units::Units;
 use std::alloc::Global;

@@ -5,8 +5,8 @@ ghost use Rattle.std.specs.Int.{is_negative};
 ghost use Rattle.cc_meaning.specs.Operators.{gives, number, with_sign, divide_sizes, rest_of_sizes, signs_differ, to_uint32, to_int32, from_bits32, shift_count, greatest_whole, whole_binary, whole_unary};
 ghost use Rattle.cc_value.specs.Bridge.{Answers, value_of};
 
-use cc_ast::operator::{BinOp, UnOp};
 use crate::value::{OpFault, Value};
+use cc_ast::operator::{BinOp, UnOp};
 
 /// The greatest number: 2^53-1.
 pub(crate) const GREATEST: u64 = 9_007_199_254_740_991;

@@ -13,17 +13,19 @@ returns-then-a-b t c = sym (reaches-itself c.args.steps c.args.classes.now c.arg
 
 pub returns-then-steps-eq0 : goal.returns-then-steps-eq0
 returns-then-steps-eq0 t c =
-    elim c.then-steps-eq0.branch
-    [ then-steps-eq0-via-then-steps-eq0 w ↦ sym (reaches-stops c.args.steps c.args.classes.now c.args.a c.args.b c.if-a-b.false w.if-steps-eq0.true)
-    | then-steps-eq0-via-else-steps-eq0+then-a-classes w ↦ sym (reaches-past c.args.steps c.args.classes.now c.args.a c.args.b c.if-a-b.false w.if-a-classes.true) ]
+    elim c.then-steps-eq0.branch [
+      | then-steps-eq0-via-then-steps-eq0 w ↦ sym (reaches-stops c.args.steps c.args.classes.now c.args.a c.args.b c.if-a-b.false w.if-steps-eq0.true)
+      | then-steps-eq0-via-else-steps-eq0+then-a-classes w ↦ sym (reaches-past c.args.steps c.args.classes.now c.args.a c.args.b c.if-a-b.false w.if-a-classes.true)
+    ]
 
 pub returns-then-by_extends : goal.returns-then-by_extends
 returns-then-by_extends t c =
     let f : ℕ → Bool = λ p. reaches (c.args.steps - 1) c.args.classes.now p c.args.b in
     let k = c.index-classes-a.result in
-    let ex : c.match-class.by_extends ≡ list_any f (option_to_list k.extends) = elim c.match-class.branch
-      [ in-Some w ↦ any_option-Some f k.extends w.in-Some.parent c.match-class.by_extends w.in-Some.is (w.by_extends-is ∙ w.climbs-by_extends.ensures)
-      | in-None w ↦ w.by_extends-is ∙ any_option-None f k.extends w.in-None.is ] in
+    let ex : c.match-class.by_extends ≡ list_any f (option_to_list k.extends) = elim c.match-class.branch [
+      | in-Some w ↦ any_option-Some f k.extends w.in-Some.parent c.match-class.by_extends w.in-Some.is (w.by_extends-is ∙ w.climbs-by_extends.ensures)
+      | in-None w ↦ w.by_extends-is ∙ any_option-None f k.extends w.in-None.is
+    ] in
     let x : true ≡ list_any f (option_to_list k.extends) = sym c.if-by_extends.true ∙ ex in
     reaches-join c.args.steps c.args.classes.now c.args.a c.args.b k true (list_any f k.implements) c.if-a-b.false c.if-steps-eq0.false c.if-a-classes.false c.index-classes-a.is x refl
 
@@ -42,9 +44,10 @@ returns t c =
     let f : ℕ → Bool = λ p. reaches (c.args.steps - 1) c.args.classes.now p c.args.b in
     let k = c.index-classes-a.result in
     let items : List ℕ = c.as_slice-parent-items.result.now in
-    let ex : c.match-class.by_extends ≡ list_any f (option_to_list k.extends) = elim c.match-class.branch
-      [ in-Some w ↦ any_option-Some f k.extends w.in-Some.parent c.match-class.by_extends w.in-Some.is (w.by_extends-is ∙ w.climbs-by_extends.ensures)
-      | in-None w ↦ w.by_extends-is ∙ any_option-None f k.extends w.in-None.is ] in
+    let ex : c.match-class.by_extends ≡ list_any f (option_to_list k.extends) = elim c.match-class.branch [
+      | in-Some w ↦ any_option-Some f k.extends w.in-Some.parent c.match-class.by_extends w.in-Some.is (w.by_extends-is ∙ w.climbs-by_extends.ensures)
+      | in-None w ↦ w.by_extends-is ∙ any_option-None f k.extends w.in-None.is
+    ] in
     let x : false ≡ list_any f (option_to_list k.extends) = sym c.if-by_extends.false ∙ ex in
     let whole : take c.loop-parent.parent-index items ≡ items = take_all c.loop-parent.parent-index items c.loop-parent-test.false in
     let y : false ≡ list_any f k.implements = sym c.loop-parent.invariant ∙ ap (list_any f) (whole ∙ c.as_slice-parent-items.ensures) in

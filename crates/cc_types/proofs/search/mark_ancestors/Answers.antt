@@ -12,12 +12,13 @@ loop-at-init c =
     let n = c.args.class in
     let size = c.requires.size in
     let len = length-set ms n Open in
-    let within : n < length ms = omega arith in
-    (walk_begins c.args.classes.now n ms c.requires.in_table c.requires.size c.requires.clear,
-     omega arith,
-     λ h. get_or-set_same ms n Open Unseen within,
-     λ k h e. let other : k ≢ n = omega arith in let now : mark_at (set ms n Open) k ≡ Unseen = get_or-set_other ms n k Open Unseen other ∙ c.requires.clear k in cc,
-     c.requires.in_table)
+    let within : n < length ms = omega arith in (
+      walk_begins c.args.classes.now n ms c.requires.in_table c.requires.size c.requires.clear,
+      omega arith,
+      λ h. get_or-set_same ms n Open Unseen within,
+      λ k h e. let other : k ≢ n = omega arith in let now : mark_at (set ms n Open) k ≡ Unseen = get_or-set_other ms n k Open Unseen other ∙ c.requires.clear k in cc,
+      c.requires.in_table,
+    )
 
 pub loop-at-smaller : goal.loop-at-smaller
 loop-at-smaller c =
@@ -26,12 +27,13 @@ loop-at-smaller c =
 pub loop-at-preserved : goal.loop-at-preserved
 loop-at-preserved c =
     let i = c.loop-at.invariant in
-    let low = c.open_parents-low.ensures.low (none_below_done c.loop-at.at c.loop-at.marks i.3) in
-    (turn_walks c.args.classes.now c.args.class c.loop-at.at c.index-classes-at.result c.loop-at.marks c.open_parents-low.new.marks i.0 c.loop-at-test.true (i.2 c.loop-at-test.true) c.index-classes-at.is c.open_parents-low.ensures.marks,
-     c.first_open-at.ensures.within,
-     c.first_open-at.ensures.found,
-     c.first_open-at.ensures.passed low,
-     i.4)
+    let low = c.open_parents-low.ensures.low (none_below_done c.loop-at.at c.loop-at.marks i.3) in (
+      turn_walks c.args.classes.now c.args.class c.loop-at.at c.index-classes-at.result c.loop-at.marks c.open_parents-low.new.marks i.0 c.loop-at-test.true (i.2 c.loop-at-test.true) c.index-classes-at.is c.open_parents-low.ensures.marks,
+      c.first_open-at.ensures.within,
+      c.first_open-at.ensures.found,
+      c.first_open-at.ensures.passed low,
+      i.4,
+    )
 
 pub returns : goal.returns
 returns c =

@@ -1,4 +1,4 @@
-use Rattle.std.proofs.Common.{◌≡◌, ◌∙◌, ap, sym, rules, subst, FitsSigned}
+use Rattle.std.proofs.Common.{◌≡◌, ◌∙◌, ap, sym, rules, subst}
 use Rattle.std.specs.Int.{w64}
 use Rattle.std.proofs.lemmas.Int.{to_z-of_z}
 use Rattle.cc_meaning.specs.Operators.{Outcome, binary_of}
@@ -22,7 +22,7 @@ returns-in-Text c = subst (λ (o : Outcome). Answers c.joined.result o) (first c
 pub returns-in-Whole-b : goal.returns-in-Whole-b
 returns-in-Whole-b c =
     let row : binary_of Add (value_of (V.Whole c.in-Whole.x)) (value_of (V.Whole c.in-Whole-b.y)) ≡ binary_of Add (value_of c.args.a.now) (value_of c.args.b.now) =
-        ap (λ (v : Value). binary_of Add (value_of v) (value_of (V.Whole c.in-Whole-b.y))) (sym c.in-Whole.is) ∙ ap (λ (v : Value). binary_of Add (value_of c.args.a.now) (value_of v)) (sym c.in-Whole-b.is) in
+    ap (λ (v : Value). binary_of Add (value_of v) (value_of (V.Whole c.in-Whole-b.y))) (sym c.in-Whole.is) ∙ ap (λ (v : Value). binary_of Add (value_of c.args.a.now) (value_of v)) (sym c.in-Whole-b.is) in
     subst (λ (o : Outcome). Answers c.sum.result o) (add-wholes c.in-Whole.x c.in-Whole-b.y ∙ row) (simp (to_z-of_z w64 c.in-Whole.x (search rules), to_z-of_z w64 c.in-Whole-b.y (search rules)) at c.sum.ensures)
 
 pub returns-in-Text-b : goal.returns-in-Text-b

@@ -1,12 +1,8 @@
-use Rattle.std.proofs.Common.{◌≡◌, not, eqb, length, ◌∙◌, ap, sym, refl, rules, Bool, true, false, FitsSigned, List, ℕ, Some, None, OnOk, subst}
-use Rattle.std.specs.Int.{w64}
-use Rattle.std.proofs.lemmas.Int.{to_z-of_z}
-use Rattle.cc_meaning.specs.Values.{Val}
-use Rattle.cc_meaning.specs.Operators.{Outcome, strict_equal, truthy, list_eq, whole_eq, text_less, prim_less, binary_of}
-use Rattle.cc_ast.specs.declared.operator.BinOp.TheVariants.{Add}
+use Rattle.std.proofs.Common.{◌≡◌, not, eqb, length, ◌∙◌, ap, sym, rules, List, ℕ}
+use Rattle.cc_meaning.specs.Operators.{truthy}
 use Rattle.cc_value.specs.declared.value.Value.{Value}
 use Rattle.cc_value.specs.declared.value.Value.TheVariants as V
-use Rattle.cc_value.specs.Bridge.{value_of, less_of, Answers, text_of, joined_of}
+use Rattle.cc_value.specs.Bridge.{value_of}
 use Rattle.cc_value.proofs.Cases.{truthy_bits, truthy_length}
 use Rattle.cc_value.proofs.operate.is_truthy.Goals as goal
 

@@ -1,1 +1,0 @@
-use Rattle.cc_value.proofs.operate.joined.Goals as goal

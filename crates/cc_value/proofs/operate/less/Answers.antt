@@ -1,12 +1,10 @@
-use Rattle.std.proofs.Common.{◌≡◌, ◌∙◌, ap, sym, refl, rules, Bool, true, false, FitsSigned, List, ℕ, Some, None, OnOk, subst}
+use Rattle.std.proofs.Common.{◌≡◌, ◌∙◌, ap, sym, rules, Bool, List, ℕ, Some, None}
 use Rattle.std.specs.Int.{w64}
 use Rattle.std.proofs.lemmas.Int.{to_z-of_z}
-use Rattle.cc_meaning.specs.Values.{Val}
-use Rattle.cc_meaning.specs.Operators.{Outcome, strict_equal, truthy, list_eq, whole_eq, text_less, prim_less, binary_of}
-use Rattle.cc_ast.specs.declared.operator.BinOp.TheVariants.{Add}
+use Rattle.cc_meaning.specs.Operators.{text_less, prim_less}
 use Rattle.cc_value.specs.declared.value.Value.{Value}
 use Rattle.cc_value.specs.declared.value.Value.TheVariants as V
-use Rattle.cc_value.specs.Bridge.{value_of, less_of, Answers, text_of, joined_of}
+use Rattle.cc_value.specs.Bridge.{value_of, less_of}
 use Rattle.cc_value.proofs.Cases.{less-Whole, less-Text, less-others}
 use Rattle.cc_value.proofs.operate.less.Goals as goal
 

@@ -1,4 +1,4 @@
-use Rattle.std.proofs.Common.{◌≡◌, ◌++◌, ap, sym, subst, Bool, true, false, OnOk}
+use Rattle.std.proofs.Common.{◌≡◌, ◌++◌, sym, subst, Bool, OnOk}
 use Rattle.cc_meaning.specs.Operators.{truth_text}
 use Rattle.cc_value.proofs.texts.append_truth.Goals as goal
 

@@ -1,4 +1,4 @@
-use Rattle.std.proofs.Common.{◌≡◌, ◌<◌, length, sym, arith}
+use Rattle.std.proofs.Common.{◌<◌, length, sym, arith}
 use Rattle.cc_value.proofs.TextLemmas.{equal_all, equal_lengths, equal_differs}
 use Rattle.cc_value.proofs.texts.is_equal.Goals as goal
 

@@ -1,4 +1,4 @@
-use Rattle.std.proofs.Common.{◌≡◌, ◌∙◌, ap, ℤ, sym, rules, FitsSigned}
+use Rattle.std.proofs.Common.{◌∙◌, ap, ℤ, sym, rules, FitsSigned}
 use Rattle.std.proofs.lemmas.Int.{to_z-of_z}
 use Rattle.std.specs.Int.{w32, w64}
 use Rattle.cc_ast.specs.Syntax.{whole}

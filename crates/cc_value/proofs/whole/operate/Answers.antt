@@ -5,7 +5,7 @@ use Rattle.cc_meaning.specs.Values.{prim}
 use Rattle.std.proofs.lemmas.Int.{to_z-of_z}
 use Rattle.std.specs.Int.{w32, w64, int_shr}
 use Rattle.cc_ast.specs.declared.operator.BinOp.{BinOp}
-use Rattle.cc_ast.specs.declared.operator.BinOp.TheVariants.{Sub, Mul, Div, Rem, BitAnd, BitXor, BitOr, Shl, Shr, UShr}
+use Rattle.cc_ast.specs.declared.operator.BinOp.TheVariants.{Sub, Mul, Div, Rem}
 use Rattle.cc_meaning.specs.Operators.{Outcome, gives, whole_binary, to_uint32, to_int32, shift_count}
 use Rattle.cc_value.specs.Bridge.{Answers}
 use Rattle.cc_value.proofs.Numbers.{at-Sub, at-Mul, at-Div, at-Rem, at-BitAnd, at-BitXor, at-BitOr, at-Shl, at-Shr, at-UShr, at-others}

@@ -1,14 +1,11 @@
-use Rattle.std.proofs.Common.{◌≡◌, ◌∙◌, ap, sym, refl, rules, Bool, true, false, not, ℤ, FitsSigned, List, ℕ, subst, arith, codes, unsigned_abs}
+use Rattle.std.proofs.Common.{◌≡◌, ◌∙◌, ap, sym, not, ℤ, subst, unsigned_abs}
 use Rattle.std.specs.Int.{w64, is_negative}
 use Rattle.std.proofs.lemmas.Int.{to_z-of_z}
-use Rattle.cc_ast.specs.Syntax.{truth, text, whole}
+use Rattle.cc_ast.specs.Syntax.{whole}
 use Rattle.cc_ast.specs.declared.operator.UnOp.{UnOp}
-use Rattle.cc_ast.specs.declared.operator.UnOp.TheVariants.{Minus, Plus, BitNot, Not, Void, Typeof}
-use Rattle.cc_meaning.specs.Values.{Val, prim}
-use Rattle.cc_meaning.specs.Operators.{Outcome, gives, whole_unary, unary_of, type_text, to_uint32, with_sign}
-use Rattle.cc_value.specs.declared.value.Value.{Value}
-use Rattle.cc_value.specs.declared.value.Value.TheVariants as V
-use Rattle.cc_value.specs.Bridge.{value_of, whole_of, type_of, Answers}
+use Rattle.cc_meaning.specs.Values.{prim}
+use Rattle.cc_meaning.specs.Operators.{Outcome, gives, whole_unary, to_uint32, with_sign}
+use Rattle.cc_value.specs.Bridge.{Answers}
 use Rattle.cc_value.proofs.Numbers.{at-Minus, at-Plus, at-BitNot, at-unary_others}
 use Rattle.cc_value.proofs.whole.operate_one.Goals as goal
 

@@ -1,4 +1,4 @@
-use Rattle.std.proofs.Common.{◌≡◌, ◌≢◌, ◌%◌, ◌∙◌, ap, unsigned_abs, sym, subst}
+use Rattle.std.proofs.Common.{◌≡◌, ◌%◌, ◌∙◌, ap, unsigned_abs, sym, subst}
 use Rattle.std.specs.Int.{cast_signed as to_z, cast_unsigned as of_z}
 use Rattle.std.proofs.lemmas.Int.{to_z-of_z}
 use Rattle.std.specs.Int.{w64, is_negative}

@@ -1,4 +1,4 @@
-use Rattle.std.proofs.Common.{◌≡◌, ◌∙◌, ap, ℤ, ℕ, sym, rules, FitsSigned}
+use Rattle.std.proofs.Common.{◌∙◌, ap, ℕ, rules, FitsSigned}
 use Rattle.std.proofs.lemmas.Int.{to_z-of_z}
 use Rattle.std.specs.Int.{w32, w64, cast_signed}
 use Rattle.cc_meaning.specs.Operators.{to_int32, to_uint32}

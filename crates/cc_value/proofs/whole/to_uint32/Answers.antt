@@ -1,4 +1,4 @@
-use Rattle.std.proofs.Common.{◌≡◌, ◌∙◌, ap, ℤ, pos, unsigned_abs, sym, rules, FitsSigned}
+use Rattle.std.proofs.Common.{◌∙◌, ap, ℤ, pos, unsigned_abs, rules, FitsSigned}
 use Rattle.std.proofs.lemmas.Int.{to_z-of_z}
 use Rattle.std.specs.Int.{w64, int_rem_euclid}
 use Rattle.cc_meaning.specs.Operators.{to_uint32}
