@@ -1,5 +1,5 @@
 -- Classes and types: ancestry, and the objects of a type by their class.
-use Rattle.std.specs.Prelude.{◌≡◌, ℕ, zero, suc, ◌+◌, ◌<◌, Bool, true, false, ◌||◌, nat_eq, List, [], ◌∷◌, ◌++◌, length, slice_get, Option, Some, None}
+use Rattle.std.specs.Prelude.{◌≡◌, ℕ, zero, suc, ◌⊎◌, Bool, true, false, ◌||◌, nat_eq, List, [], ◌++◌, length, slice_get, Option, Some, None}
 use Rattle.std.specs.Option.{option_to_list}
 use Rattle.std.specs.List.{Contains, list_any}
 use Rattle.cc_ast.specs.declared.tables.Class.{Class}
@@ -57,3 +57,7 @@ extends classes a b = extends_within (length classes) classes (Some a) b
 unfoldable pub instance_of : List Class → ℕ → TypeSet → Bool
 unfolding subtype
 instance_of classes c t = t.unknown || list_any (λ d. subtype classes c d) t.classes
+
+-- the same by the relation
+abbrev pub IsInstance : List Class → ℕ → TypeSet → Type 0
+IsInstance classes c t = (t.unknown ≡ true) ⊎ ((d : ℕ) × Contains t.classes d × Ancestor classes c d)
