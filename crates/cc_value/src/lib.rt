@@ -4,6 +4,8 @@
 #![tactic(auto)]
 
 pub mod operate;
+#[cfg(test)]
+mod tests;
 mod texts;
 pub mod value;
 mod whole;
