@@ -1,0 +1,10 @@
+pub mod Work
+pub mod State
+pub mod Events
+pub mod Codes
+pub mod SlotState
+pub mod ShopState
+pub mod Answer
+pub mod Alone
+pub mod Outs
+pub mod Drawn

@@ -1,0 +1,10 @@
+pub mod Runs
+pub mod CommentLemmas
+pub mod StringLemmas
+pub mod NameLemmas
+pub mod ItemLemmas
+pub mod PlaceLemmas
+pub mod LexLemmas
+pub mod OnceLemmas
+pub mod MarkLemmas
+pub mod CoverLemmas

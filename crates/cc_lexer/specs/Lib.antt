@@ -1,0 +1,9 @@
+pub mod Characters
+pub mod Marks
+pub mod Strings
+pub mod Numbers
+pub mod Comments
+pub mod Items
+pub mod Lexes
+pub mod Covers
+pub mod Laws

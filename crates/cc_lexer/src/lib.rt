@@ -1,0 +1,23 @@
+//! The tokens of a source file (ECMA-262 5.1, 7). `tokens` answers the one list of tokens that the
+//! relation `Lexed` of `specs/Lexes.antt` gives the text, each with its place, up to the first
+//! character that begins no token, and what is refused there.
+#![tactic(auto)]
+
+mod begin;
+mod classes;
+mod comment;
+mod item;
+pub mod laws;
+mod lexing;
+mod mark;
+mod name;
+mod number;
+mod place;
+mod span;
+mod string;
+pub mod token;
+
+pub use lexing::tokens;
+
+#[cfg(test)]
+mod tests;

@@ -1,0 +1,78 @@
+// Names and reserved words.
+
+ghost use Rattle.std.specs.Prelude.{◌≡◌, IfOk};
+ghost use Rattle.std.specs.List.{list_any};
+ghost use Rattle.std.specs.Str.{bytes_eq, chars};
+ghost use Rattle.cc_lexer.specs.Items as items;
+
+use crate::token::TokenKind;
+use cc_text::units_of;
+use std::alloc::{AllocError, Global};
+
+// The reserved words, and null, true and false.
+const RESERVED: [&str; 36] = [
+    "break",
+    "case",
+    "catch",
+    "continue",
+    "debugger",
+    "default",
+    "delete",
+    "do",
+    "else",
+    "finally",
+    "for",
+    "function",
+    "if",
+    "in",
+    "instanceof",
+    "new",
+    "return",
+    "switch",
+    "this",
+    "throw",
+    "try",
+    "typeof",
+    "var",
+    "void",
+    "while",
+    "with",
+    "class",
+    "const",
+    "enum",
+    "export",
+    "extends",
+    "import",
+    "super",
+    "null",
+    "true",
+    "false",
+];
+
+fn is_among(name: &str, words: &[&str]) -> bool
+    ensures { result ≡ list_any (λ w. bytes_eq w.now name.now) words.now }
+{
+    for word in words {
+        if *word == name {
+            return true;
+        }
+    }
+    false
+}
+
+fn is_reserved(name: &str) -> bool
+    ensures { result ≡ items.is_reserved name.now }
+{
+    is_among(name, &RESERVED)
+}
+
+pub(crate) fn word_or_name(alloc: Global, name: &str) -> Result<TokenKind, AllocError>
+    ensures { IfOk result (λ t. t ≡ items.word_or_name (chars name.now)) }
+{
+    let units = units_of(alloc, name)?;
+    if is_reserved(name) {
+        Ok(TokenKind::Word(units))
+    } else {
+        Ok(TokenKind::Name(units))
+    }
+}

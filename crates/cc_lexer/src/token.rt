@@ -1,0 +1,95 @@
+// Tokens.
+
+use cc_ast::place::Place;
+use cc_ast::reading::{Construct, Refusal};
+use cc_ast::units::Units;
+
+/// A punctuator (ECMA-262 5.1, 7.7).
+#[derive(Clone, Copy, Debug, PartialEq, Eq)]
+pub enum Mark {
+    OpenBrace,
+    CloseBrace,
+    OpenParen,
+    CloseParen,
+    OpenBracket,
+    CloseBracket,
+    Dot,
+    Semicolon,
+    Comma,
+    Less,
+    Greater,
+    LessEqual,
+    GreaterEqual,
+    EqualEqual,
+    BangEqual,
+    EqualEqualEqual,
+    BangEqualEqual,
+    Plus,
+    Minus,
+    Star,
+    Percent,
+    PlusPlus,
+    MinusMinus,
+    LessLess,
+    GreaterGreater,
+    GreaterGreaterGreater,
+    Ampersand,
+    Bar,
+    Caret,
+    Bang,
+    Tilde,
+    AmpersandAmpersand,
+    BarBar,
+    Question,
+    Colon,
+    Equal,
+    PlusEqual,
+    MinusEqual,
+    StarEqual,
+    PercentEqual,
+    LessLessEqual,
+    GreaterGreaterEqual,
+    GreaterGreaterGreaterEqual,
+    AmpersandEqual,
+    BarEqual,
+    CaretEqual,
+    Slash,
+    SlashEqual,
+}
+
+/// A name, a reserved word, a punctuator, a whole number, a string by its value, an annotation
+/// comment by its whole text, or the end of the input.
+#[derive(Debug, Drop)]
+pub enum TokenKind {
+    Name(Units),
+    Word(Units),
+    Mark(Mark),
+    Number(i64),
+    Text(Units),
+    Doc(Units),
+    End,
+}
+
+/// A token with the place of its first character. `after_line` tells whether a line end, or a
+/// comment that contains one, stands between it and the token before it that is no comment.
+#[derive(Debug, Drop)]
+pub struct Token {
+    pub kind: TokenKind,
+    pub place: Place,
+    pub after_line: bool,
+}
+
+/// The tokens of a text up to the first character that begins none, and what is refused there.
+/// `End` is the last token exactly where nothing is refused.
+#[derive(Debug, Drop)]
+pub struct Tokens {
+    pub list: Vec<Token>,
+    pub stop: Option<Refusal>,
+}
+
+/// Why no token begins at a character.
+#[derive(Clone, Copy, Debug, PartialEq, Eq)]
+pub enum Fault {
+    Syntax,
+    Refused(Construct),
+}
