@@ -4,7 +4,7 @@ use Rattle.std.proofs.lemmas.Bool.{eqb-true}
 use Rattle.cc_ast.specs.Syntax.{Program, Scope}
 use Rattle.cc_meaning.specs.Same.{Same}
 use Rattle.cc_meaning.specs.WellMade.{WellMade}
-use Rattle.cc_meaning.proofs.SameLaws.{same_refl, same_trans}
+use Rattle.cc_meaning.proofs.SameLaws.{reflexive, transitive}
 use Rattle.cc_core.specs.Work.{Work, Lawful, with_scopes, with_heads, heads_of, rewrites, phase, step_after, mixed, after_phases, visited}
 use Rattle.cc_core.specs.State.{Done, Slot, State, is_pending, is_claimed, all_fresh, laid, undone, in_place, KeptMark, Kept, started, with_slots, reading, Sound}
 use Rattle.cc_core.specs.Events.{Event, Claims, Repeats, Puts, GivesBack, Closes, claimed, one_more, entered, put_in, given_back, at_place, at_found, after_claim, after_repeat, after_put, after_give_back, after_enter, after_close, event, IsRewrite, Allowed, Leads, StoresRewrites, ends, IsOneWorkers}
@@ -28,7 +28,7 @@ module _ {P : Type 0} (W : Work P) (law : Lawful W) where
       elim (W.local s.step) as (λ b. W.local s.step ≡ b → Same s.source (with_scopes s.base (cond b (in_place s.base.scopes s.slots) s.base.scopes))) [
         | true ↦ λ is.
             let e : in_place s.base.scopes s.slots ≡ mixed (rewrites W s.step s.base) (done_at s.slots) s.base.scopes = in_place_mixed (rewrites W s.step s.base) s.base.scopes s.slots kept in
-            same_trans s.source s.base _ same (subst (λ (xs : List Scope). Same s.base (with_scopes s.base xs)) (sym e) (law.each s.step s.base fits is (done_at s.slots)))
+            transitive s.source s.base _ same (subst (λ (xs : List Scope). Same s.base (with_scopes s.base xs)) (sym e) (law.each s.step s.base fits is (done_at s.slots)))
         | false ↦ λ is. same
       ] refl
 
@@ -79,7 +79,7 @@ module _ {P : Type 0} (W : Work P) (law : Lawful W) where
   }
 
   pub sound_started : (source : Program) → W.fits 0 source → length source.scopes < 2 ^ 32 → Sound W (started source)
-  sound_started source fits few = sound_at (started source) fits fits refl (same_refl source) few (kept_fresh (rewrites W 0 source) source.scopes)
+  sound_started source fits few = sound_at (started source) fits fits refl (reflexive source) few (kept_fresh (rewrites W 0 source) source.scopes)
 
   -- what is not visited after the close is its own rewrite
   skips_after : (s : State) → Sound W s → (k : ℕ) (x : Scope) → slice_get (phase W s.step s.base).scopes k ≡ Some x → visited W s.source (s.closed + 1) k ≡ false
@@ -95,7 +95,7 @@ module _ {P : Type 0} (W : Work P) (law : Lawful W) where
       (law.goes_on s.step s.base sound.fits)
       sound.began
       (ap (λ (p : ℕ × Program). (step_after W p.0 p.1, phase W p.0 p.1)) sound.reached ∙ ap (after_phases W s.source) (sym (add-one s.closed)))
-      (same_trans s.source s.base _ sound.same_base (same_phase s.step s.base sound.fits))
+      (transitive s.source s.base _ sound.same_base (same_phase s.step s.base sound.fits))
       (rw (length_phase s.step s.base) sound.few)
       (kept_laid (rewrites W (step_after W s.step s.base) (phase W s.step s.base)) (visited W s.source (s.closed + 1)) (phase W s.step s.base).scopes (skips_after s sound))
 

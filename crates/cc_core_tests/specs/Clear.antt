@@ -4,7 +4,7 @@ use Rattle.std.proofs.Common.{zero, suc, sym, ap, ◌∙◌, subst}
 use Rattle.cc_ast.specs.Syntax.{Program, Scope, no_stmts}
 use Rattle.cc_meaning.specs.Same.{Same}
 use Rattle.cc_meaning.specs.WellMade.{WellMade}
-use Rattle.cc_meaning.proofs.SameLaws.{same_refl}
+use Rattle.cc_meaning.proofs.SameLaws.{reflexive}
 use Rattle.cc_core.specs.Work.{Work, Lawful, VisitsAll, with_scopes, with_heads, heads_of, mixed, part, phase, step_after}
 use Rattle.cc_core_tests.specs.declared.clear.ClearPlan.{ClearPlan}
 
@@ -65,7 +65,7 @@ clears_again : (base : Program) → Clears base → Clears (with_scopes base (so
 clears_again base fits =
     let new : Program = with_scopes base (some_cleared (λ _. true) base.scopes) in
     record {
-      same = λ mix. subst (λ (xs : List Scope). Same new (with_scopes new xs)) (sym (cleared_again mix base.scopes)) (same_refl new);
+      same = λ mix. subst (λ (xs : List Scope). Same new (with_scopes new xs)) (sym (cleared_again mix base.scopes)) (reflexive new);
       well = λ well mix. subst (λ (xs : List Scope). WellMade (with_scopes new xs)) (sym (cleared_again mix base.scopes)) well;
     }
 
@@ -98,7 +98,7 @@ clear_lawful = record {
   defined = λ step base fits slot x at. refl;
   each = λ step base fits local mix. subst (λ (xs : List Scope). Same base (with_scopes base xs)) (sym (mixed_clears (step == 0) mix base.scopes local)) (fits.same mix);
   well = λ step base fits local well mix. subst (λ (xs : List Scope). WellMade (with_scopes base xs)) (sym (mixed_clears (step == 0) mix base.scopes local)) (fits.well well mix);
-  whole = λ step base fits local. subst (λ (p : Program). Same base p) (sym (phase_stays step base local)) (same_refl base);
+  whole = λ step base fits local. subst (λ (p : Program). Same base p) (sym (phase_stays step base local)) (reflexive base);
   goes_on = λ step base fits. clears_phase step base fits;
   skips = λ source fits n slot x at clean. absurd (let e : true ≡ false = clean in (cc));
 }
@@ -121,7 +121,7 @@ nothing_cleared mix (x ∷ xs) none =
 -- a program without docs may be given
 pub clears_nothing : (base : Program) → NoDocs base.scopes → Clears base
 clears_nothing base none = record {
-  same = λ mix. subst (λ (xs : List Scope). Same base (with_scopes base xs)) (sym (nothing_cleared mix base.scopes none)) (same_refl base);
+  same = λ mix. subst (λ (xs : List Scope). Same base (with_scopes base xs)) (sym (nothing_cleared mix base.scopes none)) (reflexive base);
   well = λ well mix. subst (λ (xs : List Scope). WellMade (with_scopes base xs)) (sym (nothing_cleared mix base.scopes none)) well;
 }
 
