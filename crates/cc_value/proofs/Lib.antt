@@ -1,3 +1,4 @@
 pub mod Numbers
 pub mod TextLemmas
 pub mod Cases
+pub mod OtherCases

@@ -6,7 +6,8 @@ use Rattle.cc_ast.specs.declared.operator.BinOp.TheVariants.{Add}
 use Rattle.cc_value.specs.declared.value.Value.{Value}
 use Rattle.cc_value.specs.declared.value.Value.TheVariants as V
 use Rattle.cc_value.specs.Bridge.{value_of, Answers, text_of, joined_of}
-use Rattle.cc_value.proofs.Cases.{add-text_first, add-text_second, add-wholes, add-whole_other, add-others}
+use Rattle.cc_value.proofs.Cases.{add-text_first, add-text_second, add-whole_other, add-others}
+use Rattle.cc_value.proofs.OtherCases.{add-wholes}
 use Rattle.cc_value.proofs.operate.add.Goals as goal
 
 -- a text on the left

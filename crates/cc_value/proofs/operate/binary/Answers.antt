@@ -5,7 +5,8 @@ use Rattle.cc_ast.specs.declared.operator.BinOp.TheVariants.{Less, Greater, Less
 use Rattle.cc_meaning.specs.Values.{Val, prim}
 use Rattle.cc_meaning.specs.Operators.{Outcome, gives, answer_of, answer_not, binary_of}
 use Rattle.cc_value.specs.Bridge.{value_of, Answers}
-use Rattle.cc_value.proofs.Cases.{by-Less, by-Greater, by-LessEq, by-GreaterEq, by-Equal, by-NotEqual, by-Strict, by-NotStrict, by-others}
+use Rattle.cc_value.proofs.Cases.{by-Less, by-Greater, by-LessEq, by-GreaterEq, by-Equal, by-NotEqual, by-Strict, by-NotStrict}
+use Rattle.cc_value.proofs.OtherCases.{by-others}
 use Rattle.cc_value.proofs.operate.binary.Goals as goal
 
 -- the answer of a test is that of the operator

@@ -3,7 +3,7 @@ use Rattle.std.specs.Int.{w64}
 use Rattle.std.proofs.lemmas.Int.{to_z-of_z}
 use Rattle.cc_meaning.specs.Operators.{Outcome}
 use Rattle.cc_value.specs.Bridge.{Answers}
-use Rattle.cc_value.proofs.Cases.{whole-other, whole-same}
+use Rattle.cc_value.proofs.OtherCases.{whole-other, whole-same}
 use Rattle.cc_value.proofs.operate.on_whole.Goals as goal
 
 pub returns-in-Whole : goal.returns-in-Whole

@@ -3,7 +3,7 @@ use Rattle.std.specs.Int.{w64}
 use Rattle.std.proofs.lemmas.Int.{to_z-of_z}
 use Rattle.cc_meaning.specs.Operators.{Outcome}
 use Rattle.cc_value.specs.Bridge.{Answers}
-use Rattle.cc_value.proofs.Cases.{wholes-left, wholes-right, wholes-both}
+use Rattle.cc_value.proofs.OtherCases.{wholes-left, wholes-right, wholes-both}
 use Rattle.cc_value.proofs.operate.on_wholes.Goals as goal
 
 pub returns-in-Whole-b : goal.returns-in-Whole-b

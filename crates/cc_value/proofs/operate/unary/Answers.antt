@@ -4,7 +4,7 @@ use Rattle.cc_ast.specs.declared.operator.UnOp.{UnOp}
 use Rattle.cc_meaning.specs.Values.{prim}
 use Rattle.cc_meaning.specs.Operators.{Outcome, gives, unary_of}
 use Rattle.cc_value.specs.Bridge.{value_of, Answers}
-use Rattle.cc_value.proofs.Cases.{by-Not, by-Void, by-Typeof, by-signs}
+use Rattle.cc_value.proofs.OtherCases.{by-Not, by-Void, by-Typeof, by-signs}
 use Rattle.cc_value.proofs.operate.unary.Goals as goal
 
 pub returns-in-Not : goal.returns-in-Not
