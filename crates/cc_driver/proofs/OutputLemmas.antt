@@ -1,0 +1,30 @@
+-- What joins reading, naming and spelling.
+use Rattle.std.proofs.Common.{◌≡◌, ℕ, zero, suc, nat_lt, true, List, [], ◌∷◌, Some, None, All, IsAscii, arith, ltb-true}
+use Rattle.std.proofs.lemmas.Bool.{and_parts}
+use Rattle.std.proofs.lemmas.List.Elements.{All-weaker}
+use Rattle.cc_ast.specs.declared.tables.GlobalInfo.{GlobalInfo}
+use Rattle.cc_driver.specs.declared.form.Statement.{Statement}
+use Rattle.cc_driver.specs.declared.spelling.Piece.{Piece}
+use Rattle.cc_driver.specs.Form.{IsExterns, IsSource}
+use Rattle.cc_driver.specs.Source.{program_of}
+use Rattle.cc_driver.specs.Spelling.{spell_chunk}
+use Rattle.cc_driver.specs.Naming.{IsNaming}
+use Rattle.cc_driver.proofs.SourceLaws.{is_ascii_name, globals_ascii, source_spelled}
+use Rattle.cc_driver.proofs.NamingLaws.{names-ASCII}
+
+-- each unit of an ASCII name is below 128
+ascii_at : (n : List ℕ) → is_ascii_name n ≡ true → IsAscii n
+ascii_at [] e i = omega arith
+ascii_at (c ∷ cs) e zero = ltb-true c 128 (and_parts (nat_lt c 128) (is_ascii_name cs) e).0
+ascii_at (c ∷ cs) e (suc i) = ascii_at cs (and_parts (nat_lt c 128) (is_ascii_name cs) e).1 i
+
+-- the names that are printed are ASCII
+pub printed_ascii : (file : List ℕ) (externs : List (List ℕ)) (text : List ℕ) (size : ℕ) (ss : List Statement) (pieces : List Piece) (names : List (List ℕ)) → IsExterns file externs → IsSource externs text ss
+    → IsNaming (program_of externs size ss) pieces names → All IsAscii names
+printed_ascii file externs text size ss pieces names h s n =
+    names-ASCII (program_of externs size ss) pieces names n
+    (All-weaker (λ (g : GlobalInfo). is_ascii_name g.name ≡ true) (λ (g : GlobalInfo). IsAscii g.name) (λ g e. ascii_at g.name e) (program_of externs size ss).globals (globals_ascii file externs text size ss h s))
+
+-- a source of the form has its pieces
+pub is_spelled : (externs : List (List ℕ)) (text : List ℕ) (size : ℕ) (ss : List Statement) → IsSource externs text ss → spell_chunk (program_of externs size ss) 0 ≡ None → ⊥
+is_spelled externs text size ss s none = let found = source_spelled externs text size ss s in let is : spell_chunk (program_of externs size ss) 0 ≡ Some found.0 = found.1 in cc (is, none)

@@ -1,0 +1,13 @@
+pub mod Names
+pub mod Form
+pub mod FormReading
+pub mod FormChecks
+pub mod Source
+pub mod Reach
+pub mod Spelling
+pub mod Shapes
+pub mod Naming
+pub mod NamingSteps
+pub mod Compile
+pub mod Steps
+pub mod Status

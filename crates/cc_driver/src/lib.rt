@@ -1,0 +1,19 @@
+//! The compiler's top call, over a host that is handed in. Its public contract is `Compiles` of
+//! `specs/Compile`: why each answer came, what it tells, and what stays the same. What is compiled
+//! so far is the form of `specs/Form`; the text that is written is that of `specs/Spelling`, under
+//! the names of `specs/Naming`.
+#![tactic(auto)]
+
+pub mod compile;
+mod files;
+mod form;
+mod message;
+mod names;
+mod naming;
+pub mod outcome;
+mod output;
+mod resolve;
+mod spelling;
+#[cfg(test)]
+mod tests;
+mod words;

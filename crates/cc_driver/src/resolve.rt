@@ -1,0 +1,252 @@
+// The program that a source of the form is.
+
+ghost use Rattle.std.specs.Prelude.{◌≡◌, ℕ, ◌+◌, ◌<◌, ◌≤◌, ◌^◌, ◌++◌, ◌∷◌, [], List, length, map, IfOk, All, None, false};
+ghost use Rattle.cc_ast.specs.Bridge.{term};
+ghost use Rattle.cc_ast.specs.StmtBridge.{term_stmt, term_stmts};
+ghost use Rattle.cc_driver.specs.Form.{IsExterns, IsSource};
+ghost use Rattle.cc_driver.specs.FormChecks.{names_in};
+ghost use Rattle.cc_driver.specs.Source as source;
+ghost use Rattle.cc_driver.specs.Reach.{reach, names_of, program_with};
+ghost use Rattle.std.specs.List.{IsDistinct};
+ghost use Rattle.std.specs.Str.{bytes_eq};
+
+mod globals;
+
+use crate::form::{Statement, Value};
+use crate::names::{NameTable, name_number};
+use crate::resolve::globals::{global_table, globals_of};
+use cc_ast::place::Place;
+use cc_ast::program::{Program, Scope};
+use cc_ast::tables::{ChunkInfo, ChunkName, GlobalInfo, SiteDoc};
+use cc_ast::tree::{Declarator, Expr, Ref, Stmt};
+use cc_ast::units::Units;
+use sqlite_items::{Boxed, Items};
+use std::alloc::{AllocError, Global};
+
+pub(crate) fn copy_units(alloc: Global, units: &Units) -> Result<Units, AllocError>
+    ensures { IfOk result (λ copy. copy ≡ units.now) }
+{
+    Ok(Units {
+        list: Vec::from_slice(alloc, units.list.as_slice())?,
+    })
+}
+
+fn global_ref(table: &NameTable<'_>, name: &Units) -> Ref
+    requires { length (names_in table.now) < 2 ^ 32 }
+    ensures { result ≡ Ref.Global (source.number_of (names_in table.now) name.now) }
+{
+    Ref::Global(name_number(table, name) as u32)
+}
+
+#[tactic(auto, using(cc_ast::specs::Terms::steps))]
+fn value_tree(alloc: Global, table: &NameTable<'_>, value: &Value) -> Result<Expr, AllocError>
+    requires { length (names_in table.now) < 2 ^ 32 }
+    ensures { IfOk result (λ tree. term tree ≡ source.value_tree (names_in table.now) value.now) }
+{
+    match value {
+        Value::Named(at, name) => Ok(Expr::Var(*at, global_ref(table, name))),
+        Value::Text(at, text) => Ok(Expr::Text(*at, copy_units(alloc, text)?)),
+    }
+}
+
+fn value_trees(
+    alloc: Global,
+    table: &NameTable<'_>,
+    values: &[Value],
+) -> Result<Items<Expr>, AllocError>
+    requires { length (names_in table.now) < 2 ^ 32 }
+    ensures { IfOk result (λ trees. map term trees ≡ map (source.value_tree (names_in table.now)) values.now) }
+{
+    let mut trees = Items::new(alloc);
+    for value in values {
+        trees.push(value_tree(alloc, table, value)?)?;
+    }
+    Ok(trees)
+}
+
+#[tactic(auto, using(cc_ast::specs::StmtTerms::stmt_steps, cc_ast::specs::Terms::steps), unfolding(cc_ast::specs::StmtBridge::declarator, cc_ast::specs::Bridge::option_term))]
+fn declaration_tree(
+    alloc: Global,
+    table: &NameTable<'_>,
+    at: u32,
+    name: &Units,
+    value: &Value,
+) -> Result<Stmt, AllocError>
+    requires names { length (names_in table.now) < 2 ^ 32 }
+    requires place { at + 4 < 2 ^ 32 }
+    ensures { IfOk result (λ tree. term_stmt tree ≡ source.statement_tree (names_in table.now) (Statement.Declares at name.now value.now)) }
+{
+    let mut declarators = Items::new(alloc);
+    declarators.push(Declarator {
+        site: at + 4,
+        variable: global_ref(table, name),
+        value: Some(value_tree(alloc, table, value)?),
+    })?;
+    Ok(Stmt::Var(at, declarators))
+}
+
+#[tactic(auto, using(cc_ast::specs::StmtTerms::stmt_steps, cc_ast::specs::Terms::steps), unfolding(cc_ast::specs::Bridge::terms))]
+fn call_tree(
+    alloc: Global,
+    table: &NameTable<'_>,
+    at: u32,
+    name: &Units,
+    values: &Items<Value>,
+) -> Result<Stmt, AllocError>
+    requires names { length (names_in table.now) < 2 ^ 32 }
+    requires place { at + length name.now < 2 ^ 32 }
+    ensures { IfOk result (λ tree. term_stmt tree ≡ source.statement_tree (names_in table.now) (Statement.Calls at name.now values.now)) }
+{
+    let callee = Boxed::new(alloc, Expr::Var(at, global_ref(table, name)))?;
+    let arguments = value_trees(alloc, table, values.as_slice())?;
+    let site = at + name.list.len() as u32;
+    Ok(Stmt::Simple(at, Expr::Call(site, callee, arguments)))
+}
+
+fn statement_tree(
+    alloc: Global,
+    table: &NameTable<'_>,
+    statement: &Statement,
+) -> Result<Stmt, AllocError>
+    requires names { length (names_in table.now) < 2 ^ 32 }
+    requires place { reach statement.now < 2 ^ 32 }
+    ensures { IfOk result (λ tree. term_stmt tree ≡ source.statement_tree (names_in table.now) statement.now) }
+{
+    match statement {
+        Statement::Declares(at, name, value) => declaration_tree(alloc, table, *at, name, value),
+        Statement::Calls(at, name, values) => call_tree(alloc, table, *at, name, values),
+    }
+}
+
+fn statement_trees(
+    alloc: Global,
+    table: &NameTable<'_>,
+    statements: &[Statement],
+) -> Result<Items<Stmt>, AllocError>
+    requires names { length (names_in table.now) < 2 ^ 32 }
+    requires places { All (λ statement. reach statement < 2 ^ 32) statements.now }
+    ensures { IfOk result (λ trees. map term_stmt trees ≡ map (source.statement_tree (names_in table.now)) statements.now) }
+{
+    let mut trees = Items::new(alloc);
+    for statement in statements {
+        trees.push(statement_tree(alloc, table, statement)?)?;
+    }
+    Ok(trees)
+}
+
+fn places(alloc: Global, size: usize) -> Result<Items<Place>, AllocError>
+    requires { size ≤ 16777216 }
+    ensures { IfOk result (λ places. places ≡ source.places_from 0 size) }
+{
+    let mut places = Items::new(alloc);
+    for offset in 0..size as u32 {
+        places.push(Place {
+            file: 1,
+            offset,
+            line: 1,
+            column: offset + 1,
+        })?;
+    }
+    Ok(places)
+}
+
+fn main_chunk(alloc: Global) -> Result<ChunkInfo, AllocError>
+    ensures { IfOk result (λ chunk. chunk ≡ source.main_chunk) }
+{
+    Ok(ChunkInfo {
+        name: ChunkName {
+            text: String::from_str(alloc, "main")?,
+        },
+        deps: Items::new(alloc),
+    })
+}
+
+fn no_doc(alloc: Global) -> SiteDoc
+    ensures { result ≡ source.no_doc }
+{
+    SiteDoc {
+        params: Items::new(alloc),
+        result: None,
+        value: None,
+        receiver: None,
+        vars: Items::new(alloc),
+        constant: false,
+        define: false,
+        nocollapse: false,
+        export: false,
+    }
+}
+
+fn only<T: Drop>(alloc: Global, item: T) -> Result<Items<T>, AllocError>
+    ensures { IfOk result (λ all. all ≡ item ∷ []) }
+{
+    let mut all = Items::new(alloc);
+    all.push(item)?;
+    Ok(all)
+}
+
+fn main_scope(body: Items<Stmt>) -> Scope
+    ensures { result ≡ record { params = 0; names = 0; own = false; body = term_stmts body; parent = None; doc = 0 } }
+{
+    Scope {
+        params: 0,
+        names: 0,
+        own: false,
+        body,
+        parent: None,
+        doc: 0,
+    }
+}
+
+fn program_with(
+    alloc: Global,
+    globals: Items<GlobalInfo>,
+    body: Items<Stmt>,
+    size: usize,
+) -> Result<Program, AllocError>
+    requires { size ≤ 16777216 }
+    ensures { IfOk result (λ program. program ≡ program_with globals (term_stmts body) size) }
+{
+    Ok(Program {
+        scopes: only(alloc, main_scope(body))?,
+        chunks: only(alloc, main_chunk(alloc)?)?,
+        globals,
+        props: Items::new(alloc),
+        kept: Items::new(alloc),
+        classes: Items::new(alloc),
+        places: places(alloc, size)?,
+        docs: only(alloc, no_doc(alloc))?,
+    })
+}
+
+fn body_of(
+    alloc: Global,
+    globals: &Items<GlobalInfo>,
+    statements: &Items<Statement>,
+) -> Result<Items<Stmt>, AllocError>
+    requires distinct { IsDistinct bytes_eq (names_of globals.now) }
+    requires names { length (names_of globals.now) < 2 ^ 32 }
+    requires places { All (λ statement. reach statement < 2 ^ 32) statements.now }
+    ensures { IfOk result (λ trees. map term_stmt trees ≡ map (source.statement_tree (names_of globals.now)) statements.now) }
+{
+    let table = global_table(alloc, globals)?;
+    let trees = statement_trees(alloc, &table, statements.as_slice())?;
+    Ok(trees)
+}
+
+/// The program that a source of `size` bytes is.
+#[tactic(auto, using(crate::proofs::Resolved::resolved))]
+pub fn resolve(
+    alloc: Global,
+    externs: &Items<Units>,
+    size: usize,
+    statements: &Items<Statement>,
+) -> Result<Program, AllocError>
+    requires of_externs { (text : List ℕ) × IsExterns text externs.now }
+    requires of_source { (text : List ℕ) × (length text ≡ size) × IsSource externs.now text statements.now }
+    ensures { IfOk result (λ program. program ≡ source.program_of externs.now size statements.now) }
+{
+    let globals = globals_of(alloc, externs, statements)?;
+    let body = body_of(alloc, &globals, statements)?;
+    program_with(alloc, globals, body, size)
+}
