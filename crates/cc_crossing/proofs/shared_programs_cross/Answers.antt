@@ -1,0 +1,10 @@
+use denote.Param.Send.{sendable}
+use Rattle.std.proofs.Crossing.{crosses as lent}
+use Rattle.cc_crossing.proofs.Crosses.{crosses}
+use Rattle.cc_crossing.proofs.shared_programs_cross.Goals as goal
+
+pub crosses_threads-requires-send-T : goal.crosses_threads-requires-send-T
+crosses_threads-requires-send-T c κs = search (crosses, lent, sendable) depth 20
+
+pub crosses_threads-requires-sync-T : goal.crosses_threads-requires-sync-T
+crosses_threads-requires-sync-T c κs = search (crosses, lent, sendable) depth 20
