@@ -8,10 +8,9 @@ use cc_driver::compile::compile_alone;
 use cc_driver::outcome::Outcome;
 use cc_host::FileHost;
 use std::alloc::AllocError;
-use std::env;
-use std::io;
 use std::process::ExitCode;
 use std::rt::Env;
+use std::{env, io};
 
 const HELP: &str = "usage: closure_alone --externs FILE --js FILE --js_output_file FILE
 
