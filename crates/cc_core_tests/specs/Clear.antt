@@ -1,7 +1,8 @@
 -- What the two phases mean, and that they keep their law.
 use Rattle.std.specs.Prelude.{◌≡◌, ℕ, ◌==◌, List, [], ◌∷◌, Bool, true, false, Option, Some, None, cond, IsSome, refl}
 use Rattle.std.proofs.Common.{zero, suc, sym, ap, ◌∙◌, subst}
-use Rattle.cc_ast.specs.Syntax.{Program, Scope, no_stmts}
+use Rattle.cc_ast.specs.Syntax.{Program, Scope}
+use Rattle.cc_ast.specs.StmtBridge.{term_stmts}
 use Rattle.cc_meaning.specs.Same.{Same}
 use Rattle.cc_meaning.specs.WellMade.{WellMade}
 use Rattle.cc_meaning.proofs.SameLaws.{reflexive}
@@ -127,7 +128,7 @@ clears_nothing base none = record {
 
 -- a scope with nothing in it
 abbrev pub empty_scope : Scope
-empty_scope = record { params = 0; names = 0; own = false; body = no_stmts; parent = None; doc = 0 }
+empty_scope = record { params = 0; names = 0; own = false; body = term_stmts []; parent = None; doc = 0 }
 
 -- a program of two such scopes
 abbrev pub two_scopes : Program
