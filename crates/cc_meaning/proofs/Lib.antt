@@ -16,3 +16,4 @@ mod RowsBuiltIn
 mod RowsTypes
 mod RowsPrototypes
 mod WellMadeRow
+mod RowsFlat

@@ -15,6 +15,7 @@ use Rattle.cc_meaning.specs.Names.{builtin_globals}
 use Rattle.cc_meaning.specs.Alike.{In, here, there}
 use Rattle.cc_meaning.specs.Parts as Pa
 use Rattle.cc_meaning.specs.Parts.{Part, has_site, mentions, declares, makes}
+use Rattle.cc_meaning.specs.FlatPaths.{IsCollapsible}
 use Rattle.cc_meaning.specs.WellMade as W
 use Rattle.cc_meaning.specs.WellMade.{WellMade, IsScope, IsPart, a_site, a_mention, a_declaration, a_function, IsMade, IsSound, sound_place, sound_global, sound_outer, IsDeclared, IsPlaced, placed_global, IsOwn, is_param, Holds, of_frame, Reached, Encloses, directly, further, IsOrdered, IsGlobal, IsMeant, IsCounted, IsDistinct, parts_of, all_functions}
 use Rattle.cc_meaning.proofs.Opened.{opened}
@@ -136,6 +137,20 @@ each_global (suc (suc (suc zero))) g e = subst (λ t. IsGlobal small t) (same_so
 each_global (suc (suc (suc (suc zero)))) g e = subst (λ t. IsGlobal small t) (same_some e) (plain_global _ refl refl refl (λ c h. sym (same_some h)))
 each_global (suc (suc (suc (suc (suc n))))) g e = cc
 
+no_paths : (n : ℕ) (ws : List FlatPath) → ws ≡ [] → W.ArePaths small n ws
+no_paths n ws e = subst (λ xs. W.ArePaths small n xs) (sym e) (record { distinct = no_place (List ℕ); each = λ w h. none w h })
+  where
+    none : (w : FlatPath) → In w [] → IsCollapsible small (n, w.props) w.doc
+    none w h = elim h [ ]
+
+each_paths : (n : ℕ) (g : GlobalInfo) → slice_get small.globals n ≡ Some g → W.ArePaths small n g.flat
+each_paths zero g e = no_paths 0 g.flat (subst (λ t. t.flat ≡ []) (same_some e) refl)
+each_paths (suc zero) g e = no_paths 1 g.flat (subst (λ t. t.flat ≡ []) (same_some e) refl)
+each_paths (suc (suc zero)) g e = no_paths 2 g.flat (subst (λ t. t.flat ≡ []) (same_some e) refl)
+each_paths (suc (suc (suc zero))) g e = no_paths 3 g.flat (subst (λ t. t.flat ≡ []) (same_some e) refl)
+each_paths (suc (suc (suc (suc zero)))) g e = no_paths 4 g.flat (subst (λ t. t.flat ≡ []) (same_some e) refl)
+each_paths (suc (suc (suc (suc (suc n))))) g e = cc
+
 meant_global : (n : ℕ) (g : GlobalInfo) → slice_get small.globals n ≡ Some g → g.chunk ≡ None → IsTrue (is_in g.name builtin_globals) → 4 ≤ n + 3
 unfolding shut
 meant_global zero g e h k = let t = subst (λ t. IsTrue (is_in t.name builtin_globals)) (sym (same_some e)) k in cc
@@ -156,6 +171,7 @@ well = record {
   set_once = set_once;
   globals = ordered;
   each_global = each_global;
+  paths = each_paths;
   meant = λ f c n r h. record { meant = meant_global n };
   counted = record { globals = lit< tt; docs = lit< tt; scopes = lit< tt; props = lit< tt; classes = lit< tt; places = lit< tt };
 }

@@ -19,4 +19,5 @@ pub mod Script
 pub mod Same
 pub mod Alike
 pub mod Parts
+pub mod FlatPaths
 pub mod WellMade

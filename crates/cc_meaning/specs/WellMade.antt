@@ -15,6 +15,7 @@ use Rattle.cc_meaning.specs.Monad.{pick}
 use Rattle.cc_meaning.specs.Store.{of_chunk, global_kind, without_chunk, class_of_function}
 use Rattle.cc_meaning.specs.Shapes.{tables_of, body_of, set_by}
 use Rattle.cc_meaning.specs.Alike.{In}
+use Rattle.cc_meaning.specs.FlatPaths.{IsCollapsible}
 use Rattle.cc_meaning.specs.Parts.{Part, has_site, uses_prop, uses_doc, mentions, declares, makes, sets_method, stmts_parts, expr_well, target_well}
 
 -- ---- statements of the language
@@ -242,6 +243,11 @@ pub record IsGlobal (P : Program) (g : GlobalInfo) : Type 0 where
   pub doc : g.doc < length P.docs
   pub flat : (w : FlatPath) → In w g.flat → (w.doc < length P.docs) × ((p : ℕ) → In p w.props → p < length P.props)
 
+-- the flat paths of a global: each may become a variable, and none stands twice
+pub record ArePaths (P : Program) (n : ℕ) (ws : List FlatPath) : Type 0 where
+  pub distinct : IsDistinct (map (λ w. w.props) ws)
+  pub each : (w : FlatPath) → In w ws → IsCollapsible P (n, w.props) w.doc
+
 unfoldable pub path_count : List GlobalInfo → ℕ
 path_count [] = 0
 path_count (g ∷ gs) = length g.flat + path_count gs
@@ -287,5 +293,6 @@ pub record WellMade (P : Program) : Type 0 where
   pub set_once : (i j : ℕ) (w v : Path) (f c : ℕ) → slice_get (tables_of P).set i ≡ Some (w, f) → slice_get (tables_of P).set j ≡ Some (v, f) → class_of_function (tables_of P) f ≡ Some c → i ≡ j
   pub globals : IsOrdered P
   pub each_global : (n : ℕ) (g : GlobalInfo) → slice_get P.globals n ≡ Some g → IsGlobal P g
+  pub paths : (n : ℕ) (g : GlobalInfo) → slice_get P.globals n ≡ Some g → ArePaths P n g.flat
   pub meant : (f c n : ℕ) → Reached P f → In (mentions c (Ref.Global n)) (parts_of P f) → IsMeant P n
   pub counted : IsCounted P
