@@ -2,6 +2,7 @@ pub mod Runs
 pub mod CommentLemmas
 pub mod StringLemmas
 pub mod NameLemmas
+pub mod ReservedWords
 pub mod ItemLemmas
 pub mod PlaceLemmas
 pub mod LexLemmas

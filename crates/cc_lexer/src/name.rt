@@ -1,6 +1,6 @@
 // Names and reserved words.
 
-ghost use Rattle.std.specs.Prelude.{◌≡◌, IfOk};
+ghost use Rattle.std.specs.Prelude.{◌≡◌, ℕ, List, IfOk, length as list_length};
 ghost use Rattle.std.specs.List.{list_any};
 ghost use Rattle.std.specs.Str.{bytes_eq, chars};
 ghost use Rattle.cc_lexer.specs.Items as items;
@@ -49,6 +49,27 @@ const RESERVED: [&str; 36] = [
     "false",
 ];
 
+// Those among which a name of so many bytes is to be sought.
+fn candidates(length: usize) -> &'static [&'static str]
+    ensures { (name : List ℕ) → list_length name ≡ length → list_any (λ w. bytes_eq w.now name) result.now ≡ items.is_reserved name }
+{
+    match length {
+        1 => &[],
+        2 => &["do", "if", "in"],
+        3 => &["for", "new", "try", "var"],
+        4 => &[
+            "case", "else", "this", "void", "with", "enum", "null", "true",
+        ],
+        5 => &[
+            "break", "catch", "throw", "while", "class", "const", "super", "false",
+        ],
+        6 => &["delete", "return", "switch", "typeof", "export", "import"],
+        7 => &["default", "finally", "extends"],
+        8 => &["continue", "debugger", "function"],
+        _ => &RESERVED,
+    }
+}
+
 fn is_among(name: &str, words: &[&str]) -> bool
     ensures { result ≡ list_any (λ w. bytes_eq w.now name.now) words.now }
 {
@@ -63,7 +84,7 @@ fn is_among(name: &str, words: &[&str]) -> bool
 fn is_reserved(name: &str) -> bool
     ensures { result ≡ items.is_reserved name.now }
 {
-    is_among(name, &RESERVED)
+    is_among(name, candidates(name.len()))
 }
 
 pub(crate) fn word_or_name(alloc: Global, name: &str) -> Result<TokenKind, AllocError>

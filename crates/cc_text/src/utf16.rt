@@ -27,7 +27,7 @@ pub fn push_char(units: &mut Vec<u16>, c: char) -> Result<(), AllocError>
 pub fn units_of(alloc: Global, text: &str) -> Result<Units, AllocError>
     ensures { IfOk result (λ units. units ≡ utf16 (chars text.now)) }
 {
-    let mut list = Vec::new(alloc);
+    let mut list = Vec::with_capacity(alloc, text.len())?;
     let mut rest = text;
     while let Some((c, behind)) = crate::front::split_first(rest) {
         push_char(&mut list, c)?;

@@ -1,0 +1,17 @@
+-- Scopes without docs, and fresh slots.
+use Rattle.std.specs.Prelude.{ℕ, List, [], ◌∷◌}
+use Rattle.std.specs.List.{push}
+use Rattle.std.proofs.Common.{◌≡◌, refl}
+use Rattle.cc_ast.specs.Syntax.{Scope}
+use Rattle.cc_core.specs.State.{NoneOut, all_fresh}
+use Rattle.cc_core_tests.specs.Clear.{NoDocs}
+
+-- no claim is out at the start
+pub none_out : (xs : List Scope) → NoneOut (all_fresh xs)
+none_out [] = tt
+none_out (x ∷ xs) = (refl, none_out xs)
+
+-- one more scope without a doc
+pub none_more : (xs : List Scope) (x : Scope) → NoDocs xs → x.doc ≡ 0 → NoDocs (push xs x)
+none_more [] x none e = (e, tt)
+none_more (y ∷ ys) x none e = (none.0, none_more ys x none.1 e)
