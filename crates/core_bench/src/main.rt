@@ -1,31 +1,38 @@
-//! How long a phase takes under claims: makes a program of as many empty scopes as its first
+//! How long a phase takes under claims: makes a program of as many small functions as its first
 //! argument says, and prints the microseconds in which one worker does its first phase and closes it.
 #![tactic(auto)]
 
 ghost use Rattle.std.specs.Prelude.{◌≡◌, ℕ, ◌+◌, ◌<◌, ◌^◌, IfOk, length};
-ghost use Rattle.cc_core_tests.specs.Clear.{NoDocs, empty_scope};
+ghost use Rattle.cc_core_tests.specs.Clear.{NoDocs};
 ghost use Rattle.cc_core.specs.State.{started};
 
+use cc_ast::operator::BinOp;
 use cc_ast::program::{Program, Scope};
+use cc_ast::tree::{Expr, Ref, Stmt};
 use cc_core::alone::work_alone;
 use cc_core::shop::Shop;
 use cc_core_tests::clear::Clear;
-use sqlite_items::Items;
+use sqlite_items::{Boxed, Items};
 use std::alloc::{AllocError, Global};
 use std::time::Instant;
 use std::{env, io};
 
-fn an_empty_scope(alloc: Global) -> Scope
-    ensures { result.doc ≡ 0 }
+// A function that returns a sum of a parameter and a number.
+fn a_scope(alloc: Global) -> Result<Scope, AllocError>
+    ensures { IfOk result (λ made. made.doc ≡ 0) }
 {
-    Scope {
-        params: 0,
+    let left = Boxed::new(alloc, Expr::Var(0, Ref::Frame(0, 0)))?;
+    let right = Boxed::new(alloc, Expr::Whole(0, 1))?;
+    let mut body = Items::new(alloc);
+    body.push(Stmt::Return(0, Some(Expr::Binary(0, BinOp::Add, left, right))))?;
+    Ok(Scope {
+        params: 1,
         names: 0,
         own: false,
-        body: Items::new(alloc),
+        body,
         parent: None,
         doc: 0,
-    }
+    })
 }
 
 fn scopes(alloc: Global, count: u32) -> Result<Items<Scope>, AllocError>
@@ -34,7 +41,7 @@ fn scopes(alloc: Global, count: u32) -> Result<Items<Scope>, AllocError>
 {
     let mut made = Items::new(alloc);
     for _at in 0..count {
-        made.push(an_empty_scope(alloc))?;
+        made.push(a_scope(alloc)?)?;
     }
     Ok(made)
 }
