@@ -10,7 +10,7 @@ use cc_ast::operator::BinOp;
 use cc_ast::program::{Program, Scope};
 use cc_ast::tree::{Expr, Ref, Stmt};
 use cc_core::alone::work_alone;
-use cc_core::shop::Shop;
+use cc_core::shop::{CloseFault, Shop};
 use cc_core_tests::clear::Clear;
 use sqlite_items::{Boxed, Items};
 use std::alloc::{AllocError, Global};
@@ -68,12 +68,16 @@ fn a_shop(alloc: Global, count: u32) -> Result<Shop<Clear>, AllocError>
     Shop::begin(alloc, Clear, a_program(alloc, count)?)
 }
 
-/// Does the first phase and closes it; says whether a phase follows.
+/// Does the first phase and closes it, a second time where the first found no memory, since that
+/// leaves all as it was; says whether a phase follows.
 fn phase(shop: Shop<Clear>) -> Result<bool, AllocError>
     requires { (program : _) × (shop ≡ record { rules = record {}; state = started program }) }
 {
     let mut shop = work_alone(shop)?;
-    Ok(matches!(shop.close(), Ok(true)))
+    Ok(match shop.close() {
+        Err(CloseFault::Memory) => matches!(shop.close(), Ok(true)),
+        closed => matches!(closed, Ok(true)),
+    })
 }
 
 fn main(rt: HostRuntime) -> io::Result<()> {
