@@ -7,14 +7,14 @@ use Rattle.cc_meaning.specs.Alike.{In, here, there}
 use Rattle.cc_driver.specs.Source.{number_of}
 use Rattle.cc_headline.proofs.Lists.{names_same, same_names, names_differ}
 
-number_head : (x : List ℕ) (xs : List (List ℕ)) (n : List ℕ) → bytes_eq n x ≡ true → number_of (x ∷ xs) n ≡ 0
+pub number_head : (x : List ℕ) (xs : List (List ℕ)) (n : List ℕ) → bytes_eq n x ≡ true → number_of (x ∷ xs) n ≡ 0
 number_head x xs n e = ap (λ b. cond (not b) (1 + number_of xs n) 0) e
 
-number_tail : (x : List ℕ) (xs : List (List ℕ)) (n : List ℕ) → bytes_eq n x ≡ false → number_of (x ∷ xs) n ≡ suc (number_of xs n)
+pub number_tail : (x : List ℕ) (xs : List (List ℕ)) (n : List ℕ) → bytes_eq n x ≡ false → number_of (x ∷ xs) n ≡ suc (number_of xs n)
 number_tail x xs n e = ap (λ b. cond (not b) (1 + number_of xs n) 0) e ∙ one-add (number_of xs n)
 
 -- an element behind a different one
-behind : (n x : List ℕ) (xs : List (List ℕ)) → In n (x ∷ xs) → bytes_eq n x ≡ false → In n xs
+pub behind : (n x : List ℕ) (xs : List (List ℕ)) → In n (x ∷ xs) → bytes_eq n x ≡ false → In n xs
 behind n x xs here e = let t = same_names n n refl in absurd (cc)
 behind n x xs (there h) e = h
 
