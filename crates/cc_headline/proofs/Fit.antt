@@ -44,9 +44,10 @@ module _ (C Q : List ℕ → Type 0) where
 
   pub statements_fit : (at : ℕ) (x : List ℕ) (ss : List Statement) → IsStatements at x ss → ((n : List ℕ) → In n (called ss) → C n) → ((n : List ℕ) → In n (used ss) → Q n) → ((n : List ℕ) → In n (declared ss) → Q n) → StatementsFit ss
   statements_fit at _ _ form.no_statements c u d = tt
-  statements_fit _ _ _ (form.more_statements {at} {x} {y} {s} {ss} h hs) c u d =
-      (statement_fits at x s h (λ n k. c n (in_left (called ss) k)) (λ n k. u n (in_left (used ss) k)) (λ n k. d n (in_left (declared ss) k)),
-       statements_fit (at + length x) y ss hs (λ n k. c n (in_right (called_by s) k)) (λ n k. u n (in_right (used_by s) k)) (λ n k. d n (in_right (declared_by s) k)))
+  statements_fit _ _ _ (form.more_statements {at} {x} {y} {s} {ss} h hs) c u d = (
+    statement_fits at x s h (λ n k. c n (in_left (called ss) k)) (λ n k. u n (in_left (used ss) k)) (λ n k. d n (in_left (declared ss) k)),
+    statements_fit (at + length x) y ss hs (λ n k. c n (in_right (called_by s) k)) (λ n k. u n (in_right (used_by s) k)) (λ n k. d n (in_right (declared_by s) k)),
+  )
 
 -- what a reading calls are externs, and what else it names it declares
 pub reading_fits : (externs : List (List ℕ)) (text : List ℕ) (ss : List Statement) → IsReading externs text ss → StatementsFit (λ n. In n externs) (λ n. In n (declared ss)) ss
