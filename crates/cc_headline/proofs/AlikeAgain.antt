@@ -1,10 +1,8 @@
 -- The trees of what is read again are alike to those of the source.
-use Rattle.std.proofs.Common.{◌≡◌, ℕ, zero, suc, ◌+◌, ◌<◌, List, [], ◌∷◌, ◌++◌, length, map, refl, sym, ap, ◌∙◌, subst, ◌⊎◌, inl, inr, arith}
-use Rattle.cc_ast.specs.declared.tree.Ref.{Ref}
+use Rattle.std.proofs.Common.{◌≡◌, ℕ, zero, suc, ◌+◌, ◌<◌, List, [], ◌∷◌, length, map, refl, sym, ◌∙◌, subst, ◌⊎◌, inl, inr, arith}
 use Rattle.cc_ast.specs.declared.tree.Ref.TheVariants as ref
 use Rattle.cc_ast.specs.Bridge.{exprs}
 use Rattle.cc_ast.specs.StmtBridge.{stmts}
-use Rattle.cc_ast.specs.Syntax as S
 use Rattle.cc_meaning.specs.State.{Tables}
 use Rattle.cc_meaning.specs.Alike.{In, here, there, ListT, nil_t, cons_t, OptT, some_t, none_t, Paired, OneToOne, Numbering, RefA, ExprA, ExprsA, StmtA, StmtsA, DeclA}
 use Rattle.cc_meaning.specs.Alike as alike

@@ -1,27 +1,26 @@
 -- The program that is read again is alike to the source.
-use Rattle.std.proofs.Common.{◌≡◌, ℕ, zero, suc, ◌<◌, List, [], ◌∷◌, ◌++◌, length, map, refl, sym, ap, ap₂, ◌∙◌, subst, Option, Some, None, slice_get}
+use Rattle.std.proofs.Common.{◌≡◌, ℕ, zero, suc, List, [], ◌∷◌, ◌++◌, length, map, refl, sym, ap, ap₂, ◌∙◌, Some, slice_get}
 use Rattle.std.proofs.lemmas.List.{map-append}
 use Rattle.cc_ast.specs.StmtBridge.{stmts}
 use Rattle.cc_ast.specs.Syntax as S
-use Rattle.cc_meaning.specs.Values.{Val}
 use Rattle.cc_meaning.specs.Shapes.{tables_of, body_of, body_in}
 use Rattle.cc_meaning.specs.Script.{graph_of}
-use Rattle.cc_meaning.specs.Store.{global_kind, extern}
+use Rattle.cc_meaning.specs.Store.{global_kind}
 use Rattle.cc_meaning.specs.Alike.{In, here, there, Paired, StmtsA, GlobalA, Alike}
 use Rattle.cc_driver.specs.Names.{built_in_names}
 use Rattle.cc_driver.specs.Form.{IsExterns, IsSource, declared}
-use Rattle.cc_driver.specs.Source.{number_of, statement_tree, program_of, global_names, global_of_no_chunk, global_of_main}
+use Rattle.cc_driver.specs.Source.{number_of, statement_tree, program_of, global_names}
 use Rattle.cc_driver.specs.Naming.{IsNaming}
 use Rattle.cc_driver.specs.declared.form.Statement.{Statement}
 use Rattle.cc_driver.specs.declared.spelling.Piece.{Piece}
 use Rattle.cc_headline.specs.Again.{statements_again}
-use Rattle.cc_headline.proofs.Lists.{Distinct, in_left, in_right}
+use Rattle.cc_headline.proofs.Lists.{in_left, in_right}
 use Rattle.cc_headline.proofs.Numbers.{number_again, number_within}
 use Rattle.cc_headline.proofs.SourceNames.{outer_stays, names_apart}
-use Rattle.cc_headline.proofs.Fit.{StatementsFit, reading_fits}
+use Rattle.cc_headline.proofs.Fit.{reading_fits}
 use Rattle.cc_headline.proofs.FormAgain.{declared_again}
 use Rattle.cc_headline.proofs.ReadAgain.{renaming, names_distinct}
-use Rattle.cc_headline.proofs.GlobalKinds.{chunks_of, same_kind, chunks_again}
+use Rattle.cc_headline.proofs.GlobalKinds.{same_kind, chunks_again}
 use Rattle.cc_headline.proofs.AlikeAgain.{pairs, pairs_once, paired_same, by_number, statements_alike}
 
 -- names that each stay

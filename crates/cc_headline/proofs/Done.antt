@@ -1,11 +1,12 @@
 -- The promise from the contract of a compilation.
-use Rattle.std.proofs.Common.{◌≡◌, ℕ, List, length, refl, sym, ap, ◌∙◌, subst, Option, Some, None}
+use Rattle.std.proofs.Common.{◌≡◌, ℕ, List, refl, Option, Some, None}
 use Rattle.cc_host.specs.Host.{View, Contents, file_of, IfShown, KeepsOtherFiles}
 use Rattle.cc_driver.specs.declared.outcome.Outcome.{Outcome}
-use Rattle.cc_driver.specs.declared.outcome.Outcome.TheVariants.{Done, Read, Write, Unbuilt, Memory}
-use Rattle.cc_driver.specs.Compile.{IsJob, WasRead, IsCompiled, IsRefused, no_externs, no_source, no_memory, JobCause, compiled, externs_unread, source_unread, refused, unwritten, out_of_memory, Cause, bad_words, of_job, no_memory_for_message, ChangesOnly, Compiles}
+use Rattle.cc_driver.specs.declared.outcome.Outcome.TheVariants.{Done}
+use Rattle.cc_driver.specs.Compile.{IsJob, WasRead, IsCompiled, no_externs, no_source, no_memory, JobCause, compiled, externs_unread, source_unread, refused, unwritten, out_of_memory, Cause, bad_words, of_job, no_memory_for_message, ChangesOnly, Compiles, Accepted}
 use Rattle.cc_headline.specs.Headline.{Headline}
-use Rattle.cc_headline.proofs.Faithful.{Erasure, compiled_faithful}
+use Rattle.cc_headline.specs.Erasure.{Erasure}
+use Rattle.cc_headline.proofs.Faithful.{compiled_faithful}
 
 IfShown-map : (a b : Option Contents) (R T : Contents → Contents → Type 0) → ((x y : Contents) → R x y → T x y) → IfShown a b R → IfShown a b T
 IfShown-map None None R T f p = tt
@@ -66,3 +67,25 @@ headline_from law words a b _ no_memory_for_message d files = absurd (cc)
 -- the promise, for every words and host
 pub headline : Erasure → (words : List (List ℕ)) (before after : View) → Compiles words before after Done → Headline words before after
 headline law words a b c = headline_from law words a b Done c.cause refl c.files
+
+-- and the job is one that is accepted, where the host shows its files
+held : (before : View) (file text : List ℕ) (contents : Contents) → before.shown ≡ Some contents → WasRead before file text → file_of contents file ≡ Some text
+held before file text contents e r = r.held contents e
+
+pub accepted : (words : List (List ℕ)) (before after : View) (contents : Contents) → before.shown ≡ Some contents → Headline words before after → Accepted words before
+accepted words before after contents e h = record {
+  contents = contents;
+  externs_file = h.externs_file;
+  source_file = h.source_file;
+  output_file = h.output_file;
+  externs = h.externs;
+  source = h.source;
+  names = h.compiled.names;
+  statements = h.compiled.statements;
+  shown = e;
+  job = h.job;
+  externs_held = held before h.externs_file h.externs contents e h.externs_read;
+  source_held = held before h.source_file h.source contents e h.source_read;
+  of_externs = h.compiled.of_externs;
+  of_source = h.compiled.of_source;
+}

@@ -1,42 +1,66 @@
--- What is compiled agrees with its source, by two laws of the meaning: a well made program agrees
--- with its own plain run, and alike programs have equal plain runs.
-use Rattle.std.proofs.Common.{◌≡◌, ℕ, List, length, refl, sym, ap, ◌∙◌, subst, Some}
-use Rattle.cc_ast.specs.Syntax.{Program}
-use Rattle.cc_meaning.specs.Script.{Script, IsFollowing, run, plain}
-use Rattle.cc_meaning.specs.Same.{Agrees}
-use Rattle.cc_meaning.specs.Alike.{Alike}
-use Rattle.cc_meaning.specs.WellMade.{WellMade}
+-- What is compiled agrees with its source, by the law of the meaning that what is alike to a well
+-- made program agrees with it.
+use Rattle.std.proofs.Common.{◌≡◌, ℕ, List, length, sym, subst, Some}
+use Rattle.cc_meaning.specs.Alike.{In}
 use Rattle.cc_driver.specs.Form.{IsExterns, IsSource, IsReading}
 use Rattle.cc_driver.specs.Source.{program_of}
-use Rattle.cc_driver.specs.Spelling.{text_of}
+use Rattle.cc_driver.specs.Spelling.{spell_chunk, text_of}
+use Rattle.cc_driver.specs.Naming.{IsNaming}
 use Rattle.cc_driver.specs.Compile.{IsOutput, IsCompiled}
 use Rattle.cc_driver.specs.declared.form.Statement.{Statement}
+use Rattle.cc_driver.specs.declared.spelling.Piece.{Piece}
+use Rattle.cc_driver.proofs.FormLaws.{one_reading}
 use Rattle.cc_headline.specs.Again.{statements_again}
+use Rattle.cc_headline.specs.NamingLaw.{NamingLaw}
+use Rattle.cc_headline.specs.ReadsBack.{ReadsBack}
+use Rattle.cc_headline.specs.Erasure.{Erasure}
 use Rattle.cc_headline.specs.Headline.{IsFaithful}
+use Rattle.cc_headline.proofs.Lists.{in_right}
+use Rattle.cc_headline.proofs.Naming.{naming_law}
+use Rattle.cc_headline.proofs.SourceNames.{others_are}
 use Rattle.cc_headline.proofs.ReadAgain.{renaming, written_reads}
 use Rattle.cc_headline.proofs.AlikePrograms.{alike_again}
 use Rattle.cc_headline.proofs.SourceWellMade.{source_well}
-use Rattle.cc_headline.proofs.PlainRuns.{agrees_with}
 
--- what the meaning owes
-pub record Erasure : Type 0 where
-  pub agrees : (P : Program) → WellMade P → Agrees P P
-  pub alike : (P Q : Program) → WellMade P → Alike P Q → (sc : Script) → IsFollowing P sc → (n : ℕ) → run plain P sc n ≡ run plain Q sc n
+-- two readings of one text are equal
+pub reading_once : (externs : List (List ℕ)) (text : List ℕ) (ss ts : List Statement) → IsReading externs text ss → IsReading externs text ts → ss ≡ ts
+reading_once externs text ss ts h k = one_reading text ss ts h.form k.form
+
+pub reads_back : (file : List ℕ) (externs : List (List ℕ)) (source : List ℕ) (ss : List Statement) (size : ℕ) (pieces : List Piece) (names : List (List ℕ)) → IsExterns file externs → IsSource externs source ss
+    → spell_chunk (program_of externs size ss) 0 ≡ Some pieces → IsNaming (program_of externs size ss) pieces names → ReadsBack externs size ss (text_of names pieces)
+reads_back file externs source ss size pieces names ex so spelled named =
+    let f = renaming file externs source ss ex so size pieces names named in
+    let reading : IsReading externs (text_of names pieces) (statements_again f 0 ss) = written_reads file externs source ss ex so size pieces names named spelled in
+    record {
+      statements_read = statements_again f 0 ss;
+      reading = reading;
+      alike = alike_again file externs source ss ex so size pieces names named;
+      only = λ others h. reading_once externs (text_of names pieces) others (statements_again f 0 ss) h reading;
+    }
+
+pub source_names : (externs : List (List ℕ)) (size : ℕ) (ss : List Statement) (pieces : List Piece) (names : List (List ℕ)) → IsNaming (program_of externs size ss) pieces names → NamingLaw (program_of externs size ss) pieces names
+source_names externs size ss pieces names n = naming_law (program_of externs size ss) pieces names n (λ b h. subst (λ t. In b t) (sym (others_are externs size ss)) (in_right externs h))
+
+-- a text that reads back means what its source means
+text_faithful : Erasure → (file : List ℕ) (externs : List (List ℕ)) (source : List ℕ) (ss : List Statement) (text : List ℕ) → IsExterns file externs → IsSource externs source ss
+    → ReadsBack externs (length source) ss text → IsFaithful externs source ss text
+text_faithful law file externs source ss text ex so back =
+    let S = program_of externs (length source) ss in
+    let E = program_of externs (length text) back.statements_read in
+    let well = source_well file externs source ss ex so in
+    let same = back.alike (length text) in
+    record {
+      statements_read = back.statements_read;
+      reading = back.reading;
+      only = back.only;
+      agrees = law.agrees S E well same;
+    }
 
 pub output_faithful : Erasure → (file : List ℕ) (externs : List (List ℕ)) (source : List ℕ) (ss : List Statement) (text : List ℕ) → IsExterns file externs → IsSource externs source ss
     → IsOutput externs (length source) ss text → IsFaithful externs source ss text
 output_faithful law file externs source ss text ex so out =
-    let f = renaming file externs source ss ex so (length source) out.pieces out.names out.named in
-    let S = program_of externs (length source) ss in
-    let E = program_of externs (length text) (statements_again f 0 ss) in
-    let well = source_well file externs source ss ex so in
-    let same = alike_again file externs source ss ex so (length source) out.pieces out.names out.named (length text) in
-    let reading : IsReading externs (text_of out.names out.pieces) (statements_again f 0 ss) = written_reads file externs source ss ex so (length source) out.pieces out.names out.named out.spelled in
-    record {
-      statements_read = statements_again f 0 ss;
-      reading = subst (λ t. IsReading externs t (statements_again f 0 ss)) (sym out.text) reading;
-      agrees = agrees_with S S E (law.agrees S well) same.graph (law.alike S E well same);
-    }
+    text_faithful law file externs source ss text ex so
+    (subst (ReadsBack externs (length source) ss) (sym out.text) (reads_back file externs source ss (length source) out.pieces out.names ex so out.spelled out.named))
 
 pub compiled_faithful : Erasure → (externs source text : List ℕ) (c : IsCompiled externs source text) → IsFaithful c.names source c.statements text
 compiled_faithful law externs source text c = output_faithful law externs c.names source c.statements text c.of_externs c.of_source c.output

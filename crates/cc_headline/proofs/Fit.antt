@@ -1,7 +1,7 @@
 -- Statements of the form: what is called and what else is named are so, and texts are plain.
-use Rattle.std.proofs.Common.{◌≡◌, ℕ, ◌+◌, List, [], ◌∷◌, ◌++◌, length, IsTrue, refl, All, Contains}
+use Rattle.std.proofs.Common.{ℕ, ◌+◌, List, [], ◌∷◌, length, IsTrue, Contains}
 use Rattle.std.specs.List.{list_all}
-use Rattle.cc_meaning.specs.Alike.{In, here, there}
+use Rattle.cc_meaning.specs.Alike.{In, here}
 use Rattle.cc_driver.specs.Form as form
 use Rattle.cc_driver.specs.Form.{is_plain, IsValue, IsValues, IsStatement, IsStatements, IsReading, declared, called, used, declared_by, called_by, used_by, named_by, named_by_all}
 use Rattle.cc_driver.specs.declared.form.Value.{Value}

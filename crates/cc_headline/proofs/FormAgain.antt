@@ -1,8 +1,7 @@
 -- The text of statements under new names is of the form again.
-use Rattle.std.proofs.Common.{◌≡◌, ℕ, ◌+◌, List, [], ◌∷◌, ◌++◌, length, map, refl, sym, ap, ap₂, ◌∙◌, subst, append_assoc, All, Contains}
+use Rattle.std.proofs.Common.{◌≡◌, ℕ, ◌+◌, List, [], ◌∷◌, ◌++◌, length, map, refl, sym, ap₂, ◌∙◌}
 use Rattle.std.proofs.lemmas.List.{map-append}
-use Rattle.cc_meaning.specs.Alike.{In, here, there}
-use Rattle.cc_driver.specs.Names.{IsName, built_in_names}
+use Rattle.cc_driver.specs.Names.{IsName}
 use Rattle.cc_driver.specs.Form as form
 use Rattle.cc_driver.specs.Form.{IsValue, IsValues, IsStatement, IsStatements, IsReading, declared, called, used, declared_by, called_by, used_by, named_by, named_by_all}
 use Rattle.cc_driver.specs.declared.form.Value.{Value}

@@ -1,5 +1,5 @@
 -- The names that are given in order: they rise by number, and none between two of them is left out but for those that are passed over.
-use Rattle.std.proofs.Common.{◌≡◌, ℕ, zero, suc, ◌+◌, ◌<◌, ◌≤◌, Bool, true, false, List, [], ◌∷◌, length, refl, sym, ap, ◌∙◌, subst, ◌⊎◌, inl, inr, arith, Some, None, slice_get}
+use Rattle.std.proofs.Common.{◌≡◌, ℕ, zero, suc, ◌+◌, ◌<◌, ◌≤◌, Bool, true, List, ◌∷◌, refl, sym, ap, ◌∙◌, ◌⊎◌, inl, inr, arith, Some, slice_get}
 use Rattle.cc_driver.specs.Naming.{NameNumber, Fresh}
 use Rattle.cc_driver.specs.Naming as naming
 use Rattle.cc_driver.proofs.NumberLaws.{name_once, number_once, SameOrNot, same_or_not}

@@ -3,7 +3,7 @@ use Rattle.std.proofs.Common.{◌≡◌, ℕ, zero, suc, ◌-◌, List, [], ◌�
 use Rattle.cc_ast.specs.declared.tables.GlobalInfo.{GlobalInfo}
 use Rattle.cc_meaning.specs.State.{Tables}
 use Rattle.cc_meaning.specs.Monad.{pick}
-use Rattle.cc_meaning.specs.Store.{Global, global_kind, global_by, without_chunk, chunk_in}
+use Rattle.cc_meaning.specs.Store.{global_kind, global_by, without_chunk, chunk_in}
 use Rattle.cc_driver.specs.Source.{global_of_no_chunk, global_of_main}
 
 -- the chunk of each global, in their order

@@ -1,5 +1,5 @@
 -- Laws of lists: what stands in one, also after a map or behind another.
-use Rattle.std.proofs.Common.{◌≡◌, ℕ, zero, suc, ◌<◌, Bool, true, false, List, [], ◌∷◌, ◌++◌, length, map, refl, sym, ap, subst, ◌∙◌, ◌⊎◌, inl, inr, arith, All, Contains, get_or, Option, Some, None, slice_get}
+use Rattle.std.proofs.Common.{◌≡◌, ℕ, zero, suc, ◌<◌, true, false, List, [], ◌∷◌, ◌++◌, length, map, refl, sym, ap, subst, ◌∙◌, ◌⊎◌, inl, inr, arith, All, Contains, get_or, Some, slice_get}
 use Rattle.std.specs.List.{IsDistinct, AllByRecursion}
 use Rattle.std.specs.Str.{bytes_eq}
 use Rattle.std.proofs.lemmas.Slice.Eq.{bytes_eq-Decides}
@@ -62,7 +62,7 @@ all_at P {x = x} {xs = xs} h all = by (contains_from_in h)
     by : Contains xs x → P x
     by c = subst P c.2 (all c.0 x c.1)
 
--- two lists of names that hold the same test at each place
+-- between `All` and what holds of each element that stands in the list
 pub all_from : {A : Type 0} (P : A → Type 0) (xs : List A) → ((x : A) → In x xs → P x) → All P xs
 all_from {A = A} P xs h k d l = h (get_or xs k d) (at xs k d l)
   where

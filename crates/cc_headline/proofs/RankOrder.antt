@@ -1,5 +1,5 @@
 -- The order of the globals by their printed occurrences.
-use Rattle.std.proofs.Common.{◌≡◌, ℕ, zero, suc, ◌+◌, ◌<◌, ◌≤◌, List, [], ◌∷◌, refl, sym, ap, ◌∙◌, subst, ◌⊎◌, inl, inr, arith, Some, None, slice_get}
+use Rattle.std.proofs.Common.{◌≡◌, ℕ, zero, suc, ◌<◌, List, [], ◌∷◌, sym, ◌∙◌, subst, ◌⊎◌, inl, inr, arith, Some, slice_get}
 use Rattle.cc_meaning.specs.Alike.{In, here, there}
 use Rattle.cc_driver.specs.Naming.{IsRanked, Outranks, occurrences}
 use Rattle.cc_driver.specs.Naming as naming

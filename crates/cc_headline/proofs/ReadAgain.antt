@@ -1,8 +1,6 @@
 -- The text that is written for a source is read again with the same externs.
-use Rattle.std.proofs.Common.{◌≡◌, ℕ, List, [], ◌∷◌, ◌++◌, length, map, refl, sym, ap, ◌∙◌, subst, Some, All, Contains}
-use Rattle.std.specs.List.{IsDistinct}
-use Rattle.std.specs.Str.{bytes_eq}
-use Rattle.cc_meaning.specs.Alike.{In, here, there}
+use Rattle.std.proofs.Common.{◌≡◌, ℕ, List, ◌++◌, map, sym, ◌∙◌, subst, Some, All, Contains}
+use Rattle.cc_meaning.specs.Alike.{In}
 use Rattle.cc_driver.specs.Names.{IsName, built_in_names}
 use Rattle.cc_driver.specs.Form.{IsExterns, IsSource, IsReading, declared, called, used}
 use Rattle.cc_driver.specs.Source.{program_of, global_names}
@@ -12,7 +10,7 @@ use Rattle.cc_driver.specs.declared.form.Statement.{Statement}
 use Rattle.cc_driver.specs.declared.spelling.Piece.{Piece}
 use Rattle.cc_driver.proofs.SourceLaws.{functions_named, globals_distinct}
 use Rattle.cc_headline.specs.Again.{new_name, statements_text, statements_again}
-use Rattle.cc_headline.proofs.Lists.{Distinct, Comes, in_left, in_right, in_map, in_mapped, in_from_contains, contains_from_in, all_at, all_from, distinct_map}
+use Rattle.cc_headline.proofs.Lists.{Distinct, in_left, in_right, in_map, in_mapped, in_from_contains, contains_from_in, all_at, all_from, distinct_map}
 use Rattle.cc_headline.proofs.SourceNames.{outer_stays, own_valid, own_new, names_apart}
 use Rattle.cc_headline.proofs.Fit.{StatementsFit, reading_fits}
 use Rattle.cc_headline.proofs.FormAgain.{statements_read, declared_again, called_again, used_again}

@@ -1,18 +1,16 @@
 -- The kinds of the globals of a source.
-use Rattle.std.proofs.Common.{◌≡◌, ℕ, zero, suc, ◌+◌, ◌-◌, ◌<◌, ◌≤◌, Bool, true, false, List, [], ◌∷◌, ◌++◌, length, map, refl, sym, ap, ap₂, ◌∙◌, subst, ◌⊎◌, inl, inr, arith, Option, Some, None, slice_get, append_assoc, length-append, nat_lt, lt-ltb}
+use Rattle.std.proofs.Common.{◌≡◌, ℕ, suc, ◌+◌, ◌-◌, ◌<◌, true, false, List, [], ◌∷◌, ◌++◌, length, map, refl, sym, ap, ap₂, ◌∙◌, subst, ◌⊎◌, inl, inr, arith, Some, slice_get, append_assoc, length-append, lt-ltb}
 use Rattle.std.specs.Str.{bytes_eq}
 use Rattle.std.proofs.lemmas.Bool.{cases_Bool}
-use Rattle.cc_ast.specs.declared.tables.GlobalInfo.{GlobalInfo}
-use Rattle.cc_ast.specs.Syntax as S
-use Rattle.cc_meaning.specs.Alike.{In, here, there}
+use Rattle.cc_meaning.specs.Alike.{In}
 use Rattle.cc_meaning.specs.Monad.{pick}
 use Rattle.cc_meaning.specs.Shapes.{tables_of}
-use Rattle.cc_meaning.specs.Store.{Global, extern, of_chunk, built_in, built_number, global_kind, global_by, outer_global, without_chunk, chunk_in}
+use Rattle.cc_meaning.specs.Store.{extern, of_chunk, built_in, built_number, global_kind, global_by, outer_global, without_chunk, chunk_in}
 use Rattle.cc_driver.specs.Names.{built_in_names}
 use Rattle.cc_driver.specs.Form.{declared}
 use Rattle.cc_driver.specs.Source.{number_of, program_of, global_names, global_of_no_chunk, global_of_main}
 use Rattle.cc_driver.specs.declared.form.Statement.{Statement}
-use Rattle.cc_headline.proofs.Lists.{Distinct, names_same, in_left, in_right}
+use Rattle.cc_headline.proofs.Lists.{Distinct, in_left}
 use Rattle.cc_headline.proofs.Numbers.{left_at, right_at, number_head, number_tail, behind}
 use Rattle.cc_headline.proofs.SourceNames.{two_parts}
 

@@ -1,7 +1,6 @@
 -- The new names of the globals of a source of the form.
-use Rattle.std.proofs.Common.{◌≡◌, ℕ, zero, suc, ◌<◌, ◌≤◌, Bool, true, false, List, [], ◌∷◌, ◌++◌, length, map, refl, sym, ap, ◌∙◌, subst, ◌⊎◌, inl, inr, arith, Option, Some, None, slice_get, unwrap_or, append-nil, length-append}
+use Rattle.std.proofs.Common.{◌≡◌, ℕ, suc, ◌<◌, List, [], ◌∷◌, ◌++◌, length, map, refl, sym, ap, ◌∙◌, subst, ◌⊎◌, inl, inr, arith, Option, Some, slice_get, unwrap_or, append-nil}
 use Rattle.cc_ast.specs.declared.tables.GlobalInfo.{GlobalInfo}
-use Rattle.cc_ast.specs.Syntax as S
 use Rattle.cc_meaning.specs.Alike.{In, here, there}
 use Rattle.cc_driver.specs.Names.{built_in_names, IsName}
 use Rattle.cc_driver.specs.Form.{declared}
@@ -11,7 +10,7 @@ use Rattle.cc_driver.specs.declared.form.Statement.{Statement}
 use Rattle.cc_driver.specs.declared.spelling.Piece.{Piece}
 use Rattle.cc_headline.specs.Again.{new_name}
 use Rattle.cc_headline.specs.NamingLaw.{IsGiven, IsKept, NamingLaw}
-use Rattle.cc_headline.proofs.Lists.{in_left, in_right, in_either, Distinct, distinct_head, distinct_tail}
+use Rattle.cc_headline.proofs.Lists.{in_right, in_either, Distinct, distinct_head, distinct_tail}
 use Rattle.cc_headline.proofs.Numbers.{left_at, right_at, number_at, number_within}
 use Rattle.cc_headline.proofs.Naming.{naming_law, item_at}
 

@@ -1,12 +1,12 @@
 -- The parts of a source's trees, one by one.
-use Rattle.std.proofs.Common.{◌≡◌, ℕ, ◌+◌, ◌<◌, Bool, true, false, ◌&&◌, ◌||◌, List, [], ◌∷◌, ◌++◌, length, map, refl, sym, ap, ◌∙◌, subst, ◌⊎◌, inl, inr, arith, Some, None}
+use Rattle.std.proofs.Common.{◌≡◌, ℕ, ◌+◌, ◌<◌, true, ◌||◌, List, [], ◌∷◌, ◌++◌, length, map, refl, ap, ◌⊎◌, inl, inr, arith}
 use Rattle.std.proofs.lemmas.Bool.{and_from}
 use Rattle.cc_ast.specs.declared.tree.Ref.TheVariants as ref
 use Rattle.cc_ast.specs.Bridge.{exprs}
 use Rattle.cc_ast.specs.StmtBridge.{stmts}
 use Rattle.cc_meaning.specs.State.{Tables}
 use Rattle.cc_meaning.specs.Alike.{In, here, there}
-use Rattle.cc_meaning.specs.Store.{Global, global_kind, extern, of_chunk}
+use Rattle.cc_meaning.specs.Store.{global_kind, extern, of_chunk}
 use Rattle.cc_meaning.specs.Parts as Pa
 use Rattle.cc_meaning.specs.Parts.{Part, has_site, mentions, declares, makes, expr_parts, exprs_parts, option_parts, vars_parts, stmt_parts, stmts_parts, expr_well, exprs_well, may_read, is_no_built, built_callee, is_string, exact_prim}
 use Rattle.cc_meaning.specs.WellMade.{Open, option_well, vars_well, some_vars, stmt_well, stmts_well, functions_in}

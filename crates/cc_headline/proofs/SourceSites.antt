@@ -1,6 +1,6 @@
 -- The sites of a source's trees stand within its text.
-use Rattle.std.proofs.Common.{◌≡◌, ℕ, zero, suc, ◌+◌, ◌<◌, ◌≤◌, false, true, List, [], ◌∷◌, ◌++◌, length, refl, arith, codes, length-append}
-use Rattle.cc_driver.specs.Names.{IsName, starts_name}
+use Rattle.std.proofs.Common.{◌≡◌, ℕ, suc, ◌+◌, ◌<◌, ◌≤◌, List, [], ◌∷◌, ◌++◌, length, arith, codes, length-append}
+use Rattle.cc_driver.specs.Names.{IsName}
 use Rattle.cc_driver.specs.Form as form
 use Rattle.cc_driver.specs.Form.{IsValue, IsValues, IsStatement, IsStatements}
 use Rattle.cc_driver.specs.declared.form.Value.{Value}

@@ -1,7 +1,6 @@
 -- The tables of a source's program.
-use Rattle.std.proofs.Common.{◌≡◌, ℕ, zero, suc, ◌+◌, ◌<◌, ◌≤◌, Bool, true, false, not, ◌||◌, ◌&&◌, List, [], ◌∷◌, ◌++◌, length, map, take, refl, sym, ap, ap₂, ◌∙◌, subst, ◌⊎◌, inl, inr, arith, Option, Some, None, slice_get, is_some, IsTrue, IsFalse, codes, nat_eq, eqb-true, append_assoc, append-nil}
+use Rattle.std.proofs.Common.{◌≡◌, ℕ, zero, suc, ◌<◌, ◌≤◌, Bool, true, false, ◌||◌, List, [], ◌∷◌, ◌++◌, length, map, take, refl, ap, ap₂, subst, ◌⊎◌, inl, inr, arith, Some, slice_get, is_some, IsTrue, IsFalse, codes, nat_eq, eqb-true}
 use Rattle.std.proofs.lemmas.Bool.{and_parts, not-true}
-use Rattle.std.proofs.lemmas.List.{map-append}
 use Rattle.cc_ast.specs.declared.tables.GlobalInfo.{GlobalInfo}
 use Rattle.cc_meaning.specs.Operators.{list_eq, is_in}
 use Rattle.cc_meaning.specs.Names.{builtin_globals}
@@ -10,7 +9,7 @@ use Rattle.cc_meaning.specs.WellMade.{path_count, refused_names}
 use Rattle.cc_driver.specs.Names as names
 use Rattle.cc_driver.specs.Names.{built_in_names, reserved_words, special_names, IsName}
 use Rattle.cc_driver.specs.Source.{global_of_no_chunk, global_of_main}
-use Rattle.cc_headline.proofs.Lists.{Comes, in_mapped, in_either, in_right, in_got, names_same, same_names}
+use Rattle.cc_headline.proofs.Lists.{in_mapped, in_either, in_got}
 use Rattle.cc_headline.proofs.Naming.{neither_from, not_in}
 
 same_some : {X : Type 0} {x y : X} → Some x ≡ Some y → x ≡ y

@@ -1,37 +1,32 @@
 -- The program of a source of the form is well made.
-use Rattle.std.proofs.Common.{◌≡◌, ℕ, zero, suc, ◌+◌, ◌^◌, ◌<◌, ◌≤◌, true, false, List, [], ◌∷◌, ◌++◌, length, map, take, refl, sym, ap, ap₂, ◌∙◌, subst, ◌⊎◌, inl, inr, arith, Option, Some, None, slice_get, is_some, IsTrue, IsFalse, append_assoc, length-append, lit<, lit≤}
+use Rattle.std.proofs.Common.{◌≡◌, ℕ, zero, suc, ◌+◌, ◌^◌, ◌<◌, ◌≤◌, List, [], ◌∷◌, ◌++◌, length, map, take, refl, sym, ap, ◌∙◌, subst, ◌⊎◌, inl, inr, arith, Some, None, slice_get, IsTrue, append_assoc, lit<, lit≤}
 use Rattle.std.proofs.lemmas.List.{map-append}
 use Rattle.std.proofs.lemmas.Bool.{cases_lt}
 use Rattle.cc_ast.specs.declared.tables.ChunkInfo.{ChunkInfo}
 use Rattle.cc_ast.specs.declared.tables.GlobalInfo.{GlobalInfo}
-use Rattle.cc_ast.specs.declared.tables.FlatPath.{FlatPath}
-use Rattle.cc_ast.specs.declared.place.Place.{Place}
-use Rattle.cc_ast.specs.declared.tree.Ref.{Ref}
 use Rattle.cc_ast.specs.declared.tree.Ref.TheVariants as ref
 use Rattle.cc_ast.specs.StmtBridge.{stmts}
 use Rattle.cc_ast.specs.Syntax as S
 use Rattle.cc_meaning.specs.Operators.{is_in}
-use Rattle.cc_meaning.specs.Names.{builtin_globals, always_kept}
-use Rattle.cc_meaning.specs.State.{Path}
-use Rattle.cc_meaning.specs.Alike.{In, here, there}
+use Rattle.cc_meaning.specs.Names.{builtin_globals}
+use Rattle.cc_meaning.specs.Alike.{In}
 use Rattle.cc_meaning.specs.Shapes.{tables_of, body_of, body_in}
-use Rattle.cc_meaning.specs.Store.{global_kind, extern, of_chunk, without_chunk, class_of_function, class_from}
-use Rattle.cc_meaning.specs.Parts as Pa
-use Rattle.cc_meaning.specs.Parts.{Part, has_site, mentions, declares, stmts_parts}
+use Rattle.cc_meaning.specs.Store.{without_chunk, class_of_function, class_from}
+use Rattle.cc_meaning.specs.Parts.{has_site, stmts_parts}
 use Rattle.cc_meaning.specs.WellMade as W
 use Rattle.cc_meaning.specs.WellMade.{WellMade, IsScope, IsPart, a_site, a_mention, a_declaration, IsSound, sound_global, sound_outer, IsDeclared, IsPlaced, placed_global, Encloses, directly, further, IsOrdered, IsGlobal, IsMeant, IsCounted, Reached, parts_of, opened, is_chunk, all_functions, outer_names, path_count, method_count, refused_names, stmts_well}
 use Rattle.cc_driver.specs.Names.{built_in_names, IsName}
 use Rattle.cc_driver.specs.Form.{IsExterns, IsSource, declared}
-use Rattle.cc_driver.specs.Source.{number_of, statement_tree, program_of, global_names, global_of_no_chunk, global_of_main, main_scope, main_chunk, place_at, places_from}
+use Rattle.cc_driver.specs.Source.{number_of, statement_tree, program_of, global_names, global_of_no_chunk, global_of_main, main_scope, places_from}
 use Rattle.cc_driver.specs.declared.form.Statement.{Statement}
 use Rattle.cc_driver.proofs.SourceLaws.{functions_named, statements_named, globals_distinct}
 use Rattle.cc_driver.proofs.Resolved.{globals_few}
-use Rattle.cc_headline.proofs.Lists.{Distinct, distinct_places, all_at, in_left}
+use Rattle.cc_headline.proofs.Lists.{Distinct, distinct_places, all_at}
 use Rattle.cc_headline.proofs.Fit.{StatementsFit, reading_fits}
 use Rattle.cc_headline.proofs.SourceSites.{StatementsSites, statements_sites}
 use Rattle.cc_headline.proofs.SourceKinds.{without_is, outer_count, extern_at, extern_kind, own_kind}
 use Rattle.cc_headline.proofs.SourceParts.{Each, MakesNone, statements_each, declares_in, no_functions, statements_well}
-use Rattle.cc_headline.proofs.SourceTables.{in_from_test, test_none, same_built_ins, no_built_in, not_refused, taken_names, inner_chunk, outer_name, no_paths, Shape, of_outer, of_own, shape_of}
+use Rattle.cc_headline.proofs.SourceTables.{in_from_test, same_built_ins, no_built_in, not_refused, taken_names, inner_chunk, outer_name, no_paths, Shape, of_outer, of_own, shape_of}
 
 same_some : {X : Type 0} {x y : X} → Some x ≡ Some y → x ≡ y
 same_some e = cc

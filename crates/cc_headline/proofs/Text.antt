@@ -1,10 +1,8 @@
 -- The text that is written for a source is that of its statements under the new names.
-use Rattle.std.proofs.Common.{◌≡◌, ℕ, Bool, true, cond, List, [], ◌∷◌, ◌++◌, length, map, Option, None, Some, refl, sym, ap, ap₂, ◌∙◌, subst, codes, append_assoc, append-nil}
-use Rattle.std.specs.List.{list_all}
+use Rattle.std.proofs.Common.{◌≡◌, ℕ, cond, List, [], ◌∷◌, ◌++◌, map, Option, None, Some, refl, sym, ap, ap₂, ◌∙◌, subst, codes, append_assoc, append-nil}
 use Rattle.std.proofs.lemmas.List.Concat.{flat_map-append}
 use Rattle.cc_ast.specs.Bridge.{exprs}
 use Rattle.cc_ast.specs.StmtBridge.{stmts}
-use Rattle.cc_driver.specs.Form.{is_plain}
 use Rattle.cc_driver.specs.Source.{number_of, value_tree, statement_tree, program_of, global_names}
 use Rattle.cc_driver.specs.Spelling.{join, one, spell_value, spell_values, spell_statement, spell_statements, spell_chunk, piece_text, text_of}
 use Rattle.cc_driver.specs.declared.form.Value.{Value}

@@ -1,3 +1,5 @@
 pub mod Again
 pub mod NamingLaw
+pub mod ReadsBack
+pub mod Erasure
 pub mod Headline

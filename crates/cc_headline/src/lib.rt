@@ -1,3 +1,44 @@
-//! The laws that tie the text that `cc_driver` writes to the meaning of its source. The definitions
-//! stand in specs/, the laws in proofs/; there is no code.
+//! What is promised of a compilation that is done: the written text reads, with the same externs, as
+//! a program whose plain run agrees with the checked run of the source. The promise stands in
+//! specs/Headline.antt. The functions here state laws of definitions, and do nothing.
 #![tactic(auto)]
+
+ghost use Rattle.std.specs.Prelude.{◌≡◌, ℕ, List, Some, length};
+ghost use Rattle.cc_host.specs.Host.{View};
+ghost use Rattle.cc_meaning.specs.WellMade.{WellMade};
+ghost use Rattle.cc_driver.specs.Compile.{Compiles};
+ghost use Rattle.cc_driver.specs.Form.{IsExterns, IsSource};
+ghost use Rattle.cc_driver.specs.Naming.{IsNaming};
+ghost use Rattle.cc_driver.specs.Source.{program_of};
+ghost use Rattle.cc_driver.specs.Spelling.{spell_chunk, text_of};
+ghost use Rattle.cc_driver.specs.declared.form.Statement.{Statement};
+ghost use Rattle.cc_driver.specs.declared.outcome.Outcome.TheVariants.{Done};
+ghost use Rattle.cc_driver.specs.declared.spelling.Piece.{Piece};
+ghost use Rattle.cc_headline.specs.NamingLaw.{NamingLaw};
+ghost use Rattle.cc_headline.specs.ReadsBack.{ReadsBack};
+ghost use Rattle.cc_headline.specs.Erasure.{Erasure};
+ghost use Rattle.cc_headline.specs.Headline.{Headline};
+
+/// The names of a source's globals keep the law of namings.
+pub fn names_keep_the_law()
+    ensures { (externs : List (List ℕ)) (size : ℕ) (statements : List Statement) (pieces : List Piece) (names : List (List ℕ))
+        → IsNaming (program_of externs size statements) pieces names → NamingLaw (program_of externs size statements) pieces names }
+{}
+
+/// The text of a source of the form under its names reads back.
+pub fn text_reads_back()
+    ensures { (file : List ℕ) (externs : List (List ℕ)) (source : List ℕ) (statements : List Statement) (size : ℕ) (pieces : List Piece) (names : List (List ℕ))
+        → IsExterns file externs → IsSource externs source statements → spell_chunk (program_of externs size statements) 0 ≡ Some pieces
+        → IsNaming (program_of externs size statements) pieces names → ReadsBack externs size statements (text_of names pieces) }
+{}
+
+/// The program of a source of the form is well made.
+pub fn source_is_well_made()
+    ensures { (file : List ℕ) (externs : List (List ℕ)) (source : List ℕ) (statements : List Statement)
+        → IsExterns file externs → IsSource externs source statements → WellMade (program_of externs (length source) statements) }
+{}
+
+/// A compilation that is done keeps the promise.
+pub fn done_keeps_the_promise()
+    ensures { Erasure → (words : List (List ℕ)) (before after : View) → Compiles words before after Done → Headline words before after }
+{}
