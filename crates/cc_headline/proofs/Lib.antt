@@ -20,3 +20,4 @@ pub mod SourceWellMade
 pub mod PlainRuns
 pub mod Faithful
 pub mod Done
+pub mod TwinRuns
