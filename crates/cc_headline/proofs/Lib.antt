@@ -21,3 +21,4 @@ pub mod PlainRuns
 pub mod Faithful
 pub mod Done
 pub mod TwinRuns
+pub mod TwinOutside
