@@ -22,3 +22,4 @@ pub mod Faithful
 pub mod Done
 pub mod TwinRuns
 pub mod TwinOutside
+pub mod TwinVariables
