@@ -23,3 +23,4 @@ pub mod Done
 pub mod TwinRuns
 pub mod TwinOutside
 pub mod TwinVariables
+pub mod TwinForm
