@@ -24,3 +24,5 @@ pub mod TwinRuns
 pub mod TwinOutside
 pub mod TwinVariables
 pub mod TwinForm
+pub mod TwinChunks
+pub mod TwinTurns

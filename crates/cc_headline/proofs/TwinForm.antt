@@ -47,7 +47,7 @@ unfolding reach_var reach_global with_tables
 reaches_own J i g k T s e = ap (λ o. reach_global J i g k o (put T s)) e
 
 module _ (T T' : Tables) where
-  twin_with : {A : Type 0} (Q : A → Type 0) (m m' : Tables → M A) → Twin T T' Q (m T) (m' T') → Twin T T' Q (with_tables m) (with_tables m')
+  pub twin_with : {A : Type 0} (Q : A → Type 0) (m m' : Tables → M A) → Twin T T' Q (m T) (m' T') → Twin T T' Q (with_tables m) (with_tables m')
   unfolding with_tables
   twin_with Q m m' h s g = h s g
 

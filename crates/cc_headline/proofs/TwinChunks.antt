@@ -1,0 +1,56 @@
+-- The lists of statements, and then the load of a chunk and the other turns, side by side.
+use Rattle.std.proofs.Common.{◌≡◌, ℕ, zero, suc, ◌+◌, Bool, true, false, ◌&&◌, not, List, [], ◌∷◌, length, map, refl, sym, ap, ◌∙◌, subst, Option, Some, None, slice_get}
+use Rattle.cc_ast.specs.StmtBridge.{stmts}
+use Rattle.cc_ast.specs.Syntax as S
+use Rattle.cc_ast.specs.Syntax.{undefined}
+use Rattle.cc_meaning.specs.Values.{Val, prim, View, handle, ended, threw, Spot, at_turn}
+use Rattle.cc_meaning.specs.State.{Tables, Inner, Env, State}
+use Rattle.cc_meaning.specs.Monad.{told, Res, over, broken, M, ret, skip, say, ◌>>=◌, Way, went, thrown, attempt, with_tables}
+use Rattle.cc_meaning.specs.Store.{extern, of_chunk, global_kind}
+use Rattle.cc_meaning.specs.SlotRules.{rule_unless}
+use Rattle.cc_meaning.specs.Rules.{host_rule, names_well}
+use Rattle.cc_meaning.specs.Judge.{hosts, least_broken}
+use Rattle.cc_meaning.specs.Acts.{judged, changing, was_given, all_given, viewed, show}
+use Rattle.cc_meaning.specs.Shapes.{declared_by}
+use Rattle.cc_meaning.specs.Calls.{Bodies, tell_end}
+use Rattle.cc_meaning.specs.Meaning.{Comp, normal, next, hoist_one, hoist, ex, ex_chunk}
+use Rattle.cc_meaning.specs.Script as script
+use Rattle.cc_meaning.specs.Script.{Turn, load, call, get, set, checked, top, deps_of, dependency_failed, note_load, note_end, run_chunk, load_chunk, call_handle, get_handle, set_handle, turn, turns_from}
+use Rattle.cc_driver.specs.Source.{number_of, statement_tree}
+use Rattle.cc_driver.specs.declared.form.Statement.{Statement}
+use Rattle.cc_driver.specs.declared.form.Statement.TheVariants.{Declares, Calls}
+use Rattle.cc_headline.specs.Again.{statement_text, statement_again, statements_again}
+use Rattle.cc_headline.proofs.Fit.{StatementFit, StatementsFit}
+use Rattle.cc_headline.proofs.TwinRuns.{put, NoObject, Good, Any, Twins, Twin, WayOf, gave, twin_bind, twin_ret, twin_skip, twin_say, twin_show, twin_attempt, judged_breaks, judged_passes, twins_broken, twins_same}
+use Rattle.cc_headline.proofs.TwinOutside.{not_given, not_all_given}
+use Rattle.cc_headline.proofs.TwinVariables.{Unmarked}
+use Rattle.cc_headline.proofs.TwinForm.{Is, twin_with, twin_statement}
+
+module _ (T T' : Tables) (B B' : Bodies) (old new : List (List ℕ)) (f : List ℕ → List ℕ) (C Q : List ℕ → Type 0)
+    (outer : (x : List ℕ) → C x → global_kind T (number_of old x) ≡ extern) (own : (x : List ℕ) → Q x → global_kind T (number_of old x) ≡ of_chunk 0)
+    (kinds : (k : ℕ) → global_kind T' k ≡ global_kind T k)
+    (calls : (x : List ℕ) → C x → number_of new (f x) ≡ number_of old x) (uses : (x : List ℕ) → Q x → number_of new (f x) ≡ number_of old x)
+    (un : Unmarked T) (un' : Unmarked T') where
+  hoists_none : (g g' : Env) (at : ℕ) (s : Statement) → Twin T T' Any (hoist_one checked g (statement_tree old s)) (hoist_one script.plain g' (statement_tree new (statement_again f at s)))
+  unfolding hoist_one
+  hoists_none g g' at (Declares k n v) = twin_skip T T'
+  hoists_none g g' at (Calls k n vs) = twin_skip T T'
+
+  pub twin_hoist : (g g' : Env) (at : ℕ) (ss : List Statement) → Twin T T' Any (hoist checked g (stmts (map (statement_tree old) ss))) (hoist script.plain g' (stmts (map (statement_tree new) (statements_again f at ss))))
+  unfolding hoist stmts
+  twin_hoist g g' at [] = twin_skip T T'
+  twin_hoist g g' at (s ∷ ss) = twin_bind T T' Any Any _ _ _ _ (hoists_none g g' at s) (λ u q. twin_hoist g g' (at + length (statement_text f s)) ss)
+
+  pub twin_statements : (g g' : Env) (at : ℕ) (ss : List Statement) → StatementsFit C Q ss
+      → Twin T T' (Is normal) (ex_chunk checked B g (stmts (map (statement_tree old) ss))) (ex_chunk script.plain B' g' (stmts (map (statement_tree new) (statements_again f at ss))))
+  unfolding ex_chunk stmts next
+  twin_statements g g' at [] h = twin_ret T T' (Is normal) normal refl
+  twin_statements g g' at (s ∷ ss) h =
+      twin_bind T T' (Is normal) (Is normal) _ _ _ _
+      (twin_with T T' (Is normal) _ _ (twin_statement T T' B B' old new f C Q outer own kinds calls uses un un' _ _ at s h.0))
+      (λ c e. then c e (twin_statements g g' (at + length (statement_text f s)) ss h.1))
+    where
+      then : (c : Comp) → Is normal c
+          → Twin T T' (Is normal) (ex_chunk checked B g (stmts (map (statement_tree old) ss))) (ex_chunk script.plain B' g' (stmts (map (statement_tree new) (statements_again f (at + length (statement_text f s)) ss))))
+          → Twin T T' (Is normal) (next c (ex_chunk checked B g (stmts (map (statement_tree old) ss)))) (next c (ex_chunk script.plain B' g' (stmts (map (statement_tree new) (statements_again f (at + length (statement_text f s)) ss)))))
+      then c e rest = subst (λ d. Twin T T' (Is normal) (next d (ex_chunk checked B g (stmts (map (statement_tree old) ss)))) (next d (ex_chunk script.plain B' g' (stmts (map (statement_tree new) (statements_again f (at + length (statement_text f s)) ss)))))) (sym e) rest
