@@ -45,7 +45,7 @@ module _ (file : List ℕ) (externs : List (List ℕ)) (source : List ℕ) (ss :
       ∙ ap (λ t. t ++ map f (declared ss)) (sym (all_stay f (externs ++ built_in_names) (λ x h. outer_stays externs size ss pieces names (names_distinct file externs source ss ex so size pieces names n) n x h)))
       ∙ sym (map-append f (externs ++ built_in_names) (declared ss))
 
-  same_number : (x : List ℕ) → In x (global_names externs ss) → number_of (global_names externs (statements_again f 0 ss)) (f x) ≡ number_of (global_names externs ss) x
+  pub same_number : (x : List ℕ) → In x (global_names externs ss) → number_of (global_names externs (statements_again f 0 ss)) (f x) ≡ number_of (global_names externs ss) x
   same_number x h =
       ap (λ t. number_of t (f x)) new_names
       ∙ number_again f (global_names externs ss) x (λ y k e. names_apart externs size ss pieces names (names_distinct file externs source ss ex so size pieces names n) n x y h k e)

@@ -26,3 +26,5 @@ pub mod TwinVariables
 pub mod TwinForm
 pub mod TwinChunks
 pub mod TwinTurns
+pub mod TwinEnds
+pub mod TwinPrograms
