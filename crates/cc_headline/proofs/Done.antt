@@ -5,7 +5,6 @@ use Rattle.cc_driver.specs.declared.outcome.Outcome.{Outcome}
 use Rattle.cc_driver.specs.declared.outcome.Outcome.TheVariants.{Done}
 use Rattle.cc_driver.specs.Compile.{IsJob, WasRead, IsCompiled, no_externs, no_source, no_memory, JobCause, compiled, externs_unread, source_unread, refused, unwritten, out_of_memory, Cause, bad_words, of_job, no_memory_for_message, ChangesOnly, Compiles, Accepted}
 use Rattle.cc_headline.specs.Headline.{Headline}
-use Rattle.cc_headline.specs.Erasure.{Erasure}
 use Rattle.cc_headline.proofs.Faithful.{compiled_faithful}
 
 IfShown-map : (a b : Option Contents) (R T : Contents → Contents → Type 0) → ((x y : Contents) → R x y → T x y) → IfShown a b R → IfShown a b T
@@ -42,10 +41,10 @@ done_job e s output a b _ (refused p q no_memory) d = absurd (cc)
 done_job e s output a b _ (unwritten p q made rose) d = absurd (cc)
 done_job e s output a b _ out_of_memory d = absurd (cc)
 
-headline_from : Erasure → (words : List (List ℕ)) (a b : View) (o : Outcome) → Cause words a b o → o ≡ Done
+headline_from : (words : List (List ℕ)) (a b : View) (o : Outcome) → Cause words a b o → o ≡ Done
     → IfShown a.shown b.shown (λ old new. (externs source output : List ℕ) → IsJob words externs source output → ChangesOnly a b output Done old new) → Headline words a b
-headline_from law words a b _ (bad_words h) d files = absurd (cc)
-headline_from law words a b o (of_job {externs = e} {source = s} {output = out} job cause) d files =
+headline_from words a b _ (bad_words h) d files = absurd (cc)
+headline_from words a b o (of_job {externs = e} {source = s} {output = out} job cause) d files =
     let done = done_job e s out a b o cause d in
     record {
       externs_file = e;
@@ -60,13 +59,13 @@ headline_from law words a b o (of_job {externs = e} {source = s} {output = out} 
       compiled = done.made;
       written = done.written;
       others = IfShown-map a.shown b.shown (λ old new. (externs source output : List ℕ) → IsJob words externs source output → ChangesOnly a b output Done old new) (KeepsOtherFiles out) (λ x y h. h e s out job) files;
-      faithful = compiled_faithful law done.externs_text done.source_text done.text done.made;
+      faithful = compiled_faithful done.externs_text done.source_text done.text done.made;
     }
-headline_from law words a b _ no_memory_for_message d files = absurd (cc)
+headline_from words a b _ no_memory_for_message d files = absurd (cc)
 
 -- the promise, for every words and host
-pub headline : Erasure → (words : List (List ℕ)) (before after : View) → Compiles words before after Done → Headline words before after
-headline law words a b c = headline_from law words a b Done c.cause refl c.files
+pub headline : (words : List (List ℕ)) (before after : View) → Compiles words before after Done → Headline words before after
+headline words a b c = headline_from words a b Done c.cause refl c.files
 
 -- and the job is one that is accepted, where the host shows its files
 held : (before : View) (file text : List ℕ) (contents : Contents) → before.shown ≡ Some contents → WasRead before file text → file_of contents file ≡ Some text

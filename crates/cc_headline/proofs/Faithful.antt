@@ -1,5 +1,4 @@
--- What is compiled agrees with its source, by the law of the meaning that what is alike to a well
--- made program agrees with it.
+-- What is compiled agrees with its source.
 use Rattle.std.proofs.Common.{◌≡◌, ℕ, List, length, sym, subst, Some}
 use Rattle.cc_meaning.specs.Alike.{In}
 use Rattle.cc_driver.specs.Form.{IsExterns, IsSource, IsReading}
@@ -13,14 +12,13 @@ use Rattle.cc_driver.proofs.FormLaws.{one_reading}
 use Rattle.cc_headline.specs.Again.{statements_again}
 use Rattle.cc_headline.specs.NamingLaw.{NamingLaw}
 use Rattle.cc_headline.specs.ReadsBack.{ReadsBack}
-use Rattle.cc_headline.specs.Erasure.{Erasure}
 use Rattle.cc_headline.specs.Headline.{IsFaithful}
 use Rattle.cc_headline.proofs.Lists.{in_right}
 use Rattle.cc_headline.proofs.Naming.{naming_law}
 use Rattle.cc_headline.proofs.SourceNames.{others_are}
 use Rattle.cc_headline.proofs.ReadAgain.{renaming, written_reads}
 use Rattle.cc_headline.proofs.AlikePrograms.{alike_again}
-use Rattle.cc_headline.proofs.SourceWellMade.{source_well}
+use Rattle.cc_headline.proofs.TwinPrograms.{again_agrees}
 
 -- two readings of one text are equal
 pub reading_once : (externs : List (List ℕ)) (text : List ℕ) (ss ts : List Statement) → IsReading externs text ss → IsReading externs text ts → ss ≡ ts
@@ -41,26 +39,18 @@ reads_back file externs source ss size pieces names ex so spelled named =
 pub source_names : (externs : List (List ℕ)) (size : ℕ) (ss : List Statement) (pieces : List Piece) (names : List (List ℕ)) → IsNaming (program_of externs size ss) pieces names → NamingLaw (program_of externs size ss) pieces names
 source_names externs size ss pieces names n = naming_law (program_of externs size ss) pieces names n (λ b h. subst (λ t. In b t) (sym (others_are externs size ss)) (in_right externs h))
 
--- a text that reads back means what its source means
-text_faithful : Erasure → (file : List ℕ) (externs : List (List ℕ)) (source : List ℕ) (ss : List Statement) (text : List ℕ) → IsExterns file externs → IsSource externs source ss
-    → ReadsBack externs (length source) ss text → IsFaithful externs source ss text
-text_faithful law file externs source ss text ex so back =
-    let S = program_of externs (length source) ss in
-    let E = program_of externs (length text) back.statements_read in
-    let well = source_well file externs source ss ex so in
-    let same = back.alike (length text) in
+pub output_faithful : (file : List ℕ) (externs : List (List ℕ)) (source : List ℕ) (ss : List Statement) (text : List ℕ) → IsExterns file externs → IsSource externs source ss
+    → IsOutput externs (length source) ss text → IsFaithful externs source ss text
+output_faithful file externs source ss text ex so out =
+    let f = renaming file externs source ss ex so (length source) out.pieces out.names out.named in
+    let reading : IsReading externs text (statements_again f 0 ss) =
+    subst (λ t. IsReading externs t (statements_again f 0 ss)) (sym out.text) (written_reads file externs source ss ex so (length source) out.pieces out.names out.named out.spelled) in
     record {
-      statements_read = back.statements_read;
-      reading = back.reading;
-      only = back.only;
-      agrees = law.agrees S E well same;
+      statements_read = statements_again f 0 ss;
+      reading = reading;
+      only = λ others h. reading_once externs text others (statements_again f 0 ss) h reading;
+      agrees = again_agrees file externs source ss ex so (length source) out.pieces out.names out.named (length text);
     }
 
-pub output_faithful : Erasure → (file : List ℕ) (externs : List (List ℕ)) (source : List ℕ) (ss : List Statement) (text : List ℕ) → IsExterns file externs → IsSource externs source ss
-    → IsOutput externs (length source) ss text → IsFaithful externs source ss text
-output_faithful law file externs source ss text ex so out =
-    text_faithful law file externs source ss text ex so
-    (subst (ReadsBack externs (length source) ss) (sym out.text) (reads_back file externs source ss (length source) out.pieces out.names ex so out.spelled out.named))
-
-pub compiled_faithful : Erasure → (externs source text : List ℕ) (c : IsCompiled externs source text) → IsFaithful c.names source c.statements text
-compiled_faithful law externs source text c = output_faithful law externs c.names source c.statements text c.of_externs c.of_source c.output
+pub compiled_faithful : (externs source text : List ℕ) (c : IsCompiled externs source text) → IsFaithful c.names source c.statements text
+compiled_faithful externs source text c = output_faithful externs c.names source c.statements text c.of_externs c.of_source c.output

@@ -28,3 +28,4 @@ pub mod TwinChunks
 pub mod TwinTurns
 pub mod TwinEnds
 pub mod TwinPrograms
+pub mod ByErasure

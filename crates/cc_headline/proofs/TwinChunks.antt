@@ -1,28 +1,18 @@
 -- The lists of statements, and then the load of a chunk and the other turns, side by side.
-use Rattle.std.proofs.Common.{◌≡◌, ℕ, zero, suc, ◌+◌, Bool, true, false, ◌&&◌, not, List, [], ◌∷◌, length, map, refl, sym, ap, ◌∙◌, subst, Option, Some, None, slice_get}
+use Rattle.std.proofs.Common.{◌≡◌, ℕ, ◌+◌, List, [], ◌∷◌, length, map, refl, sym, subst}
 use Rattle.cc_ast.specs.StmtBridge.{stmts}
-use Rattle.cc_ast.specs.Syntax as S
-use Rattle.cc_ast.specs.Syntax.{undefined}
-use Rattle.cc_meaning.specs.Values.{Val, prim, View, handle, ended, threw, Spot, at_turn}
-use Rattle.cc_meaning.specs.State.{Tables, Inner, Env, State}
-use Rattle.cc_meaning.specs.Monad.{told, Res, over, broken, M, ret, skip, say, ◌>>=◌, Way, went, thrown, attempt, with_tables}
+use Rattle.cc_meaning.specs.State.{Tables, Env}
 use Rattle.cc_meaning.specs.Store.{extern, of_chunk, global_kind}
-use Rattle.cc_meaning.specs.SlotRules.{rule_unless}
-use Rattle.cc_meaning.specs.Rules.{host_rule, names_well}
-use Rattle.cc_meaning.specs.Judge.{hosts, least_broken}
-use Rattle.cc_meaning.specs.Acts.{judged, changing, was_given, all_given, viewed, show}
-use Rattle.cc_meaning.specs.Shapes.{declared_by}
-use Rattle.cc_meaning.specs.Calls.{Bodies, tell_end}
-use Rattle.cc_meaning.specs.Meaning.{Comp, normal, next, hoist_one, hoist, ex, ex_chunk}
+use Rattle.cc_meaning.specs.Calls.{Bodies}
+use Rattle.cc_meaning.specs.Meaning.{Comp, normal, next, hoist_one, hoist, ex_chunk}
 use Rattle.cc_meaning.specs.Script as script
 use Rattle.cc_meaning.specs.Script.{Turn, load, call, get, set, checked, top, deps_of, dependency_failed, note_load, note_end, run_chunk, load_chunk, call_handle, get_handle, set_handle, turn, turns_from}
 use Rattle.cc_driver.specs.Source.{number_of, statement_tree}
 use Rattle.cc_driver.specs.declared.form.Statement.{Statement}
 use Rattle.cc_driver.specs.declared.form.Statement.TheVariants.{Declares, Calls}
 use Rattle.cc_headline.specs.Again.{statement_text, statement_again, statements_again}
-use Rattle.cc_headline.proofs.Fit.{StatementFit, StatementsFit}
-use Rattle.cc_headline.proofs.TwinRuns.{put, NoObject, Good, Any, Twins, Twin, WayOf, gave, twin_bind, twin_ret, twin_skip, twin_say, twin_show, twin_attempt, judged_breaks, judged_passes, twins_broken, twins_same}
-use Rattle.cc_headline.proofs.TwinOutside.{not_given, not_all_given}
+use Rattle.cc_headline.proofs.Fit.{StatementsFit}
+use Rattle.cc_headline.proofs.TwinRuns.{Any, Twin, twin_bind, twin_ret, twin_skip}
 use Rattle.cc_headline.proofs.TwinVariables.{Unmarked}
 use Rattle.cc_headline.proofs.TwinForm.{Is, twin_with, twin_statement}
 

@@ -1,10 +1,10 @@
 -- What follows from two whole runs side by side: the left one breaks a rule, or they are equal.
-use Rattle.std.proofs.Common.{◌≡◌, ℕ, List, [], ◌++◌, refl, sym, ap, ◌∙◌, subst, ◌⊎◌, inl, inr, append-nil}
+use Rattle.std.proofs.Common.{◌≡◌, ℕ, List, [], refl, sym, ap, ◌∙◌, ◌⊎◌, inl, inr, append-nil}
 use Rattle.cc_ast.specs.Syntax.{Program}
 use Rattle.cc_meaning.specs.Values.{Event}
 use Rattle.cc_meaning.specs.State.{Tables}
-use Rattle.cc_meaning.specs.Monad.{Res, seen}
-use Rattle.cc_meaning.specs.Script.{Script, IsFollowing, Finish, finish, graph_of, raw, run, checked, plain}
+use Rattle.cc_meaning.specs.Monad.{Res}
+use Rattle.cc_meaning.specs.Script.{Script, Finish, finish, graph_of, raw, run, checked, plain}
 use Rattle.cc_meaning.specs.Same.{Agrees, IsBroken, is_broken, IsStrayed, IsFollowedBy}
 use Rattle.cc_headline.proofs.TwinRuns.{Any, Twins, broke, gave, raised, used_up, waited}
 

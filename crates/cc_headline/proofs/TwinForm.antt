@@ -1,17 +1,16 @@
 -- The statements of a source and those that are read again, side by side.
-use Rattle.std.proofs.Common.{◌≡◌, ℕ, ◌+◌, List, [], ◌∷◌, length, map, refl, sym, ap, ◌∙◌, subst, Option, Some, None}
+use Rattle.std.proofs.Common.{◌≡◌, ℕ, ◌+◌, List, [], ◌∷◌, length, map, refl, sym, ap, ◌∙◌, subst, Option, None}
 use Rattle.cc_ast.specs.declared.tree.Ref.TheVariants as ref
 use Rattle.cc_ast.specs.Bridge.{exprs}
-use Rattle.cc_ast.specs.StmtBridge.{stmts}
 use Rattle.cc_ast.specs.Syntax.{text}
-use Rattle.cc_meaning.specs.Values.{Val, prim, out, Spot, at_site}
+use Rattle.cc_meaning.specs.Values.{prim, out, at_site}
 use Rattle.cc_meaning.specs.State.{Tables, Path, Env, State}
-use Rattle.cc_meaning.specs.Monad.{Res, ok, M, ret, skip, ◌>>=◌, after, said, with_tables, Mode}
+use Rattle.cc_meaning.specs.Monad.{ok, M, ret, ◌>>=◌, after, said, with_tables, Mode}
 use Rattle.cc_meaning.specs.Store.{extern, of_chunk, global_kind}
 use Rattle.cc_meaning.specs.Acts.{read_global, read_var, write_var}
-use Rattle.cc_meaning.specs.Shapes.{declared_by, path_of_ref}
+use Rattle.cc_meaning.specs.Shapes.{path_of_ref}
 use Rattle.cc_meaning.specs.Calls.{Bodies, Reach, plain, access, built_global, built_member, Callee, called_value, value_of, value, callee_of, apply, call_value}
-use Rattle.cc_meaning.specs.Meaning.{Comp, normal, next, reach_global, reach_var, ev, evs, value_at, set_variable, declare, hoist_one, hoist, ex, ex_chunk}
+use Rattle.cc_meaning.specs.Meaning.{normal, reach_global, reach_var, ev, evs, value_at, set_variable, declare, ex}
 use Rattle.cc_meaning.specs.Script as script
 use Rattle.cc_meaning.specs.Script.{checked}
 use Rattle.cc_driver.specs.Source.{number_of, value_tree, statement_tree}
@@ -19,9 +18,9 @@ use Rattle.cc_driver.specs.declared.form.Value.{Value}
 use Rattle.cc_driver.specs.declared.form.Value.TheVariants.{Named, Text}
 use Rattle.cc_driver.specs.declared.form.Statement.{Statement}
 use Rattle.cc_driver.specs.declared.form.Statement.TheVariants.{Declares, Calls}
-use Rattle.cc_headline.specs.Again.{value_text, statement_text, value_again, values_again, statement_again, statements_again}
-use Rattle.cc_headline.proofs.Fit.{ValueFit, ValuesFit, StatementFit, StatementsFit}
-use Rattle.cc_headline.proofs.TwinRuns.{put, NoObject, NoObjects, Good, Any, Twins, Twin, gave, twin_bind, twin_ret, twin_skip, twins_same}
+use Rattle.cc_headline.specs.Again.{value_text, value_again, values_again, statement_again}
+use Rattle.cc_headline.proofs.Fit.{ValueFit, ValuesFit, StatementFit}
+use Rattle.cc_headline.proofs.TwinRuns.{put, NoObject, NoObjects, Any, Twin, gave, twin_bind, twin_ret, twin_skip, twins_same}
 use Rattle.cc_headline.proofs.TwinOutside.{twin_call}
 use Rattle.cc_headline.proofs.TwinVariables.{Unmarked, twin_read, twin_write}
 
@@ -97,32 +96,32 @@ module _ (T T' : Tables) (B B' : Bodies) (old new : List (List ℕ)) (f : List �
   twin_trees g g' at (v ∷ vs) h =
       twin_bind T T' NoObject NoObjects (value checked B (ev checked B g None (value_tree old v))) (value script.plain B' (ev script.plain B' g' None (value_tree new (value_again f at v)))) _ _ (twin_tree g g' None None at v h.0)
       (λ x n. twin_bind T T' NoObjects NoObjects (evs checked B g (exprs (map (value_tree old) vs))) (evs script.plain B' g' (exprs (map (value_tree new) (values_again f (at + length (value_text f v) + 1) vs)))) _ _
-        (twin_trees g g' (at + length (value_text f v) + 1) vs h.1) (λ xs ns. twin_ret T T' NoObjects (x ∷ xs) (n, ns)))
+      (twin_trees g g' (at + length (value_text f v) + 1) vs h.1) (λ xs ns. twin_ret T T' NoObjects (x ∷ xs) (n, ns)))
 
   -- a call of an extern with these values
   twin_applied : (i j : ℕ) (g g' : Env) (k at : ℕ) (vs : List Value) → ValuesFit C Q vs
       → Twin T T' IsPlain (evs checked B g (exprs (map (value_tree old) vs)) >>= λ xs. apply checked B (at_site i) (called_value (out k) None) xs >>= λ v. ret (plain v))
-        (evs script.plain B' g' (exprs (map (value_tree new) (values_again f at vs))) >>= λ xs. apply script.plain B' (at_site j) (called_value (out k) None) xs >>= λ v. ret (plain v))
+      (evs script.plain B' g' (exprs (map (value_tree new) (values_again f at vs))) >>= λ xs. apply script.plain B' (at_site j) (called_value (out k) None) xs >>= λ v. ret (plain v))
   unfolding apply
   twin_applied i j g g' k at vs h =
       twin_bind T T' NoObjects IsPlain (evs checked B g (exprs (map (value_tree old) vs))) (evs script.plain B' g' (exprs (map (value_tree new) (values_again f at vs)))) _ _ (twin_trees g g' at vs h)
       (λ xs ns. twin_bind T T' NoObject IsPlain (call_value checked B (at_site i) (out k) None xs) (call_value script.plain B' (at_site j) (out k) None xs) (λ v. ret (plain v)) (λ v. ret (plain v))
-        (twin_call T T' B B' (at_site i) (at_site j) k xs ns) (λ v n. twin_ret T T' IsPlain (plain v) n))
+      (twin_call T T' B B' (at_site i) (at_site j) k xs ns) (λ v n. twin_ret T T' IsPlain (plain v) n))
 
   twin_callee : (i j : ℕ) (g g' : Env) (k at : ℕ) (vs : List Value) → ValuesFit C Q vs → (c : Callee) → Is (called_value (out k) None) c
       → Twin T T' IsPlain (evs checked B g (exprs (map (value_tree old) vs)) >>= λ xs. apply checked B (at_site i) c xs >>= λ v. ret (plain v))
-        (evs script.plain B' g' (exprs (map (value_tree new) (values_again f at vs))) >>= λ xs. apply script.plain B' (at_site j) c xs >>= λ v. ret (plain v))
+      (evs script.plain B' g' (exprs (map (value_tree new) (values_again f at vs))) >>= λ xs. apply script.plain B' (at_site j) c xs >>= λ v. ret (plain v))
   twin_callee i j g g' k at vs h c e =
       subst (λ d. Twin T T' IsPlain (evs checked B g (exprs (map (value_tree old) vs)) >>= λ xs. apply checked B (at_site i) d xs >>= λ v. ret (plain v))
-        (evs script.plain B' g' (exprs (map (value_tree new) (values_again f at vs))) >>= λ xs. apply script.plain B' (at_site j) d xs >>= λ v. ret (plain v))) (sym e) (twin_applied i j g g' k at vs h)
+      (evs script.plain B' g' (exprs (map (value_tree new) (values_again f at vs))) >>= λ xs. apply script.plain B' (at_site j) d xs >>= λ v. ret (plain v))) (sym e) (twin_applied i j g g' k at vs h)
 
   twin_reached : (i j : ℕ) (g g' : Env) (k at : ℕ) (vs : List Value) → ValuesFit C Q vs → (r : Reach) → Is (plain (out k)) r
       → Twin T T' IsPlain (callee_of checked B r >>= λ c. evs checked B g (exprs (map (value_tree old) vs)) >>= λ xs. apply checked B (at_site i) c xs >>= λ v. ret (plain v))
-        (callee_of script.plain B' r >>= λ c. evs script.plain B' g' (exprs (map (value_tree new) (values_again f at vs))) >>= λ xs. apply script.plain B' (at_site j) c xs >>= λ v. ret (plain v))
+      (callee_of script.plain B' r >>= λ c. evs script.plain B' g' (exprs (map (value_tree new) (values_again f at vs))) >>= λ xs. apply script.plain B' (at_site j) c xs >>= λ v. ret (plain v))
   unfolding callee_of
   twin_reached i j g g' k at vs h r e =
       subst (λ d. Twin T T' IsPlain (callee_of checked B d >>= λ c. evs checked B g (exprs (map (value_tree old) vs)) >>= λ xs. apply checked B (at_site i) c xs >>= λ v. ret (plain v))
-        (callee_of script.plain B' d >>= λ c. evs script.plain B' g' (exprs (map (value_tree new) (values_again f at vs))) >>= λ xs. apply script.plain B' (at_site j) c xs >>= λ v. ret (plain v))) (sym e)
+      (callee_of script.plain B' d >>= λ c. evs script.plain B' g' (exprs (map (value_tree new) (values_again f at vs))) >>= λ xs. apply script.plain B' (at_site j) c xs >>= λ v. ret (plain v))) (sym e)
       (twin_bind T T' (Is (called_value (out k) None)) IsPlain (ret (called_value (out k) None)) (ret (called_value (out k) None)) _ _ (twin_ret T T' (Is (called_value (out k) None)) (called_value (out k) None) refl) (twin_callee i j g g' k at vs h))
 
   twin_extern : (i j : ℕ) (g g' : Env) (x : List ℕ) → C x → Twin T T' (Is (plain (out (number_of old x)))) (reach_var checked i g (ref.Global (number_of old x))) (reach_var script.plain j g' (ref.Global (number_of new (f x))))
@@ -136,15 +135,15 @@ module _ (T T' : Tables) (B B' : Bodies) (old new : List (List ℕ)) (f : List �
   twin_statement g g' at (Declares s n v) h =
       twin_bind T T' Any (Is normal) _ _ _ _
       (twin_bind T T' Any Any _ _ _ _
-        (twin_bind T T' NoObject Any (value checked B (ev checked B g (path_of_ref (ref.Global (number_of old n))) (value_tree old v)))
-          (value script.plain B' (ev script.plain B' g' (path_of_ref (ref.Global (number_of new (f n)))) (value_tree new (value_again f (at + 5 + length (f n)) v)))) _ _ (twin_tree g g' _ _ (at + 5 + length (f n)) v h.1)
-          (λ x no. subst (λ k. Twin T T' Any (write_var checked (at_site (s + 4)) g (ref.Global (number_of old n)) x) (write_var script.plain (at_site (at + 4)) g' (ref.Global k) x)) (sym (uses n h.0))
-            (twin_write T T' (at_site (s + 4)) (at_site (at + 4)) g g' (number_of old n) (own n h.0) (kinds (number_of old n) ∙ own n h.0) un un' x no)))
-        (λ u q. twin_skip T T'))
+      (twin_bind T T' NoObject Any (value checked B (ev checked B g (path_of_ref (ref.Global (number_of old n))) (value_tree old v)))
+      (value script.plain B' (ev script.plain B' g' (path_of_ref (ref.Global (number_of new (f n)))) (value_tree new (value_again f (at + 5 + length (f n)) v)))) _ _ (twin_tree g g' _ _ (at + 5 + length (f n)) v h.1)
+      (λ x no. subst (λ k. Twin T T' Any (write_var checked (at_site (s + 4)) g (ref.Global (number_of old n)) x) (write_var script.plain (at_site (at + 4)) g' (ref.Global k) x)) (sym (uses n h.0))
+      (twin_write T T' (at_site (s + 4)) (at_site (at + 4)) g g' (number_of old n) (own n h.0) (kinds (number_of old n) ∙ own n h.0) un un' x no)))
+      (λ u q. twin_skip T T'))
       (λ u q. twin_ret T T' (Is normal) normal refl)
   twin_statement g g' at (Calls s n vs) h =
       twin_bind T T' NoObject (Is normal) _ _ _ _
       (twin_value T T' B B' _ _
-        (twin_bind T T' (Is (plain (out (number_of old n)))) IsPlain (reach_var checked s g (ref.Global (number_of old n))) (reach_var script.plain at g' (ref.Global (number_of new (f n)))) _ _ (twin_extern s at g g' n h.0)
-          (twin_reached (s + length n) (at + length (f n)) g g' (number_of old n) (at + length (f n) + 1) vs h.1)))
+      (twin_bind T T' (Is (plain (out (number_of old n)))) IsPlain (reach_var checked s g (ref.Global (number_of old n))) (reach_var script.plain at g' (ref.Global (number_of new (f n)))) _ _ (twin_extern s at g g' n h.0)
+      (twin_reached (s + length n) (at + length (f n)) g g' (number_of old n) (at + length (f n) + 1) vs h.1)))
       (λ v q. twin_ret T T' (Is normal) normal refl)

@@ -1,18 +1,17 @@
 -- Calls of the outside, side by side: no handle was given out, so an inner call or an answer by a
 -- handle breaks a rule.
-use Rattle.std.proofs.Common.{◌≡◌, ℕ, zero, suc, Bool, true, false, ◌&&◌, List, [], ◌∷◌, length, refl, sym, ap, ◌∙◌, subst, Option, Some, None, nat_lt, le-ltb, arith}
-use Rattle.std.proofs.lemmas.Bool.{cases_Bool}
+use Rattle.std.proofs.Common.{◌≡◌, ℕ, false, ◌&&◌, List, [], ◌∷◌, length, ap, ◌∙◌, None, nat_lt, le-ltb, arith}
 use Rattle.cc_ast.specs.Syntax.{Prim, undefined}
-use Rattle.cc_meaning.specs.Values.{Val, prim, obj, out, View, shown_prim, shown_out, handle, called, Spot}
+use Rattle.cc_meaning.specs.Values.{Val, prim, out, View, shown_prim, shown_out, handle, called, Spot}
 use Rattle.cc_meaning.specs.State.{Tables, State, Inner, Reply, Answer, gives, throws}
-use Rattle.cc_meaning.specs.Monad.{told, broken, Res, over, M, ret, skip, raise, stop, say, ◌>>=◌, waits, pay}
+use Rattle.cc_meaning.specs.Monad.{told, ret, raise, stop, say, ◌>>=◌, pay}
 use Rattle.cc_meaning.specs.SlotRules.{rule_unless}
-use Rattle.cc_meaning.specs.Judge.{Act, least_broken, calls_inner, answers_with, calls}
+use Rattle.cc_meaning.specs.Judge.{least_broken, calls_inner, answers_with}
 use Rattle.cc_meaning.specs.Rules.{callee_rule}
 use Rattle.cc_meaning.specs.Acts.{allowed, judged, show_all, show_receiver, next_reply, next_reply_of, was_given, all_given, viewed}
 use Rattle.cc_meaning.specs.Calls.{Bodies, inner, inner_call, inners, answered, ask, call_out, call_value, views}
 use Rattle.cc_meaning.specs.Script.{checked, plain}
-use Rattle.cc_headline.proofs.TwinRuns.{put, NoObject, NoObjects, Good, Any, Twins, Twin, waited, gave, twin_bind, twin_ret, twin_skip, twin_raise, twin_say, twin_pay, judged_breaks, judged_passes, twins_broken, twins_same, twin_show_all}
+use Rattle.cc_headline.proofs.TwinRuns.{put, NoObject, NoObjects, Good, Any, Twins, Twin, waited, gave, twin_bind, twin_ret, twin_skip, twin_raise, twin_say, twin_pay, judged_breaks, twins_broken, twin_show_all}
 
 below_none : (h : ℕ) → nat_lt h 0 ≡ false
 below_none h = le-ltb h 0 (omega arith)
@@ -32,7 +31,7 @@ module _ (T T' : Tables) (B B' : Bodies) (i j : Spot) where
       let none : all_given (put T s) (handle c.callee ∷ c.this ∷ c.args) ≡ false = not_all_given (put T s) (record { handles = g.handles; globals = g.globals }) c.callee (c.this ∷ c.args) in
       twins_broken T T' Any (inner checked B i c (put T s)) (inner plain B' j c (put T' s)) 13 i
       (judged_breaks T T' i (calls_inner (all_given (put T s) (handle c.callee ∷ c.this ∷ c.args))) 13
-        (inner_call checked B i (viewed (put T s) (handle c.callee)) (viewed (put T s) c.this) (views (put T s) c.args)) (put T s) (ap (λ b. rule_unless b 13) none))
+      (inner_call checked B i (viewed (put T s) (handle c.callee)) (viewed (put T s) c.this) (views (put T s) c.args)) (put T s) (ap (λ b. rule_unless b 13) none))
 
   twin_inners : (cs : List Inner) → Twin T T' Any (inners checked B i cs) (inners plain B' j cs)
   unfolding inners
@@ -47,13 +46,13 @@ module _ (T T' : Tables) (B B' : Bodies) (i j : Spot) where
   twin_answered (gives (handle h)) = λ s g.
       twins_broken T T' NoObject (answered checked i (gives (handle h)) (put T s)) (answered plain j (gives (handle h)) (put T' s)) 13 i
       (judged_breaks T T' i (answers_with (was_given (put T s) (handle h))) 13 (ret (viewed (put T s) (handle h))) (put T s)
-        (ap (λ b. rule_unless b 13) (not_given (put T s) (record { handles = g.handles; globals = g.globals }) h)))
+      (ap (λ b. rule_unless b 13) (not_given (put T s) (record { handles = g.handles; globals = g.globals }) h)))
   twin_answered (throws (shown_prim p)) = twin_raise T T' NoObject (prim p) tt
   twin_answered (throws (shown_out n)) = twin_raise T T' NoObject (out n) tt
   twin_answered (throws (handle h)) = λ s g.
       twins_broken T T' NoObject (answered checked i (throws (handle h)) (put T s)) (answered plain j (throws (handle h)) (put T' s)) 13 i
       (judged_breaks T T' i (answers_with (was_given (put T s) (handle h))) 13 (raise (viewed (put T s) (handle h))) (put T s)
-        (ap (λ b. rule_unless b 13) (not_given (put T s) (record { handles = g.handles; globals = g.globals }) h)))
+      (ap (λ b. rule_unless b 13) (not_given (put T s) (record { handles = g.handles; globals = g.globals }) h)))
 
   reply_twins : (rs : List Reply) (s : State) → Good s → Twins T T' Any (next_reply_of rs (put T s)) (next_reply_of rs (put T' s))
   unfolding next_reply_of stop ret

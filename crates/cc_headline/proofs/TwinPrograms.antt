@@ -1,17 +1,16 @@
 -- A source and the program that its written text reads as, side by side: the second agrees with the first.
 use Rattle.std.specs.List.{list_any}
-use Rattle.std.proofs.Common.{◌≡◌, ℕ, zero, suc, nat_eq, Bool, true, false, not, ◌&&◌, ◌||◌, List, [], ◌∷◌, ◌++◌, length, map, refl, sym, ap, ◌∙◌, subst, Option, Some, None, slice_get}
+use Rattle.std.proofs.Common.{◌≡◌, ℕ, zero, suc, nat_eq, false, List, [], ◌∷◌, ◌++◌, map, refl, sym, ap, ◌∙◌, subst, Option, Some, None, slice_get}
 use Rattle.cc_ast.specs.declared.tables.GlobalInfo.{GlobalInfo}
-use Rattle.cc_ast.specs.declared.tables.SiteDoc.{SiteDoc}
 use Rattle.cc_ast.specs.Syntax as S
 use Rattle.cc_meaning.specs.Values.{Val}
 use Rattle.cc_meaning.specs.State.{Tables, Reply, State}
-use Rattle.cc_meaning.specs.Monad.{M, Res, Mode}
+use Rattle.cc_meaning.specs.Monad.{M, Res}
 use Rattle.cc_meaning.specs.Store.{global_kind, extern, of_chunk}
-use Rattle.cc_meaning.specs.Typed.{global, variable_type, is_settled, variable_doc, doc_at, value_in, settled_in, is_param}
+use Rattle.cc_meaning.specs.Typed.{variable_type, is_settled, variable_doc, doc_at, value_in, settled_in, is_param}
 use Rattle.cc_meaning.specs.Shapes.{tables_of, plain_tables, without_paths, body_of, body_in}
 use Rattle.cc_meaning.specs.Calls.{Bodies}
-use Rattle.cc_meaning.specs.Meaning.{Comp, normal, hoist, ex_chunk, bodies}
+use Rattle.cc_meaning.specs.Meaning.{normal, hoist, ex_chunk, bodies}
 use Rattle.cc_meaning.specs.Script as script
 use Rattle.cc_meaning.specs.Script.{Script, checked, top, graph_of, deps_of, dependency_failed, start, raw}
 use Rattle.cc_meaning.specs.Same.{Agrees}
@@ -30,7 +29,7 @@ use Rattle.cc_headline.proofs.ReadAgain.{renaming, names_distinct}
 use Rattle.cc_headline.proofs.GlobalKinds.{chunks_of, same_kind, chunks_again}
 use Rattle.cc_headline.proofs.SourceKinds.{extern_kind, own_kind}
 use Rattle.cc_headline.proofs.AlikePrograms.{same_number}
-use Rattle.cc_headline.proofs.TwinRuns.{put, NoObject, Good, Any, Twins, broke, gave, raised, used_up, waited, Twin, twin_skip, twin_ret, twin_bind}
+use Rattle.cc_headline.proofs.TwinRuns.{put, NoObject, Any, Twins, broke, gave, raised, used_up, waited, Twin, twin_skip, twin_ret}
 use Rattle.cc_headline.proofs.TwinVariables.{Unmarked}
 use Rattle.cc_headline.proofs.TwinForm.{Is}
 use Rattle.cc_headline.proofs.TwinChunks.{twin_hoist, twin_statements}
@@ -168,7 +167,7 @@ module _ (file : List ℕ) (externs : List (List ℕ)) (source : List ℕ) (ss :
   runs B B' zero =
       weaken (tables_of P) (plain_tables E) (Is normal) (ex_chunk checked B top (body_of P 0)) (ex_chunk script.plain B' top (body_of E 0))
       (twin_statements (tables_of P) (plain_tables E) B B' (global_names externs ss) (global_names externs ts) f C Q outer own kinds calls uses left_unmarked right_unmarked top top 0 ss
-        (reading_fits externs source ss so.reading))
+      (reading_fits externs source ss so.reading))
   runs B B' (suc c) = twin_ret (tables_of P) (plain_tables E) Any normal tt
 
   -- the state at the start, but for the tables

@@ -1,13 +1,13 @@
 -- Two runs side by side that differ in their tables, as long as no object of the program is made: a
 -- checked one on the left, and a plain one on the right. Where the left one breaks no rule, both say
 -- and give the same.
-use Rattle.std.proofs.Common.{◌≡◌, ℕ, zero, suc, ◌+◌, Bool, true, false, List, [], ◌∷◌, ◌++◌, length, refl, sym, ap, ◌∙◌, subst, ◌⊎◌, inl, inr, Option, Some, None, slice_get, slice_set, nat_lt}
-use Rattle.cc_meaning.specs.Values.{Val, prim, obj, out, View, shown_prim, shown_out, handle, Event, Spot}
+use Rattle.std.proofs.Common.{◌≡◌, ℕ, Bool, true, false, List, [], ◌∷◌, refl, sym, ap, ◌∙◌, subst, Option, Some, None, slice_get}
+use Rattle.cc_meaning.specs.Values.{Val, prim, obj, out, Spot}
 use Rattle.cc_meaning.specs.State.{Tables, State}
-use Rattle.cc_meaning.specs.Monad.{Said, told, End, spent, waits, broken, Res, ok, threw, over, M, ret, skip, raise, stop, say, said, after, ◌>>=◌, Way, went, thrown, attempt, attempted, paid, pay_from, pay, Mode}
+use Rattle.cc_meaning.specs.Monad.{Said, spent, waits, broken, Res, ok, threw, over, M, ret, skip, raise, stop, say, said, after, ◌>>=◌, Way, went, thrown, attempt, attempted, paid, pay_from, pay, Mode}
 use Rattle.cc_meaning.specs.Judge.{Act, least_broken}
-use Rattle.cc_meaning.specs.Acts.{is_fatal, refused, allowed, judged, show, show_all, show_receiver}
-use Rattle.cc_meaning.specs.Script.{checked, plain}
+use Rattle.cc_meaning.specs.Acts.{is_fatal, refused, allowed, judged, show, show_all}
+use Rattle.cc_meaning.specs.Script.{checked}
 
 abbrev pub put : Tables → State → State
 put T s = record s { tables = T }

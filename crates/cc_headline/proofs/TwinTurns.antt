@@ -1,18 +1,17 @@
 -- The turns of a script, side by side.
-use Rattle.std.proofs.Common.{◌≡◌, ℕ, zero, suc, Bool, true, false, ◌&&◌, not, List, [], ◌∷◌, ◌++◌, length, refl, sym, ap, ◌∙◌, subst, Option, Some, None, slice_get}
-use Rattle.cc_ast.specs.declared.tables.ChunkInfo.{ChunkInfo}
+use Rattle.std.proofs.Common.{◌≡◌, ℕ, suc, Bool, true, false, ◌&&◌, not, List, [], ◌∷◌, ◌++◌, ap, Option, Some, None}
 use Rattle.cc_ast.specs.Syntax as S
 use Rattle.cc_ast.specs.Syntax.{undefined}
 use Rattle.cc_meaning.specs.Values.{Val, prim, View, handle, ended, threw, Spot, at_turn}
 use Rattle.cc_meaning.specs.State.{Tables, Inner, State}
-use Rattle.cc_meaning.specs.Monad.{Mode, told, Res, M, ret, skip, say, ◌>>=◌, Way, went, thrown, attempt}
+use Rattle.cc_meaning.specs.Monad.{Mode, told, ret, Way, went, thrown, attempt}
 use Rattle.cc_meaning.specs.SlotRules.{rule_unless}
 use Rattle.cc_meaning.specs.Rules.{host_rule, names_well}
 use Rattle.cc_meaning.specs.Judge.{hosts, least_broken}
 use Rattle.cc_meaning.specs.Acts.{judged, changing, was_given, all_given, viewed, show}
 use Rattle.cc_meaning.specs.Shapes.{body_of}
 use Rattle.cc_meaning.specs.Calls.{Bodies, tell_end}
-use Rattle.cc_meaning.specs.Meaning.{Comp, hoist, ex_chunk}
+use Rattle.cc_meaning.specs.Meaning.{hoist, ex_chunk}
 use Rattle.cc_meaning.specs.Script as script
 use Rattle.cc_meaning.specs.Script.{Turn, load, call, get, set, checked, top, dependency_failed, note_load, note_end, run_chunk, load_chunk, call_handle, get_handle, set_handle, turn, turns_from}
 use Rattle.cc_headline.proofs.TwinRuns.{put, NoObject, Good, Any, Twins, Twin, WayOf, gave, twin_bind, twin_ret, twin_skip, twin_say, twin_show, twin_attempt, judged_breaks, judged_passes, twins_broken, twins_same}
@@ -72,21 +71,21 @@ module _ (P P' : S.Program) (T T' : Tables) (B B' : Bodies)
   twin_call_handle i c s g =
       twins_broken T T' Any (call_handle checked B i c (put T s)) (call_handle script.plain B' i c (put T' s)) 13 i
       (judged_breaks T T' i (hosts (all_given (put T s) (handle c.callee ∷ c.this ∷ c.args)) None None false) 13 _ (put T s)
-        (host_breaks T (put T s) None None false (all_given (put T s) (handle c.callee ∷ c.this ∷ c.args)) (not_all_given (put T s) (good_too T s g) c.callee (c.this ∷ c.args))))
+      (host_breaks T (put T s) None None false (all_given (put T s) (handle c.callee ∷ c.this ∷ c.args)) (not_all_given (put T s) (good_too T s g) c.callee (c.this ∷ c.args))))
 
   twin_get_handle : (i : Spot) (h : ℕ) (n : List ℕ) → Twin T T' Any (get_handle checked B i h n) (get_handle script.plain B' i h n)
   unfolding get_handle
   twin_get_handle i h n s g =
       twins_broken T T' Any (get_handle checked B i h n (put T s)) (get_handle script.plain B' i h n (put T' s)) 13 i
       (judged_breaks T T' i (hosts (was_given (put T s) (handle h)) (Some (viewed (put T s) (handle h))) (Some n) false) 13 _ (put T s)
-        (host_breaks T (put T s) (Some (viewed (put T s) (handle h))) (Some n) false (was_given (put T s) (handle h)) (not_given (put T s) (good_too T s g) h)))
+      (host_breaks T (put T s) (Some (viewed (put T s) (handle h))) (Some n) false (was_given (put T s) (handle h)) (not_given (put T s) (good_too T s g) h)))
 
   twin_set_handle : (i : Spot) (h : ℕ) (n : List ℕ) (x : View) → Twin T T' Any (set_handle checked i h n x) (set_handle script.plain i h n x)
   unfolding set_handle
   twin_set_handle i h n x s g =
       twins_broken T T' Any (set_handle checked i h n x (put T s)) (set_handle script.plain i h n x (put T' s)) 13 i
       (judged_breaks T T' i (hosts (all_given (put T s) (handle h ∷ x ∷ [])) (Some (viewed (put T s) (handle h))) (Some n) false) 13 _ (put T s)
-        (host_breaks T (put T s) (Some (viewed (put T s) (handle h))) (Some n) false (all_given (put T s) (handle h ∷ x ∷ [])) (not_all_given (put T s) (good_too T s g) h (x ∷ []))))
+      (host_breaks T (put T s) (Some (viewed (put T s) (handle h))) (Some n) false (all_given (put T s) (handle h ∷ x ∷ [])) (not_all_given (put T s) (good_too T s g) h (x ∷ []))))
 
   twin_turn : (i : Spot) (t : Turn) → Twin T T' Any (turn checked P B i t) (turn script.plain P' B' i t)
   unfolding turn

@@ -1,12 +1,11 @@
 -- Globals of a chunk without annotations, side by side.
-use Rattle.std.proofs.Common.{◌≡◌, ℕ, zero, suc, Bool, true, false, not, ◌&&◌, List, [], ◌∷◌, refl, sym, ap, ap₂, ◌∙◌, subst, ◌⊎◌, inl, inr, Option, Some, None, slice_get, slice_set, is_some}
+use Rattle.std.proofs.Common.{◌≡◌, ℕ, zero, suc, Bool, true, false, not, ◌&&◌, List, [], ◌∷◌, refl, ap, ap₂, ◌∙◌, subst, ◌⊎◌, inl, inr, Option, Some, None, slice_get, slice_set, is_some}
 use Rattle.std.proofs.lemmas.Bool.{cases_Bool}
-use Rattle.cc_ast.specs.declared.tree.Ref.{Ref}
 use Rattle.cc_ast.specs.declared.tree.Ref.TheVariants as ref
-use Rattle.cc_meaning.specs.Values.{Val, prim, Spot}
+use Rattle.cc_meaning.specs.Values.{Val, Spot}
 use Rattle.cc_meaning.specs.Builtins.{or_undefined}
 use Rattle.cc_meaning.specs.State.{Tables, Env, State}
-use Rattle.cc_meaning.specs.Monad.{broken, Res, ok, over, M, ret, skip, ◌>>=◌, after, said, with_tables, Mode}
+use Rattle.cc_meaning.specs.Monad.{ok, ret, ◌>>=◌, after, said, with_tables, Mode}
 use Rattle.cc_meaning.specs.Store.{of_chunk, global_kind, flat_option}
 use Rattle.cc_meaning.specs.Typed.{global, variable_type, is_settled, of_opt_type}
 use Rattle.cc_meaning.specs.SlotRules.{least, rule_unless, rule_if}

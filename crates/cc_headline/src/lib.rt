@@ -16,7 +16,6 @@ ghost use Rattle.cc_driver.specs.declared.outcome.Outcome.TheVariants.{Done};
 ghost use Rattle.cc_driver.specs.declared.spelling.Piece.{Piece};
 ghost use Rattle.cc_headline.specs.NamingLaw.{NamingLaw};
 ghost use Rattle.cc_headline.specs.ReadsBack.{ReadsBack};
-ghost use Rattle.cc_headline.specs.Erasure.{Erasure};
 ghost use Rattle.cc_headline.specs.Headline.{Headline};
 
 /// The names of a source's globals keep the law of namings.
@@ -40,5 +39,5 @@ pub fn source_is_well_made()
 
 /// A compilation that is done keeps the promise.
 pub fn done_keeps_the_promise()
-    ensures { Erasure → (words : List (List ℕ)) (before after : View) → Compiles words before after Done → Headline words before after }
+    ensures { (words : List (List ℕ)) (before after : View) → Compiles words before after Done → Headline words before after }
 {}
