@@ -2,7 +2,7 @@
 use Rattle.std.proofs.Common.{◌≡◌, ℕ, suc, ◌≤◌, Bool, true, false, List, [], length, Option, None, Some, refl, sym, ap, subst, ◌∙◌, All, Contains, cond, nat_lt, ltb-false, le-ltb}
 use Rattle.std.specs.List.{list_all, IsDistinct}
 use Rattle.std.specs.Str.{bytes_eq}
-use Rattle.cc_driver.specs.Form.{IsExterns, IsSource, declared, called, used}
+use Rattle.cc_driver.specs.Form.{IsExterns, IsReading, IsSource, declared, called, used}
 use Rattle.cc_driver.specs.declared.form.Statement.{Statement}
 use Rattle.cc_driver.specs.FormReading.{read_statements, read_functions}
 use Rattle.cc_driver.specs.FormChecks.{each_once, all_declared, uses_known, bind, names_test, externs_found, source_found}
@@ -108,22 +108,23 @@ source_is externs text ss e =
     let o = bound _ _ _ r.then in
     let same : r.first ≡ ss = same_some o.then in
     let h = names_are externs r.first o.first o.is in
-    subst (IsSource externs text) same (record {
+    let reading : IsReading externs text r.first = record {
       form = statements_are text r.first r.is;
-      short = short text a.0;
       called_are_externs = h.called_are_externs;
       used_are_declared = h.used_are_declared;
       declared_once = h.declared_once;
       declared_are_new = h.declared_are_new;
-    })
+    } in
+    subst (IsSource externs text) same (record { reading = reading; short = short text a.0 })
 
 -- a source of the form is found
 pub source_read : (externs : Names) (text : List ℕ) (ss : List Statement) → Distinct externs → IsSource externs text ss → source_found externs text ≡ Some ss
 unfolding source_found
 source_read externs text ss d h =
-    let names : HasNames externs ss = record { called_are_externs = h.called_are_externs; used_are_declared = h.used_are_declared; declared_once = h.declared_once; declared_are_new = h.declared_are_new } in
+    let r = h.reading in
+    let names : HasNames externs ss = record { called_are_externs = r.called_are_externs; used_are_declared = r.used_are_declared; declared_once = r.declared_once; declared_are_new = r.declared_are_new } in
     ap (λ b. cond b None (bind (read_statements (suc (length text)) [] 0 text) (λ ss. bind (names_test externs ss) (λ u. Some ss)))) (not_long text h.short)
-    ∙ ap (λ m. bind m (λ ss. bind (names_test externs ss) (λ u. Some ss))) (statements_read text ss h.form)
+    ∙ ap (λ m. bind m (λ ss. bind (names_test externs ss) (λ u. Some ss))) (statements_read text ss r.form)
     ∙ ap (λ m. bind m (λ u. Some ss)) (names_known externs ss d names)
 
 pub source_none : (externs : Names) (text : List ℕ) → source_found externs text ≡ None → (file : List ℕ) → IsExterns file externs → (ss : List Statement) → IsSource externs text ss → ⊥

@@ -21,3 +21,4 @@ pub mod NamingLaws
 pub mod SetLaws
 pub mod PassedLaws
 pub mod GivingLaws
+pub mod Promise

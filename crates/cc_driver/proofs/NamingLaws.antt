@@ -79,7 +79,7 @@ module _ (program : S.Program) (pieces : List Piece) where
       by k (inr l) = slice_get_past names k (omega (arith, l, n.complete)) ∙ sym (slice_get_past others k (omega (arith, l, o.complete)))
 
   -- the name of a global that a chunk declares is fresh
-  fresh_place : (names : List (List ℕ)) (n : IsNaming program pieces names) (g : ℕ) (info : GlobalInfo) (c : ℕ) (name : List ℕ)
+  pub fresh_place : (names : List (List ℕ)) (n : IsNaming program pieces names) (g : ℕ) (info : GlobalInfo) (c : ℕ) (name : List ℕ)
       → slice_get program.globals g ≡ Some info → info.chunk ≡ Some c → slice_get names g ≡ Some name
       → (i : ℕ) × (slice_get n.ranking i ≡ Some g) × (slice_get n.fresh i ≡ Some name)
   fresh_place names n g info c name at own named =

@@ -97,7 +97,7 @@ names_of_globals externs ss =
 pub globals_few : (file : List ℕ) (externs : Names) (text : List ℕ) (ss : List Statement) → IsExterns file externs → IsSource externs text ss → length (global_names externs ss) < 2 ^ 32
 globals_few file externs text ss h s =
     let outside : length externs ≤ length file = functions_few file externs h.form in
-    let inside : length (declared ss) ≤ length text = statements_few 0 text ss s.form in
+    let inside : length (declared ss) ≤ length text = statements_few 0 text ss s.reading.form in
     let short : length file ≤ 16777216 = h.short in
     let brief : length text ≤ 16777216 = s.short in
     let all : length (global_names externs ss) ≡ length externs + 3 + length (declared ss) = simp length-append in
@@ -108,7 +108,7 @@ pub places_fit : (externs : Names) (text : List ℕ) (ss : List Statement) → I
 places_fit externs text ss s =
     let brief : length text ≤ 16777216 = s.short in
     let wide : (t : Statement) → reach t ≤ 0 + length text → reach t < 2 ^ 32 = λ t k. omega arith in
-    All-weaker (λ t. reach t ≤ 0 + length text) (λ t. reach t < 2 ^ 32) wide ss (statements_reach 0 text ss s.form)
+    All-weaker (λ t. reach t ≤ 0 + length text) (λ t. reach t < 2 ^ 32) wide ss (statements_reach 0 text ss s.reading.form)
 
 -- the program of the globals and the statements is the program of the source
 pub resolved : (externs : Names) (size : ℕ) (ss : List Statement) (globals : List GlobalInfo) (body : List Stmt)

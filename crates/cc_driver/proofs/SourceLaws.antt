@@ -73,7 +73,7 @@ globals_ascii file externs text size ss h s =
     let P : GlobalInfo → Type 0 = λ g. is_ascii_name g.name ≡ true in
     All-append P (map global_of_no_chunk (externs ++ built_in_names)) (map global_of_main (declared ss))
     (All-map P global_of_no_chunk (externs ++ built_in_names) outside)
-    (All-map P global_of_main (declared ss) (named_ascii (declared ss) (statements_named 0 text ss s.form)))
+    (All-map P global_of_main (declared ss) (named_ascii (declared ss) (statements_named 0 text ss s.reading.form)))
 
 -- there are pieces
 abbrev Spelled : Option (List Piece) → Type 0
@@ -107,7 +107,7 @@ statements_spelled names _ _ _ (form.more_statements {at} {x} {y} {s} {ss} h hs)
 
 -- the program of a source has a text
 pub source_spelled : (externs : List (List ℕ)) (text : List ℕ) (size : ℕ) (ss : List Statement) → IsSource externs text ss → (pieces : List Piece) × (spell_chunk (program_of externs size ss) 0 ≡ Some pieces)
-source_spelled externs text size ss h = statements_spelled (global_names externs ss) 0 text ss h.form
+source_spelled externs text size ss h = statements_spelled (global_names externs ss) 0 text ss h.reading.form
 
 -- a name of the form is no built-in one
 not_built_in : (n : List ℕ) → IsName n → Contains built_in_names n → ⊥
@@ -125,8 +125,8 @@ distinct_built_ins = ((refl, (refl, tt)), ((refl, tt), (tt, tt)))
 pub globals_distinct : (file : List ℕ) (externs : List (List ℕ)) (text : List ℕ) (ss : List Statement) → IsExterns file externs → IsSource externs text ss → Distinct (global_names externs ss)
 globals_distinct file externs text ss h s =
     let outside = functions_named file externs h.form in
-    let inside = statements_named 0 text ss s.form in
+    let inside = statements_named 0 text ss s.reading.form in
     let built_ins : All (λ b. is_in b externs ≡ false) built_in_names = λ k d lt. absent _ externs (λ e. not_built_in _ (All-contains IsName externs _ outside e) (All-contains_itself built_in_names k d lt)) in
     let new : All (λ n. is_in n (externs ++ built_in_names) ≡ false) (declared ss) =
-    λ k d lt. absent _ (externs ++ built_in_names) (λ e. ⊎_elim (s.declared_are_new k d lt) (not_built_in _ (inside k d lt)) (Contains-append_cases externs built_in_names _ e)) in
-    distinct_append (externs ++ built_in_names) (declared ss) (distinct_append externs built_in_names h.once distinct_built_ins built_ins) s.declared_once new
+    λ k d lt. absent _ (externs ++ built_in_names) (λ e. ⊎_elim (s.reading.declared_are_new k d lt) (not_built_in _ (inside k d lt)) (Contains-append_cases externs built_in_names _ e)) in
+    distinct_append (externs ++ built_in_names) (declared ss) (distinct_append externs built_in_names h.once distinct_built_ins built_ins) s.reading.declared_once new

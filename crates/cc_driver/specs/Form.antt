@@ -70,15 +70,20 @@ called = all_of called_by
 abbrev pub used : List Statement → List (List ℕ)
 used = all_of used_by
 
--- a source of the form: each called name is an extern, each name used as a value is declared by a
--- `var` of the source, and no `var` name is declared twice or is an extern
-pub record IsSource (externs : List (List ℕ)) (source : List ℕ) (statements : List Statement) : Type 0 where
-  pub form : IsStatements 0 source statements
-  pub short : length source ≤ most_bytes
+-- the statements that a text of any length is, with these externs: each called name is an extern,
+-- each name used as a value is declared by a `var` of the text, and no `var` name is declared twice
+-- or is an extern
+pub record IsReading (externs : List (List ℕ)) (text : List ℕ) (statements : List Statement) : Type 0 where
+  pub form : IsStatements 0 text statements
   pub called_are_externs : All (Contains externs) (called statements)
   pub used_are_declared : All (Contains (declared statements)) (used statements)
   pub declared_once : IsDistinct bytes_eq (declared statements)
   pub declared_are_new : All (λ name. Contains externs name → ⊥) (declared statements)
+
+-- a source of the form: such a text within the limit, which reading alone doesn't know
+pub record IsSource (externs : List (List ℕ)) (source : List ℕ) (statements : List Statement) : Type 0 where
+  pub reading : IsReading externs source statements
+  pub short : length source ≤ most_bytes
 
 -- `function NAME(NAME){}`, any number of times with nothing between
 pub data IsFunctions : List ℕ → List (List ℕ) → Type 0 where

@@ -11,3 +11,8 @@ pub mod NamingSteps
 pub mod Compile
 pub mod Steps
 pub mod Status
+pub mod Again
+pub mod NamingLaw
+pub mod ReadsBack
+pub mod Erasure
+pub mod Headline

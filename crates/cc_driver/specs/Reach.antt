@@ -1,6 +1,7 @@
 -- Parts of the program of a source.
 use Rattle.std.specs.Prelude.{ℕ, ◌+◌, List, [], ◌∷◌, None, false, map, length}
 use Rattle.cc_ast.specs.Syntax as S
+use Rattle.cc_meaning.specs.Names.{always_kept}
 use Rattle.cc_driver.specs.Source.{main_chunk, no_doc, places_from}
 use Rattle.cc_ast.specs.declared.tables.GlobalInfo.{GlobalInfo}
 use Rattle.cc_driver.specs.declared.form.Statement.{Statement}
@@ -22,7 +23,7 @@ program_with globals body size = record {
   chunks = main_chunk ∷ [];
   globals = globals;
   props = [];
-  kept = [];
+  kept = always_kept;
   classes = [];
   places = places_from 0 size;
   docs = no_doc ∷ [];

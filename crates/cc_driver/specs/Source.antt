@@ -11,6 +11,7 @@ use Rattle.cc_ast.specs.declared.tree.Ref.TheVariants.{Global}
 use Rattle.cc_ast.specs.Bridge.{exprs}
 use Rattle.cc_ast.specs.StmtBridge.{stmts}
 use Rattle.cc_ast.specs.Syntax as S
+use Rattle.cc_meaning.specs.Names.{always_kept}
 use Rattle.cc_driver.specs.Names.{built_in_names}
 use Rattle.cc_driver.specs.declared.form.Value.{Value}
 use Rattle.cc_driver.specs.declared.form.Value.TheVariants.{Named, Text}
@@ -66,7 +67,7 @@ program_of externs size statements = record {
   chunks = main_chunk ∷ [];
   globals = map global_of_no_chunk (externs ++ built_in_names) ++ map global_of_main (declared statements);
   props = [];
-  kept = [];
+  kept = always_kept;
   classes = [];
   places = places_from 0 size;
   docs = no_doc ∷ [];

@@ -1,6 +1,7 @@
 // The top call.
-ghost use Rattle.std.specs.Prelude.{map, string_bytes, IsTrue, OnOk, IfErr};
+ghost use Rattle.std.specs.Prelude.{◌≡◌, map, string_bytes, IsTrue, OnOk, IfErr};
 ghost use Rattle.cc_driver.specs.Compile.{Compiles, Completes, line_of};
+ghost use Rattle.cc_driver.specs.Headline.{Headline};
 ghost use Rattle.cc_driver.specs.Steps.{EndsJob, TriesToTell, stops_job};
 ghost use Rattle.cc_driver.specs.declared.outcome.Outcome.TheVariants.{Done};
 
@@ -16,6 +17,7 @@ use std::alloc::Global;
 pub fn compile_alone<H: Host>(alloc: Global, words: &[String], host: &mut H) -> Outcome
     ensures compiles { Compiles (map string_bytes words.now) (H.view host.old) (H.view host.new) result }
     ensures completes { Completes (map string_bytes words.now) (H.view host.old) (H.view host.new) result }
+    ensures keeps_meaning { result ≡ Done → Headline (map string_bytes words.now) (H.view host.old) (H.view host.new) }
 {
     let Some(job) = job_of(words) else {
         return tell_line(host, b"unbuilt 0\n", Outcome::Unbuilt(0));

@@ -1,12 +1,14 @@
 //! The compiler's top call, over a host that is handed in. Its public contract is `Compiles` of
-//! `specs/Compile`: why each answer came, what it tells, and what stays the same. What is compiled
-//! so far is the form of `specs/Form`; the text that is written is that of `specs/Spelling`, under
-//! the names of `specs/Naming`.
+//! `specs/Compile`: why each answer came, what it tells, and what stays the same; and `Headline` of
+//! `specs/Headline`: what is written means what the source means. What is compiled so far is the
+//! form of `specs/Form`; the text that is written is that of `specs/Spelling`, under the names of
+//! `specs/Naming`.
 #![tactic(auto)]
 
 pub mod compile;
 mod files;
 mod form;
+pub mod laws;
 mod message;
 mod names;
 mod naming;

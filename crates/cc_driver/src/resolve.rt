@@ -11,10 +11,12 @@ ghost use Rattle.std.specs.List.{IsDistinct};
 ghost use Rattle.std.specs.Str.{bytes_eq};
 
 mod globals;
+mod kept;
 
 use crate::form::{Statement, Value};
 use crate::names::{NameTable, name_number};
 use crate::resolve::globals::{global_table, globals_of};
+use crate::resolve::kept::kept_names;
 use cc_ast::place::Place;
 use cc_ast::program::{Program, Scope};
 use cc_ast::tables::{ChunkInfo, ChunkName, GlobalInfo, SiteDoc};
@@ -212,7 +214,7 @@ fn program_with(
         chunks: only(alloc, main_chunk(alloc)?)?,
         globals,
         props: Items::new(alloc),
-        kept: Items::new(alloc),
+        kept: kept_names(alloc)?,
         classes: Items::new(alloc),
         places: places(alloc, size)?,
         docs: only(alloc, no_doc(alloc))?,

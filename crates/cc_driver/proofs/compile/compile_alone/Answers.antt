@@ -1,5 +1,6 @@
 use Rattle.cc_driver.proofs.CompileLemmas.{compiles_done, compiles_stopped, compiles_nothing}
 use Rattle.cc_driver.proofs.CompletesLemmas.{completes}
+use Rattle.cc_driver.proofs.Promise.Done.{headline_where}
 use Rattle.cc_driver.proofs.compile.compile_alone.Goals as goal
 
 pub returns-in_default-clause-compiles : goal.returns-in_default-clause-compiles
@@ -19,3 +20,12 @@ returns-in-Err-clause-compiles g c = compiles_stopped c.in-Some.ensures c.in-Err
 
 pub returns-in-Err-clause-completes : goal.returns-in-Err-clause-completes
 returns-in-Err-clause-completes g c accepted calm = completes accepted calm (returns-in-Err-clause-compiles g c).cause
+
+pub returns-in_default-clause-keeps_meaning : goal.returns-in_default-clause-keeps_meaning
+returns-in_default-clause-keeps_meaning g c done = headline_where _ _ _ _ (returns-in_default-clause-compiles g c) done
+
+pub returns-in-Ok-clause-keeps_meaning : goal.returns-in-Ok-clause-keeps_meaning
+returns-in-Ok-clause-keeps_meaning g c done = headline_where _ _ _ _ (returns-in-Ok-clause-compiles g c) done
+
+pub returns-in-Err-clause-keeps_meaning : goal.returns-in-Err-clause-keeps_meaning
+returns-in-Err-clause-keeps_meaning g c done = headline_where _ _ _ _ (returns-in-Err-clause-compiles g c) done
