@@ -1,1 +1,4 @@
 pub mod Kit
+pub mod Parts
+pub mod Judged
+pub mod Calls

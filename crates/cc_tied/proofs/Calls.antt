@@ -1,0 +1,99 @@
+-- Calls of functions and of the outside, and reads and writes of what was reached, keep a relation.
+use Rattle.std.proofs.Common.{◌≡◌, refl, sym, ap, ℕ, suc, ◌≤◌, Bool, true, false, List, [], ◌∷◌, ◌++◌, Option, Some, None, subst, arith}
+use Rattle.cc_ast.specs.Syntax.{Prim, undefined}
+use Rattle.cc_meaning.specs.Values.{Val, prim, obj, out, View, shown_out, handle, Spot, at_site, called, constructed, got, put}
+use Rattle.cc_meaning.specs.State.{Kind, Code, Inner, Answer, gives, throws, Env}
+use Rattle.cc_meaning.specs.Monad.{told, M, ret, skip, raise, stop, say, ◌>>=◌, Way, attempt, pay, with_tables}
+use Rattle.cc_meaning.specs.Store.{Access, name_of, kind_by, Use, Built, object_global, math_global, string_global}
+use Rattle.cc_meaning.specs.Acts.{judged, show, show_all, show_receiver, next_reply, read_slot, write_slot}
+use Rattle.cc_meaning.specs.Calls.{Reference, Reach, plain, access, built_global, built_member, Callee, called_value, called_use, Returned, begin, begin_at, call_object, inner_call, inner, inners, answered, ask, call_out, construct_out, get_on, put_on, take_path, keep_path, cast_all, get, put_to, value_of, value, read_method, receiver_of, receiver_by, callee_by, callee_of, member_callee, global_callee, call_value, apply, construct_by, construct, built_result, views, tell_end, declares_on}
+use Rattle.cc_meaning.specs.Rules.{is_prim}
+use Rattle.cc_tied.specs.Tied.{ListT, nil_t, cons_t, OptT, none_t, some_t, ValT, prim_t, out_t, obj_t, WayT, CodeT, CastT, CalleeT, value_t, use_t, plain_t, access_t, global_t, member_t}
+use Rattle.cc_tied.proofs.Kit.{Kit}
+use Rattle.cc_tied.proofs.Parts.{V, OptV, ListV, CodeV, ReturnedV, ReferenceV, ReachV, CalleeV, CastsT, Done, Equal, Below, val_later, opt_later, list_later, code_later, reference_later, rel_skip, rel_tell, rel_tell_end, rel_show_all, rel_show_receiver, list_on}
+use Rattle.cc_tied.proofs.Judged.{rel_prim_called, rel_out_called, rel_calls_inner, rel_answers}
+
+unfoldable first_of_views : List Val → Val
+first_of_views [] = prim undefined
+first_of_views (v ∷ vs) = v
+
+unfoldable rest_of_views : List Val → List Val
+rest_of_views [] = []
+rest_of_views (v ∷ vs) = vs
+
+module _ (K : Kit) where
+  open K use {J, J', World, Later, later, now, bound, bound', bound_later, bound_later', SpotT, FunT, RunsT, runs_code, O, KeyT, key_later, Rel, rel_ret, rel_bind, rel_raise, rel_attempt, rel_pay_less, rel_tables, rel_fault, rel_say, rel_show, rel_next_reply, rel_view, rel_views, rel_runs, rel_enters, rel_leaves, rel_read, rel_out_read, rel_prim_read, rel_take_path, rel_cast, rel_method, rel_method_read, rel_instance, rel_use}
+
+  module _ (X : Below K) where
+    open X use {B, B', w, tied}
+
+    pub rel_begin : {v : World} → Later w v → {i i' : Spot} → SpotT i i' → {a b : Code} → CodeV K v a b → (built : Bool) {t t' : Option Val} {vs vs' : List Val} → OptV K v t t' → ListV K v vs vs' → Rel (V K) v (begin J B i a built t vs) (begin J' B' i' b built t' vs')
+    unfolding begin
+    rel_begin l i c built tt' vt =
+        rel_bind (rel_enters i c tt' vt) (λ v2 l2 _ _ _.
+        rel_pay_less (λ v3 l3 less less'.
+        rel_bind (tied.by v3 (later l (later l2 l3)) (omega (arith, less, bound_later l, bound_later l2)) (omega (arith, less', bound_later' l, bound_later' l2)) _ _ (code_later K (later l2 l3) c) _ _ _ _ (opt_later K (later l2 l3) tt') (list_later K (later l2 l3) vt)) (λ v4 l4 r r' q.
+        rel_bind (rel_leaves q.site c.function built q.value) (λ v5 l5 _ _ _. rel_ret r.value r'.value (val_later K l5 q.value)))))
+
+    pub rel_call_object : {v : World} → Later w v → {i i' : Spot} → SpotT i i' → {m n : ℕ} → O v m n → {t t' : Option Val} {vs vs' : List Val} → OptV K v t t' → ListV K v vs vs' → Rel (V K) v (call_object J B i m t vs) (call_object J' B' i' n t' vs')
+    unfolding call_object begin_at
+    rel_call_object l {i = i} {i' = i'} s h {t = t} {t' = t'} {vs = vs} {vs' = vs'} tt' vt = rel_runs (λ o. begin_at J B i o t vs) (λ o. begin_at J' B' i' o t' vs') s h (λ a b r. rel_begin l s (runs_code r) false tt' vt)
+
+    -- ---- the outside
+
+    pub rel_inner_call : {v : World} → Later w v → {i i' : Spot} → SpotT i i' → {x x' y y' : Val} {vs vs' : List Val} → V K v x x' → V K v y y' → ListV K v vs vs' → Rel (Done K) v (inner_call J B i x y vs) (inner_call J' B' i' x' y' vs')
+    unfolding inner_call
+    rel_inner_call l s (obj_t h) yt vt = rel_bind (rel_attempt (rel_call_object l s h (some_t yt) vt)) (λ v2 l2 a b q. rel_tell_end K q)
+    rel_inner_call l s out_t yt vt = rel_fault s 13
+    rel_inner_call l s prim_t yt vt = rel_fault s 13
+
+    pub rel_inner : {v : World} → Later w v → {i i' : Spot} → SpotT i i' → (c : Inner) → Rel (Done K) v (inner J B i c) (inner J' B' i' c)
+    unfolding inner views first_of_views rest_of_views
+    rel_inner l {i = i} {i' = i'} s c = rel_views (handle c.callee ∷ c.this ∷ c.args)
+        (λ given vs. judged J i (Rattle.cc_meaning.specs.Judge.calls_inner given) (inner_call J B i (first_of_views vs) (first_of_views (rest_of_views vs)) (rest_of_views (rest_of_views vs))))
+        (λ given vs. judged J' i' (Rattle.cc_meaning.specs.Judge.calls_inner given) (inner_call J' B' i' (first_of_views vs) (first_of_views (rest_of_views vs)) (rest_of_views (rest_of_views vs))))
+        (λ given vs vs' h. rel_calls_inner K given _ _ s (rel_inner_call l s (first_t h) (first_t (rest_t h)) (rest_t (rest_t h))))
+      where
+        first_t : {v : World} {vs vs' : List Val} → ListV K v vs vs' → V K v (first_of_views vs) (first_of_views vs')
+        first_t nil_t = prim_t
+        first_t (cons_t h t) = h
+
+        rest_t : {v : World} {vs vs' : List Val} → ListV K v vs vs' → ListV K v (rest_of_views vs) (rest_of_views vs')
+        rest_t nil_t = nil_t
+        rest_t (cons_t h t) = t
+
+    pub rel_inners : {i i' : Spot} → SpotT i i' → (cs : List Inner) {v : World} → Later w v → Rel (Done K) v (inners J B i cs) (inners J' B' i' cs)
+    unfolding inners
+    rel_inners s [] l = rel_skip K
+    rel_inners s (c ∷ cs) l = rel_bind (rel_inner l s c) (λ v2 l2 a b u. rel_inners s cs (later l l2))
+
+    pub rel_answered : {v : World} {i i' : Spot} → SpotT i i' → (a : Answer) → Rel (V K) v (answered J i a) (answered J' i' a)
+    unfolding answered
+    rel_answered {i = i} {i' = i'} s (gives x) = rel_view x (λ given y. judged J i (Rattle.cc_meaning.specs.Judge.answers_with given) (ret y)) (λ given y. judged J' i' (Rattle.cc_meaning.specs.Judge.answers_with given) (ret y)) (λ given y y' h. rel_answers K given _ _ s (rel_ret y y' h))
+    rel_answered {i = i} {i' = i'} s (throws x) = rel_view x (λ given y. judged J i (Rattle.cc_meaning.specs.Judge.answers_with given) (raise y)) (λ given y. judged J' i' (Rattle.cc_meaning.specs.Judge.answers_with given) (raise y)) (λ given y y' h. rel_answers K given _ _ s (rel_raise h))
+
+    pub rel_ask : {v : World} → Later w v → {i i' : Spot} → SpotT i i' → Rel (V K) v (ask J B i) (ask J' B' i')
+    unfolding ask
+    rel_ask l {i = i} {i' = i'} s = rel_bind rel_next_reply (λ v2 l2 r r' e. subst (λ z. Rel (V K) v2 (inners J B i r.first >>= λ _. answered J i r.answer) (inners J' B' i' z.first >>= λ _. answered J' i' z.answer)) e (rel_bind (rel_inners s r.first (later l l2)) (λ v3 l3 a b u. rel_answered s r.answer)))
+
+    pub rel_call_out : {v : World} → Later w v → {i i' : Spot} → SpotT i i' → (n : ℕ) {t t' : Option Val} {vs vs' : List Val} → OptV K v t t' → ListV K v vs vs' → Rel (V K) v (call_out J B i n t vs) (call_out J' B' i' n t' vs')
+    unfolding call_out
+    rel_call_out l s n tt' vt = rel_pay_less (λ v1 l1 less less'. rel_bind (rel_show_receiver K (opt_later K l1 tt')) (λ v2 l2 x x' e. rel_bind (rel_show_all K _ _ (list_later K (later l1 l2) vt)) (λ v3 l3 xs xs' d. rel_bind (rel_tell K (called (shown_out n) x xs) (called (shown_out n) x' xs') (cc)) (λ v4 l4 a b u. rel_ask (later l (later l1 (later l2 (later l3 l4)))) s))))
+
+    -- ---- reads
+
+    pub rel_get_on : {v : World} → Later w v → {i i' : Spot} → SpotT i i' → {x y : Val} {a b : Access} → V K v x y → KeyT v x a b → Rel (V K) v (get_on J B i x a) (get_on J' B' i' y b)
+    unfolding get_on
+    rel_get_on l s (obj_t h) k = rel_read s h k
+    rel_get_on l s (prim_t {p = p}) k = rel_prim_read s k
+    rel_get_on {v = v} l {i = i} {i' = i'} s {a = a} {b = b} (out_t {n = n}) k = rel_out_read s k (λ e. rel_tables _ _ (rel_bind (rel_tell K (got (shown_out n) (name_of K.tables a)) (got (shown_out n) (name_of K.tables' b)) (ap (λ z. got (shown_out n) z) e)) (λ v2 l2 p q u. rel_ask (later l l2) s)))
+
+    -- ---- callees
+
+    receiver_tied : {v : World} {a b : Reference} → ReferenceV K v a b → OptV K v (receiver_of a) (receiver_of b)
+    unfolding receiver_of receiver_by
+    receiver_tied {v = v} {a = a} {b = b} h = by_path h.path h.on
+      where
+        by_path : {p p' : Option (ℕ × ℕ)} {x y : Val} → OptT K.FlatT p p' → V K v x y → OptV K v (receiver_by p x) (receiver_by p' y)
+        by_path none_t k = some_t k
+        by_path (some_t q) k = none_t
