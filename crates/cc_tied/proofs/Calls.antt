@@ -97,3 +97,95 @@ module _ (K : Kit) where
         by_path : {p p' : Option (ℕ × ℕ)} {x y : Val} → OptT K.FlatT p p' → V K v x y → OptV K v (receiver_by p x) (receiver_by p' y)
         by_path none_t k = some_t k
         by_path (some_t q) k = none_t
+
+    pub rel_take_flat : {v : World} {i i' : Spot} → SpotT i i' → {p p' : Option (ℕ × ℕ)} {x y : Val} {a b : Access} → OptT K.FlatT p p' → V K v x y → KeyT v x a b → Rel (Done K) v (take_path J i p x a) (take_path J' i' p' y b)
+    unfolding take_path
+    rel_take_flat s none_t h k = rel_skip K
+    rel_take_flat s (some_t f) h k = rel_take_path s f h k
+
+    pub rel_cast_all : {cs cs' : List (ℕ × ℕ)} → CastsT K cs cs' → {v : World} {x y : Val} → V K v x y → Rel (Done K) v (cast_all J cs x) (cast_all J' cs' y)
+    unfolding cast_all
+    rel_cast_all nil_t h = rel_skip K
+    rel_cast_all (cons_t c cs) h = rel_bind (rel_cast c.site c.doc h) (λ v2 l2 a b u. rel_cast_all cs (val_later K l2 h))
+
+    pub rel_get : {v : World} → Later w v → {a b : Reference} → ReferenceV K v a b → Rel (V K) v (get J B a) (get J' B' b)
+    unfolding get
+    rel_get l h =
+        rel_bind (rel_get_on l h.site h.on h.key) (λ v2 l2 x y q.
+        rel_bind (rel_take_flat h.site h.path (val_later K l2 h.on) (key_later l2 h.key)) (λ v3 l3 _ _ _.
+        rel_bind (rel_cast_all h.casts (val_later K l3 q)) (λ v4 l4 _ _ _. rel_ret x y (val_later K (later l3 l4) q))))
+
+    pub rel_value_of : {v : World} → Later w v → {a b : Reach} → ReachV K v a b → Rel (V K) v (value_of J B a) (value_of J' B' b)
+    unfolding value_of
+    rel_value_of l (plain_t {v = x} {v' = y} h) = rel_ret x y h
+    rel_value_of l (access_t h) = rel_get l h
+    rel_value_of l (global_t i) = rel_fault i 2
+    rel_value_of l (member_t i e) = rel_fault i 2
+
+    pub rel_value : {v : World} → Later w v → {m m' : M Reach} → Rel (ReachV K) v m m' → Rel (V K) v (value J B m) (value J' B' m')
+    unfolding value
+    rel_value l h = rel_bind h (λ v2 l2 r r' q. rel_value_of (later l l2) q)
+
+    rel_read_method : {v : World} {a b : Reference} → ReferenceV K v a b → {cs cs' : List (ℕ × ℕ)} → CastsT K cs cs' → Rel (Done K) v (read_method J a cs) (read_method J' b cs')
+    unfolding read_method
+    rel_read_method h nil_t = rel_skip K
+    rel_read_method h (cons_t c cs) = rel_method_read h.site h.on h.key
+
+    rel_callee_by : {v : World} → Later w v → {a b : Reference} → ReferenceV K v a b → (u : Option Use) → Rel (CalleeV K) v (callee_by J B a u) (callee_by J' B' b u)
+    unfolding callee_by
+    rel_callee_by l {a = a} {b = b} h None = rel_bind (rel_get l h) (λ v2 l2 x y q. rel_ret (called_value x (receiver_of a)) (called_value y (receiver_of b)) (value_t q (receiver_tied (reference_later K l2 h))))
+    rel_callee_by l {a = a} {b = b} h (Some u) = rel_bind (rel_read_method h h.casts) (λ v2 l2 _ _ _. rel_ret (called_use u (a.on ∷ [])) (called_use u (b.on ∷ [])) (use_t (cons_t (val_later K l2 h.on) nil_t)))
+
+    rel_member_callee : {v : World} {i i' : ℕ} → SpotT (at_site i) (at_site i') → (u u' : Option Use) → u ≡ u' → Rel (CalleeV K) v (member_callee J i u) (member_callee J' i' u')
+    unfolding member_callee
+    rel_member_callee s None None e = rel_fault s 2
+    rel_member_callee s None (Some u) e = absurd (cc)
+    rel_member_callee s (Some u) None e = absurd (cc)
+    rel_member_callee {v = v} s (Some u) (Some u') e = subst (λ z. Rel (CalleeV K) v (ret (called_use u [])) (ret (called_use z []))) (cc) (rel_ret (called_use u []) (called_use u []) (use_t nil_t))
+
+    rel_global_callee : {v : World} {i i' : ℕ} → SpotT (at_site i) (at_site i') → (b : Built) → Rel (CalleeV K) v (global_callee J i b) (global_callee J' i' b)
+    unfolding global_callee
+    rel_global_callee s string_global = rel_ret _ _ (use_t nil_t)
+    rel_global_callee s object_global = rel_fault s 2
+    rel_global_callee s math_global = rel_fault s 2
+
+    -- a callee, with its receiver or with the method that is built in
+    pub rel_callee_of : {v : World} → Later w v → {a b : Reach} → ReachV K v a b → Rel (CalleeV K) v (callee_of J B a) (callee_of J' B' b)
+    unfolding callee_of
+    rel_callee_of l (plain_t {v = x} {v' = y} h) = rel_ret (called_value x None) (called_value y None) (value_t h none_t)
+    rel_callee_of l (access_t {a = a} {b = b} h) = rel_method (λ u. callee_by J B a u) (λ u. callee_by J' B' b u) h.on h.key (λ u. rel_callee_by l h u)
+    rel_callee_of l (global_t {b = b} i) = rel_global_callee i b
+    rel_callee_of l (member_t i e) = rel_member_callee i _ _ e
+
+    pub rel_call_value : {v : World} → Later w v → {i i' : Spot} → SpotT i i' → {x y : Val} {t t' : Option Val} {vs vs' : List Val} → V K v x y → OptV K v t t' → ListV K v vs vs' → Rel (V K) v (call_value J B i x t vs) (call_value J' B' i' y t' vs')
+    unfolding call_value
+    rel_call_value l s (obj_t h) tt' vt = rel_call_object l s h tt' vt
+    rel_call_value l {i = i} {i' = i'} s (out_t {n = n}) tt' vt = rel_out_called K i i' n _ _ (rel_call_out l s n tt' vt)
+    rel_call_value l s (prim_t {p = p}) tt' vt = rel_prim_called K p _ _ s
+
+    pub rel_apply : {v : World} → Later w v → {i i' : Spot} → SpotT i i' → {c c' : Callee} {vs vs' : List Val} → CalleeV K v c c' → ListV K v vs vs' → Rel (V K) v (apply J B i c vs) (apply J' B' i' c' vs')
+    unfolding apply
+    rel_apply l s (value_t h k) vt = rel_call_value l s h k vt
+    rel_apply l s (use_t {u = u} h) vt = rel_use B B' s u (list_on h vt) (λ m n x y us us' o h k. rel_call_object l s o (some_t h) k)
+
+    -- ---- `new`
+
+    built_tied : {v : World} {o o' x y : Val} → V K v o o' → V K v x y → V K v (built_result o x) (built_result o' y)
+    unfolding built_result is_prim
+    built_tied h prim_t = h
+    built_tied h out_t = out_t
+    built_tied h (obj_t k) = obj_t k
+
+    pub rel_construct_out : {v : World} → Later w v → {i i' : Spot} → SpotT i i' → (n : ℕ) {vs vs' : List Val} → ListV K v vs vs' → Rel (V K) v (construct_out J B i n vs) (construct_out J' B' i' n vs')
+    unfolding construct_out
+    rel_construct_out l s n vt = rel_pay_less (λ v1 l1 less less'. rel_bind (rel_show_all K _ _ (list_later K l1 vt)) (λ v3 l3 xs xs' d. rel_bind (rel_tell K (constructed (shown_out n) xs) (constructed (shown_out n) xs') (cc)) (λ v4 l4 a b u. rel_ask (later l (later l1 (later l3 l4))) s)))
+
+    pub rel_construct : {v : World} → Later w v → {i i' : Spot} → SpotT i i' → {x y : Val} {vs vs' : List Val} → V K v x y → ListV K v vs vs' → Rel (V K) v (construct J B i x vs) (construct J' B' i' y vs')
+    unfolding construct construct_by
+    rel_construct l {i = i} {i' = i'} s {vs = vs} {vs' = vs'} (obj_t {m = m} {n = n} h) vt =
+        rel_runs (λ c. construct_by J B i m c vs) (λ c. construct_by J' B' i' n c vs') s h (λ a b r.
+        rel_bind (rel_instance h r) (λ v2 l2 o o' q.
+        rel_bind (rel_begin (later l l2) s (code_later K l2 (runs_code r)) true (some_t q) (list_later K l2 vt)) (λ v3 l3 x y p.
+        rel_ret (built_result o x) (built_result o' y) (built_tied (val_later K l3 q) p))))
+    rel_construct l {i = i} {i' = i'} s (out_t {n = n}) vt = rel_out_called K i i' n _ _ (rel_construct_out l s n vt)
+    rel_construct l s (prim_t {p = p}) vt = rel_prim_called K p _ _ s

@@ -2,3 +2,4 @@ pub mod Kit
 pub mod Parts
 pub mod Judged
 pub mod Calls
+pub mod Expressions
