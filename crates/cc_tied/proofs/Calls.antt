@@ -11,7 +11,7 @@ use Rattle.cc_meaning.specs.Rules.{is_prim}
 use Rattle.cc_tied.specs.Tied.{ListT, nil_t, cons_t, OptT, none_t, some_t, ValT, prim_t, out_t, obj_t, WayT, CodeT, CastT, CalleeT, value_t, use_t, plain_t, access_t, global_t, member_t}
 use Rattle.cc_tied.proofs.Kit.{Kit}
 use Rattle.cc_tied.proofs.Parts.{V, OptV, ListV, CodeV, ReturnedV, ReferenceV, ReachV, CalleeV, CastsT, Done, Equal, Below, val_later, opt_later, list_later, code_later, reference_later, rel_skip, rel_tell, rel_tell_end, rel_show_all, rel_show_receiver, list_on}
-use Rattle.cc_tied.proofs.Judged.{rel_prim_called, rel_out_called, rel_calls_inner, rel_answers}
+use Rattle.cc_tied.proofs.Judged.{rel_prim_called, rel_out_called, rel_calls_inner, rel_answers, rel_prim_write}
 
 unfoldable first_of_views : List Val → Val
 first_of_views [] = prim undefined
@@ -22,7 +22,7 @@ rest_of_views [] = []
 rest_of_views (v ∷ vs) = vs
 
 module _ (K : Kit) where
-  open K use {J, J', World, Later, later, now, bound, bound', bound_later, bound_later', SpotT, FunT, RunsT, runs_code, O, KeyT, key_later, Rel, rel_ret, rel_bind, rel_raise, rel_attempt, rel_pay_less, rel_tables, rel_fault, rel_say, rel_show, rel_next_reply, rel_view, rel_views, rel_runs, rel_enters, rel_leaves, rel_read, rel_out_read, rel_prim_read, rel_take_path, rel_cast, rel_method, rel_method_read, rel_instance, rel_use}
+  open K use {J, J', World, Later, later, now, bound, bound', bound_later, bound_later', SpotT, FunT, RunsT, runs_code, O, KeyT, key_later, Rel, rel_ret, rel_bind, rel_raise, rel_attempt, rel_pay_less, rel_tables, rel_fault, rel_say, rel_show, rel_next_reply, rel_view, rel_views, rel_runs, rel_enters, rel_leaves, rel_read, rel_out_read, rel_prim_read, rel_take_path, rel_cast, rel_method, rel_method_read, rel_instance, rel_use, DeclaresT, declares_none, env_declares, rel_write, rel_out_write, rel_keep_path}
 
   module _ (X : Below K) where
     open X use {B, B', w, tied}
@@ -167,6 +167,43 @@ module _ (K : Kit) where
     unfolding apply
     rel_apply l s (value_t h k) vt = rel_call_value l s h k vt
     rel_apply l s (use_t {u = u} h) vt = rel_use B B' s u (list_on h vt) (λ m n x y us us' o h k. rel_call_object l s o (some_t h) k)
+
+    -- ---- writes
+
+    -- a write to an object of the outside
+    rel_out_put : {v : World} {i i' : Spot} → SpotT i i' → (n : ℕ) {x y : Val} {a b : Access} → KeyT v (out n) a b → (made made' : Kind) → V K v x y → (d d' : Bool) → Rel (Done K) v (put_on J i (out n) a made x d) (put_on J' i' (out n) b made' y d')
+    unfolding put_on
+    rel_out_put s n {x = x} {y = y} {a = a} {b = b} k made made' h d d' = rel_out_write x y d d' s k (λ e. rel_tables _ _ (rel_bind (rel_show h) (λ v2 l2 z z' q. rel_tell K (put (shown_out n) (name_of K.tables a) z) (put (shown_out n) (name_of K.tables' b) z') (cc))))
+
+    rel_prim_put : {v : World} {i i' : Spot} → SpotT i i' → (p : Prim) (x y : Val) (a b : Access) (made made' : Kind) (d d' : Bool) → Rel (Done K) v (put_on J i (prim p) a made x d) (put_on J' i' (prim p) b made' y d')
+    unfolding put_on
+    rel_prim_put s p x y a b made made' d d' = rel_prim_write K p a b x y d d' skip skip s
+
+    rel_put_by : {v : World} {i i' : Spot} → SpotT i i' → (d d' : Option ℕ) → DeclaresT d d' → {o o' x y : Val} {a b : Access} → V K v o o' → KeyT v o a b → V K v x y → Rel (Done K) v (λ s. put_on J i o a (kind_by a) x (declares_on s d o) s) (λ s. put_on J' i' o' b (kind_by b) y (declares_on s d' o') s)
+    unfolding put_on declares_on
+    rel_put_by s d d' dt (obj_t o) k h = rel_write s dt o k h
+    rel_put_by s None None dt {x = x} {y = y} {a = a} {b = b} (out_t {n = n}) k h = rel_out_put s n k (kind_by a) (kind_by b) h false false
+    rel_put_by s None (Some f') dt {x = x} {y = y} {a = a} {b = b} (out_t {n = n}) k h = rel_out_put s n k (kind_by a) (kind_by b) h false false
+    rel_put_by s (Some f) None dt {x = x} {y = y} {a = a} {b = b} (out_t {n = n}) k h = rel_out_put s n k (kind_by a) (kind_by b) h false false
+    rel_put_by s (Some f) (Some f') dt {x = x} {y = y} {a = a} {b = b} (out_t {n = n}) k h = rel_out_put s n k (kind_by a) (kind_by b) h false false
+    rel_put_by s None None dt {x = x} {y = y} {a = a} {b = b} (prim_t {p = p}) k h = rel_prim_put s p x y a b (kind_by a) (kind_by b) false false
+    rel_put_by s None (Some f') dt {x = x} {y = y} {a = a} {b = b} (prim_t {p = p}) k h = rel_prim_put s p x y a b (kind_by a) (kind_by b) false false
+    rel_put_by s (Some f) None dt {x = x} {y = y} {a = a} {b = b} (prim_t {p = p}) k h = rel_prim_put s p x y a b (kind_by a) (kind_by b) false false
+    rel_put_by s (Some f) (Some f') dt {x = x} {y = y} {a = a} {b = b} (prim_t {p = p}) k h = rel_prim_put s p x y a b (kind_by a) (kind_by b) false false
+
+    -- a write that declares nothing
+    pub rel_put_on : {v : World} {i i' : Spot} → SpotT i i' → {o o' x y : Val} {a b : Access} → V K v o o' → KeyT v o a b → V K v x y → Rel (Done K) v (put_on J i o a (kind_by a) x false) (put_on J' i' o' b (kind_by b) y false)
+    unfolding declares_on
+    rel_put_on s o k h = rel_put_by s None None declares_none o k h
+
+    pub rel_keep_flat : {v : World} {i i' : Spot} → SpotT i i' → {p p' : Option (ℕ × ℕ)} {x y : Val} → OptT K.FlatT p p' → V K v x y → Rel (Done K) v (keep_path J i p x) (keep_path J' i' p' y)
+    unfolding keep_path
+    rel_keep_flat s none_t h = rel_skip K
+    rel_keep_flat s (some_t f) h = rel_keep_path s f h
+
+    pub rel_put_to : {c : K.Ctx} {v : World} {g g' : Env} → K.EnvT c v g g' → {a b : Reference} {x y : Val} → ReferenceV K v a b → V K v x y → Rel (Done K) v (put_to J g a x) (put_to J' g' b y)
+    unfolding put_to
+    rel_put_to t h q = rel_bind (rel_put_by h.site _ _ (env_declares t) h.on h.key q) (λ v2 l2 _ _ _. rel_keep_flat h.site h.path (val_later K l2 q))
 
     -- ---- `new`
 

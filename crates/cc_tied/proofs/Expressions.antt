@@ -7,13 +7,14 @@ use Rattle.cc_meaning.specs.Values.{Val, prim, obj, out, Spot, at_site}
 use Rattle.cc_meaning.specs.State.{Env, Path}
 use Rattle.cc_meaning.specs.Monad.{M, ret, ◌>>=◌}
 use Rattle.cc_meaning.specs.Store.{Access, dotted, Built, name_of, flat_of}
+use Rattle.cc_meaning.specs.Acts.{operate}
 use Rattle.cc_meaning.specs.Shapes.{longer, path_of, path_of_target, literal_text}
 use Rattle.cc_meaning.specs.Calls.{Reference, Reach, plain, access, built_global, built_member, value_of, value, member_use, receiver_of}
 use Rattle.cc_meaning.specs.Meaning.{Place, variable_place, slot_place, reference, reach_member, ev, ev_target, evs, ev_fields, updated, get_place, put_place}
 use Rattle.cc_tied.specs.Tied.{ListT, nil_t, cons_t, OptT, none_t, some_t, ValT, prim_t, out_t, obj_t, ReferenceT, plain_t, access_t, global_t, member_t, variable_t, slot_t}
 use Rattle.cc_tied.proofs.Kit.{Kit}
 use Rattle.cc_tied.proofs.Parts.{V, OptV, ListV, ReferenceV, ReachV, PlaceV, Done, Equal, PathT, SiteT, Below, val_later, opt_later, list_later, reference_later, reach_later, place_later, callee_later}
-use Rattle.cc_tied.proofs.Calls.{rel_get, rel_value, rel_value_of, rel_callee_of, rel_apply, rel_construct}
+use Rattle.cc_tied.proofs.Calls.{rel_get, rel_put_to, rel_value, rel_value_of, rel_callee_of, rel_apply, rel_construct}
 
 module _ (K : Kit) (X : Below K) where
   open K use {J, J', tables, tables', World, Later, later, now, SpotT, FlatT, ReadT, WriteT, KeyT, key_later, EnvT, env_later, Ctx, Rel, rel_ret, rel_bind, rel_tables, rel_read_var, rel_write_var}
@@ -61,3 +62,37 @@ module _ (K : Kit) (X : Below K) where
         rel_bind (rel_callee_of K X (later l l2) q) (λ v3 l3 f f' ft.
         rel_bind (k.by v3 (later l (later l2 l3)) g g' (env_later (later l2 l3) t)) (λ v4 l4 vs vs' vt.
         rel_bind (rel_apply K X (later l (later l2 (later l3 l4))) s (callee_later K l4 ft) vt) (λ v5 l5 x y r. rel_ret (plain x) (plain y) (plain_t r))))) }
+
+    -- ---- what is written to
+
+    -- a target, whose variable is also read where Reads asks for it
+    pub record FollowsTarget (Reads : Ref → Ref → Type 0) (t t' : Target) : Type 0 where
+      pub by : (v : World) → Later w v → (g g' : Env) → EnvT c v g g' → Rel (PlaceV K Reads (WriteT c)) v (ev_target J B g t) (ev_target J' B' g' t')
+
+    -- what an assignment by an operator reads, and one without an operator doesn't
+    pub data ReadsBy : Option BinOp → Ref → Ref → Type 0 where
+      not_read : {r r' : Ref} → ReadsBy None r r'
+      is_read : {op : BinOp} {r r' : Ref} → ReadT c r r' → ReadsBy (Some op) r r'
+
+    rel_get_place : {v : World} → Later w v → {g g' : Env} → EnvT c v g g' → (op : BinOp) {a b : Place} → PlaceV K (ReadsBy (Some op)) (WriteT c) v a b → Rel (V K) v (get_place J B g a) (get_place J' B' g' b)
+    unfolding get_place
+    rel_get_place l t op (variable_t s (is_read rd) wr) = rel_read_var s t rd
+    rel_get_place l t op (slot_t h) = rel_get K X l h
+
+    rel_put_place : {Reads : Ref → Ref → Type 0} {v : World} {g g' : Env} → EnvT c v g g' → {a b : Place} {x y : Val} → PlaceV K Reads (WriteT c) v a b → V K v x y → Rel (Done K) v (put_place J g a x) (put_place J' g' b y)
+    unfolding put_place
+    rel_put_place t (variable_t s rd wr) h = rel_write_var s t wr h
+    rel_put_place t (slot_t r) h = rel_put_to K X t r h
+
+    module _ (operates : (v : World) (i i' : Spot) → SpotT i i' → (op : BinOp) → (a b x y : Val) → V K v a b → V K v x y → Rel (V K) v (operate J i op a x) (operate J' i' op b y)) where
+      rel_updated : {v : World} → Later w v → {g g' : Env} → EnvT c v g g' → {i i' : ℕ} → SpotT (at_site i) (at_site i') → (op : Option BinOp) {a b : Place} → PlaceV K (ReadsBy op) (WriteT c) v a b → {m m' : M Val} → ((u : World) → Later v u → Rel (V K) u m m') → Rel (V K) v (updated J B g i op a m) (updated J' B' g' i' op b m')
+      unfolding updated
+      rel_updated {v = v} l t s None h k = k v (now v)
+      rel_updated l t s (Some op) h k = rel_bind (rel_get_place l t op h) (λ v2 l2 x x' q. rel_bind (k v2 l2) (λ v3 l3 y y' r. operates v3 _ _ s op x x' y y' (val_later K l3 q) r))
+
+      pub follows_assign : {i i' : ℕ} → SpotT (at_site i) (at_site i') → (op : Option BinOp) {u u' : Target} {e e' : Expr} → FollowsTarget (ReadsBy op) u u' → FollowsAs (V K) c (path_of_target u) (path_of_target u') e e' → {p p' : Option Path} → FollowsRef c p p' (assign i op u e) (assign i' op u' e')
+      unfolding ev
+      follows_assign s op hu h = record { by = λ v l g g' t.
+          rel_bind (hu.by v l g g' t) (λ v2 l2 a b pt.
+          rel_bind (rel_updated (later l l2) (env_later l2 t) s op pt (λ u lu. h.by u (later l (later l2 lu)) g g' (env_later (later l2 lu) t))) (λ v3 l3 x y q.
+          rel_bind (rel_put_place (env_later (later l2 l3) t) (place_later K l3 pt) q) (λ v4 l4 _ _ _. rel_ret (plain x) (plain y) (plain_t (val_later K l4 q))))) }

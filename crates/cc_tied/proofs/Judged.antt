@@ -44,3 +44,8 @@ module _ (K : Kit) where
   unfolding judged allowed refused is_fatal least_broken rule_unless
   rel_answers true m m' i h = h
   rel_answers false m m' i h = rel_fault i 13
+
+  -- a write to a value that is no object
+  pub rel_prim_write : {A B : Type 0} {R : World → A → B → Type 0} {w : World} {i i' : Spot} (p : Prim) (a b : Access) (x y : Val) (d d' : Bool) (m : M A) (m' : M B) → SpotT i i' → Rel R w (judged J i (writes (prim p) a x d) m) (judged J' i' (writes (prim p) b y d') m')
+  unfolding judged allowed refused is_fatal least_broken write_rule
+  rel_prim_write p a b x y d d' m m' i = rel_fault i 2
