@@ -1,5 +1,6 @@
 pub mod Kit
 pub mod Parts
+pub mod Outcomes
 pub mod Judged
 pub mod Calls
 pub mod Expressions
