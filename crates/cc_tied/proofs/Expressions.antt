@@ -3,21 +3,47 @@ use Rattle.std.proofs.Common.{◌≡◌, refl, sym, ap, ℕ, suc, ◌≤◌, Boo
 use Rattle.cc_ast.specs.Syntax.{Prim, undefined, whole, text, Expr, lit, var, this, fun, list, object, unary, binary, and, or, cond, assign, step, member, index, call, new, comma, cast, tick, Target, to_var, to_member, to_index, Exprs, no_exprs, more_exprs, Fields, no_fields, more_fields}
 use Rattle.cc_ast.specs.declared.operator.BinOp.{BinOp}
 use Rattle.cc_ast.specs.declared.tree.Ref.{Ref}
+use Rattle.cc_ast.specs.declared.tree.Key.{Key}
+use Rattle.cc_ast.specs.declared.operator.UnOp.{UnOp}
 use Rattle.cc_meaning.specs.Values.{Val, prim, obj, out, Spot, at_site}
 use Rattle.cc_meaning.specs.State.{Env, Path}
-use Rattle.cc_meaning.specs.Monad.{M, ret, ◌>>=◌}
-use Rattle.cc_meaning.specs.Store.{Access, dotted, Built, name_of, flat_of}
-use Rattle.cc_meaning.specs.Acts.{operate}
-use Rattle.cc_meaning.specs.Shapes.{longer, path_of, path_of_target, literal_text}
-use Rattle.cc_meaning.specs.Calls.{Reference, Reach, plain, access, built_global, built_member, value_of, value, member_use, receiver_of}
-use Rattle.cc_meaning.specs.Meaning.{Place, variable_place, slot_place, reference, reach_member, ev, ev_target, evs, ev_fields, updated, get_place, put_place}
-use Rattle.cc_tied.specs.Tied.{ListT, nil_t, cons_t, OptT, none_t, some_t, ValT, prim_t, out_t, obj_t, ReferenceT, plain_t, access_t, global_t, member_t, variable_t, slot_t}
+use Rattle.cc_meaning.specs.Monad.{M, ret, ◌>>=◌, with_tables, Mode}
+use Rattle.cc_meaning.specs.Operators.{truthy}
+use Rattle.cc_meaning.specs.Store.{Access, dotted, quoted, runtime, Built, Global, extern, built_in, of_chunk, global_kind, name_of, flat_of}
+use Rattle.cc_meaning.specs.Acts.{operate, operate_one, read_var, runtime_key}
+use Rattle.cc_meaning.specs.Shapes.{site_of, longer, path_of, path_of_target, path_of_key, literal_text, literal_key}
+use Rattle.cc_meaning.specs.Calls.{Reference, Reach, plain, access, built_global, built_member, value_of, value, member_use, Bodies, apply_unary, delete_at, cast_reach}
+use Rattle.cc_meaning.specs.Meaning.{Place, variable_place, slot_place, reference, reach_global, reach_var, reach_member, put_key, key_by, stepped, ev, ev_target, evs, ev_fields, updated, get_place, put_place}
+use Rattle.cc_tied.specs.Tied.{built_of, built_at, RuntimeT, runtime_t, CastT, ListT, nil_t, cons_t, OptT, none_t, some_t, ValT, prim_t, out_t, obj_t, ReferenceT, plain_t, access_t, global_t, member_t, variable_t, slot_t}
 use Rattle.cc_tied.proofs.Kit.{Kit}
-use Rattle.cc_tied.proofs.Parts.{V, OptV, ListV, ReferenceV, ReachV, PlaceV, Done, Equal, PathT, SiteT, Below, val_later, opt_later, list_later, reference_later, reach_later, place_later, callee_later}
-use Rattle.cc_tied.proofs.Calls.{rel_get, rel_put_to, rel_value, rel_value_of, rel_callee_of, rel_apply, rel_construct}
+use Rattle.cc_tied.proofs.Parts.{rel_pick, truthy_tied, V, OptV, ListV, ReferenceV, ReachV, PlaceV, Done, Equal, PathT, SiteT, Below, val_later, opt_later, list_later, reference_later, reach_later, place_later, callee_later}
+use Rattle.cc_tied.proofs.Laws.{ret_bind}
+use Rattle.cc_tied.proofs.Judged.{rel_operate, rel_operate_one, rel_runtime_key, rel_read_this, rel_remove_on}
+use Rattle.cc_tied.proofs.Calls.{rel_get, rel_put_to, rel_put_on, rel_keep_flat, rel_value, rel_value_of, rel_callee_of, rel_apply, rel_construct}
+
+-- a variable, or what a built-in global stands for
+unfoldable reach_built : Mode → ℕ → Env → Ref → Option Built → M Reach
+reach_built J i g r None = read_var J (at_site i) g r >>= λ v. ret (plain v)
+reach_built J i g r (Some b) = ret (built_global i b)
+
+reach_kind : (J : Mode) (i : ℕ) (g : Env) (n : ℕ) (k : Global) → reach_global J i g n k ≡ reach_built J i g (Ref.Global n) (built_at k)
+unfolding reach_global reach_built built_at
+reach_kind J i g n extern = refl
+reach_kind J i g n (built_in b) = refl
+reach_kind J i g n (of_chunk c) = refl
+
+reach_by : (J : Mode) (i : ℕ) (g : Env) (r : Ref) → reach_var J i g r ≡ with_tables (λ T. reach_built J i g r (built_of T r))
+unfolding reach_var reach_built built_of with_tables
+reach_by J i g (Ref.Frame up n) = refl
+reach_by J i g (Ref.Global n) = λ j. with_tables (λ T. reach_kind J i g n (global_kind T n) j)
+
+-- the value of a literal
+pub value_literal : (J : Mode) (B : Bodies) (g : Env) (p : Option Path) (i : ℕ) (q : Prim) → value J B (ev J B g p (lit i q)) ≡ ret (prim q)
+unfolding ev value value_of
+value_literal J B g p i q = ret_bind (plain (prim q)) (value_of J B)
 
 module _ (K : Kit) (X : Below K) where
-  open K use {J, J', tables, tables', World, Later, later, now, SpotT, FlatT, ReadT, WriteT, KeyT, key_later, EnvT, env_later, Ctx, Rel, rel_ret, rel_bind, rel_tables, rel_read_var, rel_write_var}
+  open K use {J, J', tables, tables', World, Later, later, now, SpotT, FlatT, DocT, StandT, ReadT, WriteT, ThisT, QuotedT, WrittenT, read_built, NewT, new_later, new_value, KeyT, key_later, key_runtime, key_quoted, key_written, EnvT, env_later, env_this, Ctx, Rel, rel_as, rel_ret, rel_bind, rel_mark, rel_fault, rel_given, rel_tables, rel_object, rel_array, rel_function, rel_read_var, rel_write_var, rel_cast}
   open X use {B, B', w}
 
   -- two expressions reach what is tied, where the paths that are set to them are p and p'
@@ -34,16 +60,136 @@ module _ (K : Kit) (X : Below K) where
   pub record FollowsAll (c : Ctx) (es es' : Exprs) : Type 0 where
     pub by : (v : World) → Later w v → (g g' : Env) → EnvT c v g g' → Rel (ListV K) v (evs J B g es) (evs J' B' g' es')
 
+  -- the keys of two object literals, whose objects are tied as new ones
+  pub record FollowsFields (c : Ctx) (p p' : Option Path) (fs fs' : Fields) : Type 0 where
+    pub by : (v : World) → Later w v → (g g' : Env) → EnvT c v g g' → (o o' : Val) → NewT v o o' → Rel (Done K) v (ev_fields J B g p o fs) (ev_fields J' B' g' p' o' fs')
+
   -- a property that is reached with a dot
   pub record PropT (p p' : ℕ) : Type 0 where
     pub keys : (v : World) → Later w v → (x y : Val) → V K v x y → KeyT v x (dotted p) (dotted p')
     pub uses : (b : Built) → member_use b (name_of tables (dotted p)) ≡ member_use b (name_of tables' (dotted p'))
 
+  -- a key of a literal
+  pub record NewKeyT (k k' : Key) : Type 0 where
+    pub keys : (v : World) → Later w v → (x y : Val) → NewT v x y → KeyT v x (literal_key k) (literal_key k')
+
+  -- keys between brackets: values on both sides, or one text; or a text that the right has written
+  pub data BracketsT : Expr → Expr → Type 0 where
+    values_t : {k k' : Expr} → literal_text k ≡ None → literal_text k' ≡ None → BracketsT k k'
+    texts_t : {i i' : ℕ} {t : List ℕ} → QuotedT t → BracketsT (lit i (text t)) (lit i' (text t))
+    written_t : {k : Expr} {i' : ℕ} {t : List ℕ} → literal_text k ≡ None → WrittenT t → BracketsT k (lit i' (text t))
+
   pub rel_reference : {v : World} {i i' : ℕ} {p p' : Option Path} {x y : Val} {a b : Access} → SpotT (at_site i) (at_site i') → PathT K p p' → V K v x y → KeyT v x a b → Rel (ReferenceV K) v (reference i p x a) (reference i' p' y b)
   unfolding reference
   rel_reference {i = i} {i' = i'} {p = p} {p' = p'} {x = x} {y = y} {a = a} {b = b} s pt h k = rel_tables _ _ (rel_ret (record { site = i; on = x; key = a; path = flat_of tables p; casts = [] }) (record { site = i'; on = y; key = b; path = flat_of tables' p'; casts = [] }) (record { site = s; on = h; key = k; path = pt.flat; casts = nil_t }))
 
+  -- a value that is reached as one
+  rel_plain : {v : World} {m m' : M Val} → Rel (V K) v m m' → Rel (ReachV K) v (m >>= λ x. ret (plain x)) (m' >>= λ x. ret (plain x))
+  rel_plain h = rel_bind h (λ v2 l2 x y q. rel_ret (plain x) (plain y) (plain_t q))
+
+  no_path : PathT K None None
+  unfolding flat_of
+  no_path = record { flat = none_t }
+
   module _ (c : Ctx) where
+    pub as_value : {p p' : Option Path} {e e' : Expr} → FollowsRef c p p' e e' → FollowsAs (V K) c p p' e e'
+    as_value h = record { by = λ v l g g' t. rel_value K X l (h.by v l g g' t) }
+
+    -- ---- values
+
+    pub follows_lit : (q : Prim) {i i' : ℕ} {p p' : Option Path} → FollowsRef c p p' (lit i q) (lit i' q)
+    unfolding ev
+    follows_lit q = record { by = λ v l g g' t. rel_ret (plain (prim q)) (plain (prim q)) (plain_t prim_t) }
+
+    rel_reach_built : {v : World} {i i' : ℕ} {g g' : Env} {r r' : Ref} → SpotT (at_site i) (at_site i') → EnvT c v g g' → ReadT c r r' → (o : Option Built) → Rel (ReachV K) v (reach_built J i g r o) (reach_built J' i' g' r' o)
+    unfolding reach_built
+    rel_reach_built s t rd None = rel_plain (rel_read_var s t rd)
+    rel_reach_built {i = i} {i' = i'} s t rd (Some b) = rel_ret (built_global i b) (built_global i' b) (global_t s)
+
+    rel_reach_var : {v : World} {i i' : ℕ} {g g' : Env} {r r' : Ref} → SpotT (at_site i) (at_site i') → EnvT c v g g' → ReadT c r r' → Rel (ReachV K) v (reach_var J i g r) (reach_var J' i' g' r')
+    rel_reach_var {v = v} {i = i} {i' = i'} {g = g} {g' = g'} {r = r} {r' = r'} s t rd = rw (reach_by J i g r, reach_by J' i' g' r') (rel_tables _ _ (subst (λ z. Rel (ReachV K) v (reach_built J i g r (built_of tables r)) (reach_built J' i' g' r' z)) (read_built rd) (rel_reach_built s t rd (built_of tables r))))
+
+    pub follows_var : {i i' : ℕ} → SpotT (at_site i) (at_site i') → {r r' : Ref} → ReadT c r r' → {p p' : Option Path} → FollowsRef c p p' (var i r) (var i' r')
+    unfolding ev
+    follows_var s rd = record { by = λ v l g g' t. rel_reach_var s t rd }
+
+    pub follows_this : {i i' : ℕ} → SpotT (at_site i) (at_site i') → ThisT c → {p p' : Option Path} → FollowsRef c p p' (this i) (this i')
+    unfolding ev
+    follows_this s h = record { by = λ v l g g' t. rel_plain (rel_read_this K s (env_this h t)) }
+
+    pub follows_fun : {i i' : ℕ} → SpotT (at_site i) (at_site i') → {f f' : ℕ} → StandT c f f' → {p p' : Option Path} → FollowsRef c p p' (fun i f) (fun i' f')
+    unfolding ev
+    follows_fun s h = record { by = λ v l g g' t. rel_plain (rel_function s h t) }
+
+    pub follows_list : {i i' : ℕ} {es es' : Exprs} → FollowsAll c es es' → {p p' : Option Path} → FollowsRef c p p' (list i es) (list i' es')
+    unfolding ev
+    follows_list h = record { by = λ v l g g' t. rel_bind (h.by v l g g' t) (λ v2 l2 vs vs' q. rel_plain (rel_array q)) }
+
+    pub follows_no_exprs : FollowsAll c no_exprs no_exprs
+    unfolding ev
+    follows_no_exprs = record { by = λ v l g g' t. rel_ret [] [] nil_t }
+
+    pub follows_more_exprs : {e e' : Expr} {es es' : Exprs} → Follows c e e' → FollowsAll c es es' → FollowsAll c (more_exprs e es) (more_exprs e' es')
+    unfolding ev
+    follows_more_exprs h k = record { by = λ v l g g' t.
+        rel_bind (h.by v l g g' t) (λ v2 l2 x y q.
+        rel_bind (k.by v2 (later l l2) g g' (env_later l2 t)) (λ v3 l3 vs vs' r. rel_ret (x ∷ vs) (y ∷ vs') (cons_t (val_later K l3 q) r))) }
+
+    pub follows_object : {i i' : ℕ} {p p' : Option Path} {fs fs' : Fields} → FollowsFields c p p' fs fs' → FollowsRef c p p' (object i fs) (object i' fs')
+    unfolding ev
+    follows_object h = record { by = λ v l g g' t.
+        rel_bind rel_object (λ v2 l2 o o' q.
+        rel_bind (h.by v2 (later l l2) g g' (env_later l2 t) o o' q) (λ v3 l3 _ _ _. rel_ret (plain o) (plain o') (plain_t (val_later K l3 (new_value q))))) }
+
+    pub follows_no_fields : {p p' : Option Path} → FollowsFields c p p' no_fields no_fields
+    unfolding ev
+    follows_no_fields = record { by = λ v l g g' t o o' q. rel_ret tt tt tt }
+
+    rel_put_key : {v : World} {i i' : ℕ} → SpotT (at_site i) (at_site i') → {o o' x y : Val} {a b : Access} {p p' : Option Path} → PathT K p p' → V K v o o' → KeyT v o a b → V K v x y → Rel (Done K) v (put_key J i o a p x) (put_key J' i' o' b p' y)
+    unfolding put_key
+    rel_put_key s pt o k h = rel_bind (rel_put_on K X s o k h) (λ v2 l2 _ _ _. rel_tables _ _ (rel_keep_flat K X s pt.flat (val_later K l2 h)))
+
+    pub follows_more_fields : {p p' : Option Path} {k k' : Key} {e e' : Expr} {fs fs' : Fields} → SpotT (at_site (site_of e)) (at_site (site_of e')) → NewKeyT k k' → PathT K (path_of_key p k) (path_of_key p' k') → FollowsAs (V K) c (path_of_key p k) (path_of_key p' k') e e' → FollowsFields c p p' fs fs' → FollowsFields c p p' (more_fields k e fs) (more_fields k' e' fs')
+    unfolding ev
+    follows_more_fields s kt pt h hs = record { by = λ v l g g' t o o' q.
+        rel_bind (h.by v l g g' t) (λ v2 l2 x y r.
+        rel_bind (rel_put_key s pt (val_later K l2 (new_value q)) (kt.keys v2 (later l l2) o o' (new_later l2 q)) r) (λ v3 l3 _ _ _.
+        hs.by v3 (later l (later l2 l3)) g g' (env_later (later l2 l3) t) o o' (new_later (later l2 l3) q))) }
+
+    -- ---- operators
+
+    pub follows_binary : {i i' : ℕ} → SpotT (at_site i) (at_site i') → (op : BinOp) {a a' b b' : Expr} → Follows c a a' → Follows c b b' → {p p' : Option Path} → FollowsRef c p p' (binary i op a b) (binary i' op a' b')
+    unfolding ev
+    follows_binary s op h k = record { by = λ v l g g' t.
+        rel_bind (h.by v l g g' t) (λ v2 l2 x x' q.
+        rel_bind (k.by v2 (later l l2) g g' (env_later l2 t)) (λ v3 l3 y y' r. rel_plain (rel_operate K s op (val_later K l3 q) r))) }
+
+    pub follows_and : {i i' : ℕ} {a a' b b' : Expr} → Follows c a a' → Follows c b b' → {p p' : Option Path} → FollowsRef c p p' (and i a b) (and i' a' b')
+    unfolding ev
+    follows_and h k = record { by = λ v l g g' t.
+        rel_bind (h.by v l g g' t) (λ v2 l2 x y q. rel_plain (rel_pick K (truthy x) (truthy y) (truthy_tied K q) (k.by v2 (later l l2) g g' (env_later l2 t)) (rel_ret x y q))) }
+
+    pub follows_or : {i i' : ℕ} {a a' b b' : Expr} → Follows c a a' → Follows c b b' → {p p' : Option Path} → FollowsRef c p p' (or i a b) (or i' a' b')
+    unfolding ev
+    follows_or h k = record { by = λ v l g g' t.
+        rel_bind (h.by v l g g' t) (λ v2 l2 x y q. rel_plain (rel_pick K (truthy x) (truthy y) (truthy_tied K q) (rel_ret x y q) (k.by v2 (later l l2) g g' (env_later l2 t)))) }
+
+    pub follows_cond : {i i' : ℕ} {e e' a a' b b' : Expr} → Follows c e e' → Follows c a a' → Follows c b b' → {p p' : Option Path} → FollowsRef c p p' (cond i e a b) (cond i' e' a' b')
+    unfolding ev
+    follows_cond h k m = record { by = λ v l g g' t.
+        rel_bind (h.by v l g g' t) (λ v2 l2 x y q. rel_plain (rel_pick K (truthy x) (truthy y) (truthy_tied K q) (k.by v2 (later l l2) g g' (env_later l2 t)) (m.by v2 (later l l2) g g' (env_later l2 t)))) }
+
+    pub follows_comma : {i i' : ℕ} {a a' b b' : Expr} → Follows c a a' → Follows c b b' → {p p' : Option Path} → FollowsRef c p p' (comma i a b) (comma i' a' b')
+    unfolding ev
+    follows_comma h k = record { by = λ v l g g' t.
+        rel_bind (h.by v l g g' t) (λ v2 l2 x y q. rel_plain (k.by v2 (later l l2) g g' (env_later l2 t))) }
+
+    pub follows_tick : (n : ℕ) {i i' : ℕ} {e e' : Expr} → FollowsRef c None None e e' → {p p' : Option Path} → FollowsRef c p p' (tick i n e) (tick i' n e')
+    unfolding ev
+    follows_tick n h = record { by = λ v l g g' t. rel_bind (rel_mark n) (λ v2 l2 _ _ _. h.by v2 (later l l2) g g' (env_later l2 t)) }
+
+    -- ---- what is reached
+
     rel_member_on : {v : World} → Later w v → {i i' : ℕ} → SpotT (at_site i) (at_site i') → {p p' : Option Path} → PathT K p p' → {q q' : ℕ} → PropT q q' → {a b : Reach} → ReachV K v a b → Rel (ReachV K) v (reach_member J B i p q a) (reach_member J' B' i' p' q' b)
     unfolding reach_member
     rel_member_on l {i = i} {i' = i'} s pt {q = q} {q' = q'} kt (global_t {b = b} j) = rel_tables _ _ (rel_ret (built_member i b (name_of tables (dotted q))) (built_member i' b (name_of tables' (dotted q'))) (member_t s (kt.uses b)))

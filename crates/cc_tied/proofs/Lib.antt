@@ -1,3 +1,4 @@
+pub mod Laws
 pub mod Kit
 pub mod Parts
 pub mod Outcomes
