@@ -4,3 +4,4 @@ pub mod Outcomes
 pub mod Judged
 pub mod Calls
 pub mod Expressions
+pub mod Statements
