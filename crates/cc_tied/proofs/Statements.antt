@@ -1,109 +1,21 @@
 -- Each statement keeps a relation between runs.
-use Rattle.std.proofs.Common.{◌≡◌, refl, ℕ, zero, suc, ◌≤◌, Bool, true, false, List, [], ◌∷◌, Option, Some, None, arith}
-use Rattle.cc_ast.specs.Syntax.{Prim, undefined, Expr, Declarator, ForInit, no_init, init_value, init_vars, ForTarget, Stmt, simple, vars, fun_decl, if, while, do_while, for, for_in, return, throw, break, continue, label, switch, try, pay_stmt, Stmts, no_stmts, more_stmts, MaybeStmts, absent, present, Cases, no_cases, more_cases}
+use Rattle.std.proofs.Common.{◌≡◌, refl, ℕ, suc, Bool, true, false, List, [], ◌∷◌, Option, Some, None, subst, arith}
+use Rattle.cc_ast.specs.Syntax.{Prim, undefined, Expr, Declarator, ForInit, no_init, init_value, init_vars, Target, ForTarget, in_target, in_declared, Stmt, simple, vars, fun_decl, if, while, do_while, for, for_in, return, throw, break, continue, label, switch, try, pay_stmt, Stmts, no_stmts, more_stmts, MaybeStmts, absent, present, Cases, no_cases, more_cases}
 use Rattle.cc_ast.specs.declared.tree.Ref.{Ref}
-use Rattle.cc_meaning.specs.Values.{Val, prim}
-use Rattle.cc_meaning.specs.Operators.{truthy, strict_equal, list_eq, is_in}
-use Rattle.cc_meaning.specs.State.{Code, Env}
-use Rattle.cc_meaning.specs.Monad.{M, ret, skip, ◌>>=◌, Way, pick, Mode}
+use Rattle.cc_meaning.specs.Values.{Val, prim, at_site}
+use Rattle.cc_meaning.specs.Operators.{truthy, strict_equal}
+use Rattle.cc_meaning.specs.State.{Env}
+use Rattle.cc_meaning.specs.Monad.{M, skip, ◌>>=◌, Way, Mode}
+use Rattle.cc_meaning.specs.Acts.{probe}
 use Rattle.cc_meaning.specs.Shapes.{path_of_ref}
-use Rattle.cc_meaning.specs.Meaning.{Comp, normal, returns, breaks, continues, next, next_turn, labelled, unbroken, resume, result, turns, do_turns, each_name, value_at, test_at, only_run, set_variable, declare, begin_for, begin_names, put_name, hoist_one, hoist, thrown_at, ex, exs, ex_catch, ex_finally, ex_cases, run_cases}
-use Rattle.cc_tied.specs.Tied.{prim_t, went_t, thrown_t, normal_t, returns_t, breaks_t, continues_t}
+use Rattle.cc_meaning.specs.Meaning.{Place, put_place, Comp, returns, breaks, continues, next, labelled, unbroken, each_name, value_at, test_at, only_run, set_variable, declare, begin_for, begin_names, put_name, hoist_one, hoist, thrown_at, ex, exs, ex_catch, ex_finally, ex_cases, run_cases}
+use Rattle.cc_tied.specs.Tied.{prim_t, went_t, thrown_t, returns_t, breaks_t, continues_t, variable_t, slot_t}
 use Rattle.cc_tied.proofs.Kit.{Kit}
-use Rattle.cc_tied.proofs.Parts.{V, CompV, WayV, CodeV, ReturnedV, Done, Equal, SiteT, Below, val_later, way_later, truthy_tied, rel_pick, rel_skip}
-use Rattle.cc_tied.proofs.Expressions.{FollowsAs, Follows}
-
--- ---- ends of statements
-
-module _ (K : Kit) where
-  open K use {World, Rel, rel_ret, rel_raise}
-
-  normal_end : {v : World} → Rel (CompV K) v (ret normal) (ret normal)
-  normal_end = rel_ret normal normal normal_t
-
-  pub rel_next : {v : World} → {a b : Comp} {m m' : M Comp} → CompV K v a b → Rel (CompV K) v m m' → Rel (CompV K) v (next a m) (next b m')
-  unfolding next
-  rel_next normal_t h = h
-  rel_next (returns_t s q) h = rel_ret _ _ (returns_t s q)
-  rel_next (breaks_t {l = j}) h = rel_ret (breaks j) (breaks j) breaks_t
-  rel_next (continues_t {l = j}) h = rel_ret (continues j) (continues j) continues_t
-
-  pub rel_next_turn : (ls : List (List ℕ)) {v : World} → {a b : Comp} {m m' : M Comp} → CompV K v a b → Rel (CompV K) v m m' → Rel (CompV K) v (next_turn ls a m) (next_turn ls b m')
-  unfolding next_turn
-  rel_next_turn ls normal_t h = h
-  rel_next_turn ls (returns_t s q) h = rel_ret _ _ (returns_t s q)
-  rel_next_turn ls (breaks_t {l = None}) h = normal_end
-  rel_next_turn ls (breaks_t {l = Some j}) h = rel_ret (breaks (Some j)) (breaks (Some j)) breaks_t
-  rel_next_turn ls (continues_t {l = None}) h = h
-  rel_next_turn ls (continues_t {l = Some j}) h = rel_pick K (is_in j ls) (is_in j ls) refl h (rel_ret (continues (Some j)) (continues (Some j)) continues_t)
-
-  pick_tied : {v : World} (b : Bool) {x y : Comp} → CompV K v x x → CompV K v y y → CompV K v (pick b x y) (pick b x y)
-  pick_tied true h k = h
-  pick_tied false h k = k
-
-  pub labelled_tied : (l : List ℕ) {v : World} → {a b : Comp} → CompV K v a b → CompV K v (labelled l a) (labelled l b)
-  unfolding labelled
-  labelled_tied l normal_t = normal_t
-  labelled_tied l (returns_t s q) = returns_t s q
-  labelled_tied l (breaks_t {l = None}) = breaks_t
-  labelled_tied l (breaks_t {l = Some m}) = pick_tied (list_eq l m) normal_t breaks_t
-  labelled_tied l continues_t = continues_t
-
-  pub unbroken_tied : {v : World} → {a b : Comp} → CompV K v a b → CompV K v (unbroken a) (unbroken b)
-  unfolding unbroken
-  unbroken_tied normal_t = normal_t
-  unbroken_tied (returns_t s q) = returns_t s q
-  unbroken_tied (breaks_t {l = None}) = normal_t
-  unbroken_tied (breaks_t {l = Some m}) = breaks_t
-  unbroken_tied continues_t = continues_t
-
-  pub rel_resume : {v : World} → {a b : Way Comp} → WayV K v a b → Rel (CompV K) v (resume a) (resume b)
-  unfolding resume
-  rel_resume (went_t {a = x} {b = x'} r) = rel_ret x x' r
-  rel_resume (thrown_t r) = rel_raise r
-
-  -- what a function gives
-  pub result_tied : {v : World} {f f' : Code} → CodeV K v f f' → {a b : Comp} → CompV K v a b → ReturnedV K v (result f a) (result f' b)
-  unfolding result
-  result_tied c normal_t = record { site = c.site; value = prim_t }
-  result_tied c (returns_t s q) = record { site = s; value = q }
-  result_tied c breaks_t = record { site = c.site; value = prim_t }
-  result_tied c continues_t = record { site = c.site; value = prim_t }
-
--- ---- loops
-
-module _ (K : Kit) (ls : List (List ℕ)) where
-  open K use {World, Later, later, now, bound, bound', bound_later, bound_later', Rel, rel_bind, rel_pay_less}
-
-  pub rel_turns : (n n' : ℕ) (v : World) → suc (bound v) ≤ n → suc (bound' v) ≤ n' → {t t' : M Bool} {r r' : M (Unit {0})} {b b' : M Comp} → ((u : World) → Later v u → Rel (Equal K) u t t') → ((u : World) → Later v u → Rel (Done K) u r r') → ((u : World) → Later v u → Rel (CompV K) u b b') → Rel (CompV K) v (turns ls n t r b) (turns ls n' t' r' b')
-  unfolding turns
-  rel_turns zero n' v le le' ht hr hb = absurd (omega arith)
-  rel_turns (suc n) zero v le le' ht hr hb = absurd (omega arith)
-  rel_turns (suc n) (suc n') v le le' ht hr hb =
-      rel_bind (ht v (now v)) (λ v2 l2 x x' e. rel_pick K x x' e
-      (rel_pay_less (λ v3 l3 less less'. rel_bind (hb v3 (later l2 l3)) (λ v4 l4 a b q. rel_next_turn K ls q
-      (rel_bind (hr v4 (later l2 (later l3 l4))) (λ v5 l5 _ _ _.
-      rel_turns n n' v5 (omega (arith, bound_later l2, bound_later l4, bound_later l5)) (omega (arith, bound_later' l2, bound_later' l4, bound_later' l5)) (λ u lu. ht u (later l2 (later l3 (later l4 (later l5 lu))))) (λ u lu. hr u (later l2 (later l3 (later l4 (later l5 lu))))) (λ u lu. hb u (later l2 (later l3 (later l4 (later l5 lu))))))))))
-      (normal_end K))
-
-  pub rel_do_turns : (n n' : ℕ) (v : World) → suc (bound v) ≤ n → suc (bound' v) ≤ n' → {t t' : M Bool} {b b' : M Comp} → ((u : World) → Later v u → Rel (Equal K) u t t') → ((u : World) → Later v u → Rel (CompV K) u b b') → Rel (CompV K) v (do_turns ls n t b) (do_turns ls n' t' b')
-  unfolding do_turns
-  rel_do_turns zero n' v le le' ht hb = absurd (omega arith)
-  rel_do_turns (suc n) zero v le le' ht hb = absurd (omega arith)
-  rel_do_turns (suc n) (suc n') v le le' ht hb =
-      rel_pay_less (λ v2 l2 less less'. rel_bind (hb v2 l2) (λ v3 l3 a b q. rel_next_turn K ls q
-      (rel_bind (ht v3 (later l2 l3)) (λ v4 l4 x x' e. rel_pick K x x' e
-      (rel_do_turns n n' v4 (omega (arith, bound_later l3, bound_later l4)) (omega (arith, bound_later' l3, bound_later' l4)) (λ u lu. ht u (later l2 (later l3 (later l4 lu)))) (λ u lu. hb u (later l2 (later l3 (later l4 lu)))))
-      (normal_end K)))))
-
-  pub rel_each : (ns : List (List ℕ)) {v : World} {p p' : List ℕ → M Bool} {q q' : List ℕ → M (Unit {0})} {b b' : M Comp} → ((u : World) → Later v u → (n : List ℕ) → Rel (Equal K) u (p n) (p' n)) → ((u : World) → Later v u → (n : List ℕ) → Rel (Done K) u (q n) (q' n)) → ((u : World) → Later v u → Rel (CompV K) u b b') → Rel (CompV K) v (each_name ls p q b ns) (each_name ls p' q' b' ns)
-  unfolding each_name
-  rel_each [] hp hq hb = normal_end K
-  rel_each (n ∷ ns) {v = v} hp hq hb =
-      rel_bind (hp v (now v) n) (λ v2 l2 x x' e. rel_pick K x x' e
-      (rel_pay_less (λ v3 l3 less less'. rel_bind (hq v3 (later l2 l3) n) (λ v4 l4 _ _ _. rel_bind (hb v4 (later l2 (later l3 l4))) (λ v5 l5 a b r. rel_next_turn K ls r
-      (rel_each ns (λ u lu. hp u (later l2 (later l3 (later l4 (later l5 lu))))) (λ u lu. hq u (later l2 (later l3 (later l4 (later l5 lu))))) (λ u lu. hb u (later l2 (later l3 (later l4 (later l5 lu))))))))))
-      (rel_each ns (λ u lu. hp u (later l2 lu)) (λ u lu. hq u (later l2 lu)) (λ u lu. hb u (later l2 lu))))
+use Rattle.cc_tied.proofs.Parts.{V, PlaceV, CompV, WayV, Done, Equal, SiteT, Below, val_later, way_later, truthy_tied, rel_pick, rel_skip}
+use Rattle.cc_tied.proofs.Judged.{rel_probe_on, rel_walk_on}
+use Rattle.cc_tied.proofs.Calls.{rel_put_to}
+use Rattle.cc_tied.proofs.Ends.{normal_end, rel_next, labelled_tied, unbroken_tied, rel_resume, rel_turns, rel_do_turns, rel_each}
+use Rattle.cc_tied.proofs.Expressions.{FollowsAs, Follows, FollowsTarget}
 
 -- a statement that declares a function
 unfoldable pub declares_function : Stmt → Bool
@@ -318,6 +230,38 @@ module _ (K : Kit) (X : Below K) where
     pub follows_for : {i i' : ℕ} {h h' : ForInit} {e e' o o' : Option Expr} {b b' : Stmts} → FollowsInit c h h' → FollowsTest c e e' → FollowsOnly c o o' → FollowsStmts c b b' → FollowsStmt c (for i h e o b) (for i' h' e' o' b')
     unfolding ex
     follows_for hi he ho k = record { by = λ v l g g' t ls. rel_bind (hi.by v l g g' t) (λ v1 l1 _ _ _. rel_budget (λ v2 l2 n n' le le'. rel_turns K ls (suc n) (suc n') v2 (omega arith) (omega arith) (λ u lu. he.by u (later l (later l1 (later l2 lu))) g g' (env_later (later l1 (later l2 lu)) t)) (λ u lu. ho.by u (later l (later l1 (later l2 lu))) g g' (env_later (later l1 (later l2 lu)) t)) (λ u lu. k.by u (later l (later l1 (later l2 lu))) g g' (env_later (later l1 (later l2 lu)) t) []))) }
+
+    -- ---- `for-in`
+
+    rel_place : {Reads : Ref → Ref → Type 0} {v : World} {g g' : Env} → EnvT c v g g' → {a b : Place} {x y : Val} → PlaceV K Reads (WriteT c) v a b → V K v x y → Rel (Done K) v (put_place J g a x) (put_place J' g' b y)
+    unfolding put_place
+    rel_place t (variable_t s rd wr) h = rel_write_var s t wr h
+    rel_place t (slot_t r) h = rel_put_to K X t r h
+
+    pub follows_in_target : {Reads : Ref → Ref → Type 0} {u u' : Target} → FollowsTarget K X c Reads u u' → FollowsNames c (in_target u) (in_target u')
+    unfolding begin_names put_name
+    follows_in_target h = record {
+      begins = λ v l g g' t. rel_skip K;
+      puts = λ v l g g' t n. rel_bind (h.by v l g g' t) (λ v2 l2 a b q. rel_place (env_later l2 t) q prim_t);
+    }
+
+    pub follows_in_declared : {d d' : Declarator} → SiteT K d.site d'.site → WriteT c d.variable d'.variable → FollowsSet c d d' → FollowsNames c (in_declared d) (in_declared d')
+    unfolding begin_names put_name
+    follows_in_declared s wt h = record {
+      begins = λ v l g g' t. h.by v l g g' t;
+      puts = λ v l g g' t n. rel_write_var s t wt prim_t;
+    }
+
+    pub follows_for_in : {i i' : ℕ} → SiteT K i i' → {u u' : ForTarget} {e e' : Expr} {b b' : Stmts} → FollowsNames c u u' → Follows K X c e e' → FollowsStmts c b b' → FollowsStmt c (for_in i u e b) (for_in i' u' e' b')
+    unfolding ex value_at
+    follows_for_in {i = i} {i' = i'} s {u = u} {u' = u'} {b = b} {b' = b'} hu h k = record {
+      by = λ v l g g' t ls.
+          rel_bind (hu.begins v l g g' t) (λ v2 l2 _ _ _.
+          rel_bind (h.by v2 (later l l2) g g' (env_later l2 t)) (λ v3 l3 x x' q.
+          rel_bind (rel_walk_on K s q) (λ v4 l4 ns ns' e.
+          subst (λ z. Rel (CompV K) v4 (each_name ls (probe J (at_site i) x) (put_name J B g u) (exs J B g [] b) ns) (each_name ls (probe J' (at_site i') x') (put_name J' B' g' u') (exs J' B' g' [] b') z)) e
+          (rel_each K ls ns (λ v5 l5 n. rel_probe_on K s (val_later K (later l4 l5) q) n) (λ v5 l5 n. hu.puts v5 (later l (later l2 (later l3 (later l4 l5)))) g g' (env_later (later l2 (later l3 (later l4 l5))) t) n) (λ v5 l5. k.by v5 (later l (later l2 (later l3 (later l4 l5)))) g g' (env_later (later l2 (later l3 (later l4 l5))) t) [])))));
+    }
 
     -- ---- `switch`
 
