@@ -5,3 +5,5 @@ pub mod Outcomes
 pub mod Judged
 pub mod Calls
 pub mod Expressions
+pub mod Ends
+pub mod Statements
