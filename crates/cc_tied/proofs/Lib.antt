@@ -5,6 +5,7 @@ pub mod Outcomes
 pub mod Judged
 pub mod Calls
 pub mod Expressions
+pub mod AtValues
 pub mod Ends
 pub mod Statements
 pub mod Turns
