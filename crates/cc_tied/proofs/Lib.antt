@@ -1,3 +1,5 @@
+pub mod Sim
+pub mod Upkeep
 pub mod Kit
 pub mod Parts
 pub mod Outcomes
