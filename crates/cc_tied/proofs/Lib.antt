@@ -1,3 +1,5 @@
+pub mod Equal
+pub mod Blind
 pub mod Sim
 pub mod Upkeep
 pub mod Kit
