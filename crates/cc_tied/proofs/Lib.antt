@@ -1,3 +1,4 @@
+pub mod EqualUpkeep
 pub mod Equal
 pub mod Blind
 pub mod Sim
