@@ -9,3 +9,8 @@ pub mod AtValues
 pub mod Ends
 pub mod Statements
 pub mod Turns
+pub mod Sim
+pub mod Upkeep
+pub mod Blind
+pub mod Equal
+pub mod EqualUpkeep
