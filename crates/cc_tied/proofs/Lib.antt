@@ -1,3 +1,4 @@
+pub mod EqualModes
 pub mod EqualUpkeep
 pub mod Equal
 pub mod Blind
