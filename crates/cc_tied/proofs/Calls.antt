@@ -13,16 +13,27 @@ use Rattle.cc_tied.proofs.Kit.{Kit}
 use Rattle.cc_tied.proofs.Parts.{V, OptV, ListV, CodeV, ReturnedV, ReferenceV, ReachV, CalleeV, CastsT, Done, Equal, Below, val_later, opt_later, list_later, code_later, reference_later, rel_skip, rel_tell, rel_tell_end, rel_show_all, rel_show_receiver, list_on}
 use Rattle.cc_tied.proofs.Judged.{rel_prim_called, rel_out_called, rel_calls_inner, rel_answers, rel_prim_write}
 
-unfoldable first_of_views : List Val → Val
+-- the first of some values, and those after it
+unfoldable pub first_of_views : List Val → Val
 first_of_views [] = prim undefined
 first_of_views (v ∷ vs) = v
 
-unfoldable rest_of_views : List Val → List Val
+unfoldable pub rest_of_views : List Val → List Val
 rest_of_views [] = []
 rest_of_views (v ∷ vs) = vs
 
 module _ (K : Kit) where
   open K use {J, J', World, Later, later, now, bound, bound', bound_later, bound_later', SpotT, FunT, RunsT, runs_code, O, KeyT, key_later, Rel, rel_ret, rel_bind, rel_raise, rel_attempt, rel_pay_less, rel_tables, rel_fault, rel_say, rel_show, rel_next_reply, rel_view, rel_views, rel_runs, rel_enters, rel_leaves, rel_read, rel_out_read, rel_prim_read, rel_take_path, rel_cast, rel_method, rel_method_read, rel_instance, rel_use, DeclaresT, declares_none, env_declares, rel_write, rel_out_write, rel_keep_path}
+
+  pub first_t : {v : World} {vs vs' : List Val} → ListV K v vs vs' → V K v (first_of_views vs) (first_of_views vs')
+  unfolding first_of_views
+  first_t nil_t = prim_t
+  first_t (cons_t h t) = h
+
+  pub rest_t : {v : World} {vs vs' : List Val} → ListV K v vs vs' → ListV K v (rest_of_views vs) (rest_of_views vs')
+  unfolding rest_of_views
+  rest_t nil_t = nil_t
+  rest_t (cons_t h t) = t
 
   module _ (X : Below K) where
     open X use {B, B', w, tied}
@@ -53,14 +64,6 @@ module _ (K : Kit) where
         (λ given vs. judged J i (Rattle.cc_meaning.specs.Judge.calls_inner given) (inner_call J B i (first_of_views vs) (first_of_views (rest_of_views vs)) (rest_of_views (rest_of_views vs))))
         (λ given vs. judged J' i' (Rattle.cc_meaning.specs.Judge.calls_inner given) (inner_call J' B' i' (first_of_views vs) (first_of_views (rest_of_views vs)) (rest_of_views (rest_of_views vs))))
         (λ given vs vs' h. rel_calls_inner K given _ _ s (rel_inner_call l s (first_t h) (first_t (rest_t h)) (rest_t (rest_t h))))
-      where
-        first_t : {v : World} {vs vs' : List Val} → ListV K v vs vs' → V K v (first_of_views vs) (first_of_views vs')
-        first_t nil_t = prim_t
-        first_t (cons_t h t) = h
-
-        rest_t : {v : World} {vs vs' : List Val} → ListV K v vs vs' → ListV K v (rest_of_views vs) (rest_of_views vs')
-        rest_t nil_t = nil_t
-        rest_t (cons_t h t) = t
 
     pub rel_inners : {i i' : Spot} → SpotT i i' → (cs : List Inner) {v : World} → Later w v → Rel (Done K) v (inners J B i cs) (inners J' B' i' cs)
     unfolding inners

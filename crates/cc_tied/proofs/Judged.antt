@@ -20,7 +20,7 @@ use Rattle.cc_tied.proofs.Parts.{V, OptV, Done, Equal, val_later}
 use Rattle.cc_tied.proofs.Outcomes.{OutcomeT, gives_t, breaks_t, binary_tied, unary_tied, key_text_tied}
 
 module _ (K : Kit) where
-  open K use {J, J', World, SpotT, O, KeyT, Rel, rel_ret, rel_bind, rel_fault, rel_breach, rel_equal, rel_remove, rel_probe, rel_walk, rel_typeof, rel_instance_of}
+  open K use {J, J', World, Later, now, SpotT, O, KeyT, Rel, rel_ret, rel_bind, rel_fault, rel_breach, rel_equal, rel_remove, rel_probe, rel_walk, rel_typeof, rel_instance_of}
 
   -- a callee that is no object
   pub rel_prim_called : {A B : Type 0} {R : World → A → B → Type 0} {w : World} {i i' : Spot} (p : Prim) (m : M A) (m' : M B) → SpotT i i' → Rel R w (judged J i (calls (prim p)) m) (judged J' i' (calls (prim p)) m')
@@ -53,15 +53,21 @@ module _ (K : Kit) where
 
   -- ---- operators
 
-  rel_refused : {A B : Type 0} {R : World → A → B → Type 0} {w : World} {i i' : Spot} → SpotT i i' → (fatal : Bool) (r : ℕ) {m : M A} {m' : M B} → ((v : World) → Rel R v m m') → Rel R w (refused J i fatal r m) (refused J' i' fatal r m')
+  pub rel_refused : {A B : Type 0} {R : World → A → B → Type 0} {w : World} {i i' : Spot} → SpotT i i' → (fatal : Bool) (r : ℕ) {m : M A} {m' : M B} → ((v : World) → Later w v → Rel R v m m') → Rel R w (refused J i fatal r m) (refused J' i' fatal r m')
   unfolding refused
   rel_refused i true r h = rel_fault i r
-  rel_refused i false r h = rel_bind (rel_breach i r) (λ v l a b u. h v)
+  rel_refused i false r h = rel_bind (rel_breach i r) (λ v l a b u. h v l)
+
+  -- two acts that break the same rule
+  pub rel_allowed : {A B : Type 0} {R : World → A → B → Type 0} {w : World} {i i' : Spot} → SpotT i i' → (a a' : Act) → ((r : ℕ) → is_fatal a r ≡ is_fatal a' r) → (o : Option ℕ) {m : M A} {m' : M B} → ((v : World) → Later w v → Rel R v m m') → Rel R w (allowed J i a o m) (allowed J' i' a' o m')
+  unfolding allowed
+  rel_allowed {w = w} i a a' e None h = h w (now w)
+  rel_allowed {R = R} {w = w} {i = i} {i' = i'} s a a' e (Some r) {m = m} {m' = m'} h = subst (λ z. Rel R w (refused J i (is_fatal a r) r m) (refused J' i' z r m')) (e r) (rel_refused s (is_fatal a r) r h)
 
   rel_outcome : {w : World} {i i' : Spot} → SpotT i i' → (op op' : Op) (vs vs' : List Val) {o o' : Outcome} → OutcomeT o o' → Rel (V K) w (allowed J i (operates op vs) (outcome_rule o) (ret (outcome_value o))) (allowed J' i' (operates op' vs') (outcome_rule o') (ret (outcome_value o')))
   unfolding allowed is_fatal outcome_rule outcome_value
   rel_outcome i op op' vs vs' (gives_t {p = p}) = rel_ret (prim p) (prim p) prim_t
-  rel_outcome i op op' vs vs' (breaks_t {r = r}) = rel_refused i _ r (λ v. rel_ret (prim undefined) (prim undefined) prim_t)
+  rel_outcome i op op' vs vs' (breaks_t {r = r}) = rel_refused i _ r (λ v l. rel_ret (prim undefined) (prim undefined) prim_t)
 
   rel_binary : {w : World} {i i' : Spot} → SpotT i i' → (op : BinOp) {a b x y : Val} → V K w a b → V K w x y → Rel (V K) w (allowed J i (operates (binary_op op) (a ∷ x ∷ [])) (outcome_rule (binary_of op a x)) (ret (outcome_value (binary_of op a x)))) (allowed J' i' (operates (binary_op op) (b ∷ y ∷ [])) (outcome_rule (binary_of op b y)) (ret (outcome_value (binary_of op b y))))
   rel_binary {w = w} i op {a = a} {b = b} {x = x} {y = y} h k = rel_equal h k (λ e. rel_outcome i (binary_op op) (binary_op op) (a ∷ x ∷ []) (b ∷ y ∷ []) (binary_tied (O w) op h k e))
@@ -139,5 +145,5 @@ module _ (K : Kit) where
 
   pub rel_read_this : {w : World} {i i' : Spot} → SpotT i i' → {a b : Option Val} → OptV K w a b → Rel (V K) w (read_this J i a) (read_this J' i' b)
   unfolding read_this judged allowed is_fatal least_broken this_rule or_undefined
-  rel_read_this i none_t = rel_refused i false 4 (λ v. rel_ret (prim undefined) (prim undefined) prim_t)
+  rel_read_this i none_t = rel_refused i false 4 (λ v l. rel_ret (prim undefined) (prim undefined) prim_t)
   rel_read_this i (some_t {a = x} {b = y} h) = rel_ret x y h
