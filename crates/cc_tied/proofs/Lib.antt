@@ -15,3 +15,4 @@ pub mod Blind
 pub mod Equal
 pub mod EqualUpkeep
 pub mod EqualModes
+pub mod Alike
