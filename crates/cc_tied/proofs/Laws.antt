@@ -1,7 +1,8 @@
 -- Runs one after another, whatever their brackets.
 use Rattle.std.proofs.Common.{◌≡◌, ℕ, List, [], ◌∷◌, ◌++◌, refl, ap, append_assoc}
 use Rattle.cc_meaning.specs.Values.{Val}
-use Rattle.cc_meaning.specs.Monad.{Said, End, Res, ok, threw, over, M, ret, raise, stop, said, after, ◌>>=◌}
+use Rattle.cc_meaning.specs.Monad.{Said, End, Res, ok, threw, over, M, ret, raise, stop, said, after, ◌>>=◌, with_tables}
+use Rattle.cc_meaning.specs.State.{Tables}
 
 pub said_twice : {A : Type 0} (u v : List Said) (r : Res A) → said (u ++ v) r ≡ said u (said v r)
 unfolding said
@@ -60,3 +61,10 @@ stop_bind e k = refl
 -- two continuations that are alike at each value
 pub bind_alike : {A B : Type 0} (m : M A) (k h : A → M B) → ((a : A) → k a ≡ h a) → (m >>= k) ≡ (m >>= h)
 bind_alike m k h e = λ i. m >>= λ a. e a i
+
+pub tables_bind : {A B : Type 0} (f : Tables → M A) (k : A → M B) → (with_tables f >>= k) ≡ with_tables (λ T. f T >>= k)
+unfolding ◌>>=◌ with_tables
+tables_bind f k = refl
+
+pub tables_alike : {A : Type 0} (f h : Tables → M A) → ((T : Tables) → f T ≡ h T) → with_tables f ≡ with_tables h
+tables_alike f h e = λ i. with_tables (λ T. e T i)

@@ -11,6 +11,7 @@ pub mod Statements
 pub mod Turns
 pub mod Sim
 pub mod Upkeep
+pub mod Runs
 pub mod Blind
 pub mod Equal
 pub mod EqualUpkeep
