@@ -16,4 +16,4 @@ pub mod Blind
 pub mod Equal
 pub mod EqualUpkeep
 pub mod EqualModes
-pub mod Alike
+pub mod Reflexive

@@ -12,7 +12,9 @@ use Rattle.cc_meaning.specs.Store.{dotted, name_of}
 use Rattle.cc_meaning.specs.Calls.{member_use}
 use Rattle.cc_meaning.specs.Shapes.{longer, path_of, path_of_ref, path_of_target, path_of_key, literal_text, literal_key, site_of, declared_by, body_of}
 use Rattle.cc_tied.proofs.Kit.{Kit}
-use Rattle.cc_tied.proofs.Parts.{V, SiteT, PathT, Below}
+use Rattle.cc_meaning.specs.Meaning.{Place}
+use Rattle.cc_tied.specs.Tied.{variable_t, slot_t}
+use Rattle.cc_tied.proofs.Parts.{V, SiteT, PathT, PlaceV, Below}
 use Rattle.cc_tied.proofs.Expressions as E
 use Rattle.cc_tied.proofs.Statements as S
 
@@ -47,9 +49,17 @@ module _ (K : Kit) (L : LikeT K) (X : Below K) where
   like_brackets k = E.values_t refl refl
 
   module _ (c : K.Ctx) where
-    read_by : (op : Option BinOp) (r : Ref) → E.ReadsBy K X c op r r
-    read_by None r = E.not_read
-    read_by (Some op) r = E.is_read (reads c r)
+    read_by : (op : Option BinOp) {r r' : Ref} → K.ReadT c r r' → E.ReadsBy K X c op r r'
+    read_by None rd = E.not_read
+    read_by (Some op) rd = E.is_read rd
+
+    place_as : (op : Option BinOp) {w : K.World} {a b : Place} → PlaceV K (K.ReadT c) (K.WriteT c) w a b → PlaceV K (E.ReadsBy K X c op) (K.WriteT c) w a b
+    place_as op (variable_t s rd wr) = variable_t s (read_by op rd) wr
+    place_as op (slot_t h) = slot_t h
+
+    -- a target of an assignment is read where there is an operator
+    written_to : (op : Option BinOp) {t t' : Target} → E.FollowsTarget K X c (K.ReadT c) t t' → E.FollowsTarget K X c (E.ReadsBy K X c op) t t'
+    written_to op h = record { by = λ v l g g' t. K.rel_as (λ u lu a b q. place_as op q) (h.by v l g g' t) }
 
     like_unary : (i : ℕ) (op : UnOp) (e : Expr) (p : Option Path) → E.FollowsRef K X c None None e e → E.FollowsRef K X c p p (unary i op e) (unary i op e)
     unfolding E.deletes
@@ -69,8 +79,8 @@ module _ (K : Kit) (L : LikeT K) (X : Below K) where
       like p (and i a b) = E.follows_and K X c (E.as_value K X c (like None a)) (E.as_value K X c (like None b))
       like p (or i a b) = E.follows_or K X c (E.as_value K X c (like None a)) (E.as_value K X c (like None b))
       like p (cond i t a b) = E.follows_cond K X c (E.as_value K X c (like None t)) (E.as_value K X c (like None a)) (E.as_value K X c (like None b))
-      like p (assign i op t e) = E.follows_assign K X c (sites i) op (like_target (E.ReadsBy K X c op) (read_by op) t) (E.as_value K X c (like (path_of_target t) e))
-      like p (step i up prefix t) = E.follows_step K X c (sites i) up prefix (like_target (K.ReadT c) (reads c) t)
+      like p (assign i op t e) = E.follows_assign K X c (sites i) op (written_to op (like_target t)) (E.as_value K X c (like (path_of_target t) e))
+      like p (step i up prefix t) = E.follows_step K X c (sites i) up prefix (like_target t)
       like p (member i e q) = E.follows_member K X c (sites i) (paths (longer (path_of e) q)) (like_prop q) (E.on_reached K X c (like None e))
       like p (index i e k) = E.follows_index K X c (sites i) (E.as_value K X c (like None e)) (like_brackets k) (E.as_value K X c (like None k))
       like p (call i f es) = E.follows_call K X c (sites i) (like None f) (like_all es)
@@ -87,10 +97,11 @@ module _ (K : Kit) (L : LikeT K) (X : Below K) where
       like_fields p no_fields = E.follows_no_fields K X c
       like_fields p (more_fields k e fs) = E.follows_more_fields K X c (sites (site_of e)) (like_key k) (paths (path_of_key p k)) (E.as_value K X c (like (path_of_key p k) e)) (like_fields p fs)
 
-      like_target : (Reads : Ref → Ref → Type 0) → ((r : Ref) → Reads r r) → (t : Target) → E.FollowsTarget K X c Reads t t
-      like_target Reads rd (to_var i r) = E.target_var K X c (sites i) (rd r) (writes c r)
-      like_target Reads rd (to_member i e q) = E.target_member K X c (sites i) (paths (longer (path_of e) q)) (like_prop q) (E.as_value K X c (like None e))
-      like_target Reads rd (to_index i e k) = E.target_index K X c (sites i) (E.as_value K X c (like None e)) (like_brackets k) (E.as_value K X c (like None k))
+      -- a target whose variable is read too
+      like_target : (t : Target) → E.FollowsTarget K X c (K.ReadT c) t t
+      like_target (to_var i r) = E.target_var K X c (sites i) (reads c r) (writes c r)
+      like_target (to_member i e q) = E.target_member K X c (sites i) (paths (longer (path_of e) q)) (like_prop q) (E.as_value K X c (like None e))
+      like_target (to_index i e k) = E.target_index K X c (sites i) (E.as_value K X c (like None e)) (like_brackets k) (E.as_value K X c (like None k))
 
     like_value : (e : Expr) → E.Follows K X c e e
     like_value e = E.as_value K X c (like None e)
@@ -109,7 +120,7 @@ module _ (K : Kit) (L : LikeT K) (X : Below K) where
     like_init (init_vars ds) = S.follows_init_vars K X c (like_decls ds)
 
     like_names : (t : ForTarget) → S.FollowsNames K X c t t
-    like_names (in_target t) = S.follows_in_target K X c (like_target (K.ReadT c) (reads c) t)
+    like_names (in_target t) = S.follows_in_target K X c (like_target t)
     like_names (in_declared d) = S.follows_in_declared K X c (sites d.site) (writes c d.variable) (like_set d.site d.variable d.value)
 
     like_test : (o : Option Expr) → S.FollowsTest K X c o o
@@ -120,11 +131,11 @@ module _ (K : Kit) (L : LikeT K) (X : Below K) where
     like_only None = S.follows_no_only K X c
     like_only (Some e) = S.follows_only K X c (like_value e)
 
-    like_return : (i : ℕ) (o : Option Expr) (ls : List (List ℕ)) → S.FollowsStmt K X c ls (return i o) (return i o)
+    like_return : (i : ℕ) (o : Option Expr) (ls : List (List ℕ)) → S.FollowsStmt K X c (return i o) (return i o)
     like_return i None ls = S.follows_return_none K X c (sites i)
     like_return i (Some e) ls = S.follows_return K X c (sites i) (like_value e)
 
-    like_case : (o : Option Expr) (b : Stmts) (cs : Cases) → S.FollowsStmts K X c [] b b → S.FollowsCases K X c cs cs → S.FollowsCases K X c (more_cases o b cs) (more_cases o b cs)
+    like_case : (o : Option Expr) (b : Stmts) (cs : Cases) → S.FollowsStmts K X c b b → S.FollowsCases K X c cs cs → S.FollowsCases K X c (more_cases o b cs) (more_cases o b cs)
     like_case None b cs h k = S.follows_default K X c h k
     like_case (Some e) b cs h k = S.follows_case K X c (like_value e) h k
 
@@ -138,7 +149,7 @@ module _ (K : Kit) (L : LikeT K) (X : Below K) where
     like_hoist (more_stmts s ss) = S.hoist_more K X c (like_hoist_one s) (like_hoist ss)
 
   mutual
-    pub like_stmt : (c : K.Ctx) (ls : List (List ℕ)) (s : Stmt) → S.FollowsStmt K X c ls s s
+    pub like_stmt : (c : K.Ctx) (ls : List (List ℕ)) (s : Stmt) → S.FollowsStmt K X c s s
     like_stmt c ls (simple i e) = S.follows_simple K X c (like_value c e)
     like_stmt c ls (vars i ds) = S.follows_vars K X c (like_decls c ds)
     like_stmt c ls (fun_decl i r f) = S.follows_fun_decl K X c
@@ -156,7 +167,7 @@ module _ (K : Kit) (L : LikeT K) (X : Below K) where
     like_stmt c ls (try i b k f) = S.follows_try K X c (like_stmts c [] b) (like_catch c k) (like_finally c f)
     like_stmt c ls (pay_stmt i p) = S.follows_pay K X c p
 
-    pub like_stmts : (c : K.Ctx) (ls : List (List ℕ)) (ss : Stmts) → S.FollowsStmts K X c ls ss ss
+    pub like_stmts : (c : K.Ctx) (ls : List (List ℕ)) (ss : Stmts) → S.FollowsStmts K X c ss ss
     like_stmts c ls no_stmts = S.follows_no_stmts K X c
     like_stmts c ls (more_stmts s ss) = S.follows_more_stmts K X c (like_stmt c ls s) (like_stmts c ls ss)
 
