@@ -15,3 +15,5 @@ pub mod Runs
 pub mod Blind
 pub mod Equal
 pub mod EqualUpkeep
+pub mod EqualModes
+pub mod Reflexive
