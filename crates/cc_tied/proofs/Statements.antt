@@ -45,13 +45,13 @@ module _ (K : Kit) (X : Below K) where
   open K use {J, J', World, Later, later, now, bound, bound', Ctx, in_catch, StandT, WriteT, EnvT, env_later, Rel, rel_ret, rel_bind, rel_raise, rel_attempt, rel_mark, rel_budget, rel_equal, rel_function, rel_write_var, rel_catch}
   open X use {B, B', w}
 
-  -- ---- what each part of a statement keeps
+  -- ---- what each part of a statement keeps, under its labels
 
-  pub record FollowsStmt (c : Ctx) (s s' : Stmt) : Type 0 where
-    pub by : (v : World) → Later w v → (g g' : Env) → EnvT c v g g' → (ls : List (List ℕ)) → Rel (CompV K) v (ex J B g ls s) (ex J' B' g' ls s')
+  pub record FollowsStmt (c : Ctx) (ls : List (List ℕ)) (s s' : Stmt) : Type 0 where
+    pub by : (v : World) → Later w v → (g g' : Env) → EnvT c v g g' → Rel (CompV K) v (ex J B g ls s) (ex J' B' g' ls s')
 
-  pub record FollowsStmts (c : Ctx) (ss ss' : Stmts) : Type 0 where
-    pub by : (v : World) → Later w v → (g g' : Env) → EnvT c v g g' → (ls : List (List ℕ)) → Rel (CompV K) v (exs J B g ls ss) (exs J' B' g' ls ss')
+  pub record FollowsStmts (c : Ctx) (ls : List (List ℕ)) (ss ss' : Stmts) : Type 0 where
+    pub by : (v : World) → Later w v → (g g' : Env) → EnvT c v g g' → Rel (CompV K) v (exs J B g ls ss) (exs J' B' g' ls ss')
 
   pub record FollowsHoistOne (c : Ctx) (s s' : Stmt) : Type 0 where
     pub by : (v : World) → Later w v → (g g' : Env) → EnvT c v g g' → Rel (Done K) v (hoist_one J g s) (hoist_one J' g' s')
@@ -93,7 +93,7 @@ module _ (K : Kit) (X : Below K) where
   -- the body of a function
   pub record FollowsBody (c : Ctx) (ss ss' : Stmts) : Type 0 where
     pub hoist : FollowsHoist c ss ss'
-    pub runs : FollowsStmts c ss ss'
+    pub runs : FollowsStmts c [] ss ss'
 
   module _ (c : Ctx) where
     -- ---- values
@@ -163,73 +163,73 @@ module _ (K : Kit) (X : Below K) where
 
     -- ---- simple statements
 
-    pub follows_simple : {i i' : ℕ} {e e' : Expr} → Follows K X c e e' → FollowsStmt c (simple i e) (simple i' e')
+    pub follows_simple : {ls : List (List ℕ)} {i i' : ℕ} {e e' : Expr} → Follows K X c e e' → FollowsStmt c ls (simple i e) (simple i' e')
     unfolding ex value_at
-    follows_simple h = record { by = λ v l g g' t ls. rel_bind (h.by v l g g' t) (λ v2 l2 x x' r. normal_end K) }
+    follows_simple h = record { by = λ v l g g' t. rel_bind (h.by v l g g' t) (λ v2 l2 x x' r. normal_end K) }
 
-    pub follows_vars : {i i' : ℕ} {ds ds' : List Declarator} → FollowsDecls c ds ds' → FollowsStmt c (vars i ds) (vars i' ds')
+    pub follows_vars : {ls : List (List ℕ)} {i i' : ℕ} {ds ds' : List Declarator} → FollowsDecls c ds ds' → FollowsStmt c ls (vars i ds) (vars i' ds')
     unfolding ex
-    follows_vars h = record { by = λ v l g g' t ls. rel_bind (h.by v l g g' t) (λ v2 l2 _ _ _. normal_end K) }
+    follows_vars h = record { by = λ v l g g' t. rel_bind (h.by v l g g' t) (λ v2 l2 _ _ _. normal_end K) }
 
-    pub follows_fun_decl : {i i' : ℕ} {r r' : Ref} {f f' : ℕ} → FollowsStmt c (fun_decl i r f) (fun_decl i' r' f')
+    pub follows_fun_decl : {ls : List (List ℕ)} {i i' : ℕ} {r r' : Ref} {f f' : ℕ} → FollowsStmt c ls (fun_decl i r f) (fun_decl i' r' f')
     unfolding ex
-    follows_fun_decl = record { by = λ v l g g' t ls. normal_end K }
+    follows_fun_decl = record { by = λ v l g g' t. normal_end K }
 
-    pub follows_if : {i i' : ℕ} {e e' : Expr} {a a' b b' : Stmts} → Follows K X c e e' → FollowsStmts c a a' → FollowsStmts c b b' → FollowsStmt c (if i e a b) (if i' e' a' b')
+    pub follows_if : {ls : List (List ℕ)} {i i' : ℕ} {e e' : Expr} {a a' b b' : Stmts} → Follows K X c e e' → FollowsStmts c [] a a' → FollowsStmts c [] b b' → FollowsStmt c ls (if i e a b) (if i' e' a' b')
     unfolding ex value_at
-    follows_if f h k = record { by = λ v l g g' t ls. rel_bind (f.by v l g g' t) (λ v2 l2 x x' r. rel_pick K (truthy x) (truthy x') (truthy_tied K r) (h.by v2 (later l l2) g g' (env_later l2 t) []) (k.by v2 (later l l2) g g' (env_later l2 t) [])) }
+    follows_if f h k = record { by = λ v l g g' t. rel_bind (f.by v l g g' t) (λ v2 l2 x x' r. rel_pick K (truthy x) (truthy x') (truthy_tied K r) (h.by v2 (later l l2) g g' (env_later l2 t)) (k.by v2 (later l l2) g g' (env_later l2 t))) }
 
-    pub follows_return_none : {i i' : ℕ} → SiteT K i i' → FollowsStmt c (return i None) (return i' None)
+    pub follows_return_none : {ls : List (List ℕ)} {i i' : ℕ} → SiteT K i i' → FollowsStmt c ls (return i None) (return i' None)
     unfolding ex
-    follows_return_none {i = i} {i' = i'} s = record { by = λ v l g g' t ls. rel_ret (returns i (prim undefined)) (returns i' (prim undefined)) (returns_t s prim_t) }
+    follows_return_none {i = i} {i' = i'} s = record { by = λ v l g g' t. rel_ret (returns i (prim undefined)) (returns i' (prim undefined)) (returns_t s prim_t) }
 
-    pub follows_return : {i i' : ℕ} → SiteT K i i' → {e e' : Expr} → Follows K X c e e' → FollowsStmt c (return i (Some e)) (return i' (Some e'))
+    pub follows_return : {ls : List (List ℕ)} {i i' : ℕ} → SiteT K i i' → {e e' : Expr} → Follows K X c e e' → FollowsStmt c ls (return i (Some e)) (return i' (Some e'))
     unfolding ex value_at
-    follows_return {i = i} {i' = i'} s h = record { by = λ v l g g' t ls. rel_bind (h.by v l g g' t) (λ v2 l2 x x' r. rel_ret (returns i x) (returns i' x') (returns_t s r)) }
+    follows_return {i = i} {i' = i'} s h = record { by = λ v l g g' t. rel_bind (h.by v l g g' t) (λ v2 l2 x x' r. rel_ret (returns i x) (returns i' x') (returns_t s r)) }
 
-    pub follows_throw : {i i' : ℕ} {e e' : Expr} → Follows K X c e e' → FollowsStmt c (throw i e) (throw i' e')
+    pub follows_throw : {ls : List (List ℕ)} {i i' : ℕ} {e e' : Expr} → Follows K X c e e' → FollowsStmt c ls (throw i e) (throw i' e')
     unfolding ex value_at thrown_at
-    follows_throw h = record { by = λ v l g g' t ls. rel_bind (h.by v l g g' t) (λ v2 l2 x x' r. rel_raise r) }
+    follows_throw h = record { by = λ v l g g' t. rel_bind (h.by v l g g' t) (λ v2 l2 x x' r. rel_raise r) }
 
-    pub follows_break : {i i' : ℕ} (j : Option (List ℕ)) → FollowsStmt c (break i j) (break i' j)
+    pub follows_break : {ls : List (List ℕ)} {i i' : ℕ} (j : Option (List ℕ)) → FollowsStmt c ls (break i j) (break i' j)
     unfolding ex
-    follows_break j = record { by = λ v l g g' t ls. rel_ret (breaks j) (breaks j) breaks_t }
+    follows_break j = record { by = λ v l g g' t. rel_ret (breaks j) (breaks j) breaks_t }
 
-    pub follows_continue : {i i' : ℕ} (j : Option (List ℕ)) → FollowsStmt c (continue i j) (continue i' j)
+    pub follows_continue : {ls : List (List ℕ)} {i i' : ℕ} (j : Option (List ℕ)) → FollowsStmt c ls (continue i j) (continue i' j)
     unfolding ex
-    follows_continue j = record { by = λ v l g g' t ls. rel_ret (continues j) (continues j) continues_t }
+    follows_continue j = record { by = λ v l g g' t. rel_ret (continues j) (continues j) continues_t }
 
-    pub follows_label : {i i' : ℕ} (j : List ℕ) {b b' : Stmts} → FollowsStmts c b b' → FollowsStmt c (label i j b) (label i' j b')
+    pub follows_label : {ls : List (List ℕ)} {i i' : ℕ} (j : List ℕ) {b b' : Stmts} → FollowsStmts c (j ∷ ls) b b' → FollowsStmt c ls (label i j b) (label i' j b')
     unfolding ex
-    follows_label j k = record { by = λ v l g g' t ls. rel_bind (k.by v l g g' t (j ∷ ls)) (λ v2 l2 a b r. rel_ret (labelled j a) (labelled j b) (labelled_tied K j r)) }
+    follows_label j k = record { by = λ v l g g' t. rel_bind (k.by v l g g' t) (λ v2 l2 a b r. rel_ret (labelled j a) (labelled j b) (labelled_tied K j r)) }
 
-    pub follows_pay : {i i' : ℕ} (p : ℕ) → FollowsStmt c (pay_stmt i p) (pay_stmt i' p)
+    pub follows_pay : {ls : List (List ℕ)} {i i' : ℕ} (p : ℕ) → FollowsStmt c ls (pay_stmt i p) (pay_stmt i' p)
     unfolding ex
-    follows_pay p = record { by = λ v l g g' t ls. rel_bind (rel_mark p) (λ v2 l2 _ _ _. normal_end K) }
+    follows_pay p = record { by = λ v l g g' t. rel_bind (rel_mark p) (λ v2 l2 _ _ _. normal_end K) }
 
     -- ---- lists
 
-    pub follows_no_stmts : FollowsStmts c no_stmts no_stmts
+    pub follows_no_stmts : {ls : List (List ℕ)} → FollowsStmts c ls no_stmts no_stmts
     unfolding ex
-    follows_no_stmts = record { by = λ v l g g' t ls. normal_end K }
+    follows_no_stmts = record { by = λ v l g g' t. normal_end K }
 
-    pub follows_more_stmts : {s s' : Stmt} {ss ss' : Stmts} → FollowsStmt c s s' → FollowsStmts c ss ss' → FollowsStmts c (more_stmts s ss) (more_stmts s' ss')
+    pub follows_more_stmts : {ls : List (List ℕ)} {s s' : Stmt} {ss ss' : Stmts} → FollowsStmt c ls s s' → FollowsStmts c ls ss ss' → FollowsStmts c ls (more_stmts s ss) (more_stmts s' ss')
     unfolding ex
-    follows_more_stmts h k = record { by = λ v l g g' t ls. rel_bind (h.by v l g g' t ls) (λ v2 l2 a b r. rel_next K r (k.by v2 (later l l2) g g' (env_later l2 t) ls)) }
+    follows_more_stmts h k = record { by = λ v l g g' t. rel_bind (h.by v l g g' t) (λ v2 l2 a b r. rel_next K r (k.by v2 (later l l2) g g' (env_later l2 t))) }
 
     -- ---- loops
 
-    pub follows_while : {i i' : ℕ} {e e' : Expr} {b b' : Stmts} → FollowsTest c (Some e) (Some e') → FollowsStmts c b b' → FollowsStmt c (while i e b) (while i' e' b')
+    pub follows_while : {ls : List (List ℕ)} {i i' : ℕ} {e e' : Expr} {b b' : Stmts} → FollowsTest c (Some e) (Some e') → FollowsStmts c [] b b' → FollowsStmt c ls (while i e b) (while i' e' b')
     unfolding ex
-    follows_while h k = record { by = λ v l g g' t ls. rel_budget (λ v2 l2 n n' le le'. rel_turns K ls (suc n) (suc n') v2 (omega arith) (omega arith) (λ u lu. h.by u (later l (later l2 lu)) g g' (env_later (later l2 lu) t)) (λ u lu. rel_skip K) (λ u lu. k.by u (later l (later l2 lu)) g g' (env_later (later l2 lu) t) [])) }
+    follows_while {ls = ls} h k = record { by = λ v l g g' t. rel_budget (λ v2 l2 n n' le le'. rel_turns K ls (suc n) (suc n') v2 (omega arith) (omega arith) (λ u lu. h.by u (later l (later l2 lu)) g g' (env_later (later l2 lu) t)) (λ u lu. rel_skip K) (λ u lu. k.by u (later l (later l2 lu)) g g' (env_later (later l2 lu) t))) }
 
-    pub follows_do_while : {i i' : ℕ} {e e' : Expr} {b b' : Stmts} → FollowsStmts c b b' → FollowsTest c (Some e) (Some e') → FollowsStmt c (do_while i b e) (do_while i' b' e')
+    pub follows_do_while : {ls : List (List ℕ)} {i i' : ℕ} {e e' : Expr} {b b' : Stmts} → FollowsStmts c [] b b' → FollowsTest c (Some e) (Some e') → FollowsStmt c ls (do_while i b e) (do_while i' b' e')
     unfolding ex
-    follows_do_while k h = record { by = λ v l g g' t ls. rel_budget (λ v2 l2 n n' le le'. rel_do_turns K ls (suc n) (suc n') v2 (omega arith) (omega arith) (λ u lu. h.by u (later l (later l2 lu)) g g' (env_later (later l2 lu) t)) (λ u lu. k.by u (later l (later l2 lu)) g g' (env_later (later l2 lu) t) [])) }
+    follows_do_while {ls = ls} k h = record { by = λ v l g g' t. rel_budget (λ v2 l2 n n' le le'. rel_do_turns K ls (suc n) (suc n') v2 (omega arith) (omega arith) (λ u lu. h.by u (later l (later l2 lu)) g g' (env_later (later l2 lu) t)) (λ u lu. k.by u (later l (later l2 lu)) g g' (env_later (later l2 lu) t))) }
 
-    pub follows_for : {i i' : ℕ} {h h' : ForInit} {e e' o o' : Option Expr} {b b' : Stmts} → FollowsInit c h h' → FollowsTest c e e' → FollowsOnly c o o' → FollowsStmts c b b' → FollowsStmt c (for i h e o b) (for i' h' e' o' b')
+    pub follows_for : {ls : List (List ℕ)} {i i' : ℕ} {h h' : ForInit} {e e' o o' : Option Expr} {b b' : Stmts} → FollowsInit c h h' → FollowsTest c e e' → FollowsOnly c o o' → FollowsStmts c [] b b' → FollowsStmt c ls (for i h e o b) (for i' h' e' o' b')
     unfolding ex
-    follows_for hi he ho k = record { by = λ v l g g' t ls. rel_bind (hi.by v l g g' t) (λ v1 l1 _ _ _. rel_budget (λ v2 l2 n n' le le'. rel_turns K ls (suc n) (suc n') v2 (omega arith) (omega arith) (λ u lu. he.by u (later l (later l1 (later l2 lu))) g g' (env_later (later l1 (later l2 lu)) t)) (λ u lu. ho.by u (later l (later l1 (later l2 lu))) g g' (env_later (later l1 (later l2 lu)) t)) (λ u lu. k.by u (later l (later l1 (later l2 lu))) g g' (env_later (later l1 (later l2 lu)) t) []))) }
+    follows_for {ls = ls} hi he ho k = record { by = λ v l g g' t. rel_bind (hi.by v l g g' t) (λ v1 l1 _ _ _. rel_budget (λ v2 l2 n n' le le'. rel_turns K ls (suc n) (suc n') v2 (omega arith) (omega arith) (λ u lu. he.by u (later l (later l1 (later l2 lu))) g g' (env_later (later l1 (later l2 lu)) t)) (λ u lu. ho.by u (later l (later l1 (later l2 lu))) g g' (env_later (later l1 (later l2 lu)) t)) (λ u lu. k.by u (later l (later l1 (later l2 lu))) g g' (env_later (later l1 (later l2 lu)) t)))) }
 
     -- ---- `for-in`
 
@@ -252,15 +252,15 @@ module _ (K : Kit) (X : Below K) where
       puts = λ v l g g' t n. rel_write_var s t wt prim_t;
     }
 
-    pub follows_for_in : {i i' : ℕ} → SiteT K i i' → {u u' : ForTarget} {e e' : Expr} {b b' : Stmts} → FollowsNames c u u' → Follows K X c e e' → FollowsStmts c b b' → FollowsStmt c (for_in i u e b) (for_in i' u' e' b')
+    pub follows_for_in : {ls : List (List ℕ)} {i i' : ℕ} → SiteT K i i' → {u u' : ForTarget} {e e' : Expr} {b b' : Stmts} → FollowsNames c u u' → Follows K X c e e' → FollowsStmts c [] b b' → FollowsStmt c ls (for_in i u e b) (for_in i' u' e' b')
     unfolding ex value_at
-    follows_for_in {i = i} {i' = i'} s {u = u} {u' = u'} {b = b} {b' = b'} hu h k = record {
-      by = λ v l g g' t ls.
+    follows_for_in {ls = ls} {i = i} {i' = i'} s {u = u} {u' = u'} {b = b} {b' = b'} hu h k = record {
+      by = λ v l g g' t.
           rel_bind (hu.begins v l g g' t) (λ v2 l2 _ _ _.
           rel_bind (h.by v2 (later l l2) g g' (env_later l2 t)) (λ v3 l3 x x' q.
           rel_bind (rel_walk_on K s q) (λ v4 l4 ns ns' e.
           subst (λ z. Rel (CompV K) v4 (each_name ls (probe J (at_site i) x) (put_name J B g u) (exs J B g [] b) ns) (each_name ls (probe J' (at_site i') x') (put_name J' B' g' u') (exs J' B' g' [] b') z)) e
-          (rel_each K ls ns (λ v5 l5 n. rel_probe_on K s (val_later K (later l4 l5) q) n) (λ v5 l5 n. hu.puts v5 (later l (later l2 (later l3 (later l4 l5)))) g g' (env_later (later l2 (later l3 (later l4 l5))) t) n) (λ v5 l5. k.by v5 (later l (later l2 (later l3 (later l4 l5)))) g g' (env_later (later l2 (later l3 (later l4 l5))) t) [])))));
+          (rel_each K ls ns (λ v5 l5 n. rel_probe_on K s (val_later K (later l4 l5) q) n) (λ v5 l5 n. hu.puts v5 (later l (later l2 (later l3 (later l4 l5)))) g g' (env_later (later l2 (later l3 (later l4 l5))) t) n) (λ v5 l5. k.by v5 (later l (later l2 (later l3 (later l4 l5)))) g g' (env_later (later l2 (later l3 (later l4 l5))) t))))));
     }
 
     -- ---- `switch`
@@ -270,23 +270,23 @@ module _ (K : Kit) (X : Below K) where
     follows_no_cases = record { tests = λ v l g g' t q m. m v (now v); runs = λ v l g g' t. normal_end K }
 
     -- the bodies from a clause on
-    runs_on : {b b' : Stmts} {cs cs' : Cases} → FollowsStmts c b b' → FollowsCases c cs cs' → (v : World) → Later w v → (g g' : Env) → EnvT c v g g' → Rel (CompV K) v (exs J B g [] b >>= λ k. next k (run_cases J B g cs)) (exs J' B' g' [] b' >>= λ k. next k (run_cases J' B' g' cs'))
-    runs_on h k v l g g' t = rel_bind (h.by v l g g' t []) (λ v2 l2 a b r. rel_next K r (k.runs v2 (later l l2) g g' (env_later l2 t)))
+    runs_on : {b b' : Stmts} {cs cs' : Cases} → FollowsStmts c [] b b' → FollowsCases c cs cs' → (v : World) → Later w v → (g g' : Env) → EnvT c v g g' → Rel (CompV K) v (exs J B g [] b >>= λ k. next k (run_cases J B g cs)) (exs J' B' g' [] b' >>= λ k. next k (run_cases J' B' g' cs'))
+    runs_on h k v l g g' t = rel_bind (h.by v l g g' t) (λ v2 l2 a b r. rel_next K r (k.runs v2 (later l l2) g g' (env_later l2 t)))
 
-    pub follows_default : {b b' : Stmts} {cs cs' : Cases} → FollowsStmts c b b' → FollowsCases c cs cs' → FollowsCases c (more_cases None b cs) (more_cases None b' cs')
+    pub follows_default : {b b' : Stmts} {cs cs' : Cases} → FollowsStmts c [] b b' → FollowsCases c cs cs' → FollowsCases c (more_cases None b cs) (more_cases None b' cs')
     unfolding ex
     follows_default h k = record { tests = λ v l g g' t q m. k.tests v l g g' t q (λ u lu. runs_on h k u (later l lu) g g' (env_later lu t)); runs = λ v l g g' t. runs_on h k v l g g' t }
 
-    pub follows_case : {e e' : Expr} {b b' : Stmts} {cs cs' : Cases} → Follows K X c e e' → FollowsStmts c b b' → FollowsCases c cs cs' → FollowsCases c (more_cases (Some e) b cs) (more_cases (Some e') b' cs')
+    pub follows_case : {e e' : Expr} {b b' : Stmts} {cs cs' : Cases} → Follows K X c e e' → FollowsStmts c [] b b' → FollowsCases c cs cs' → FollowsCases c (more_cases (Some e) b cs) (more_cases (Some e') b' cs')
     unfolding ex value_at
     follows_case f h k = record {
       tests = λ v l g g' t {x} {x'} q m. rel_bind (f.by v l g g' t) (λ v2 l2 y y' r. rel_equal (val_later K l2 q) r (λ e. rel_pick K (strict_equal x y) (strict_equal x' y') e (runs_on h k v2 (later l l2) g g' (env_later l2 t)) (k.tests v2 (later l l2) g g' (env_later l2 t) (val_later K l2 q) (λ u lu. m u (later l2 lu)))));
       runs = λ v l g g' t. runs_on h k v l g g' t;
     }
 
-    pub follows_switch : {i i' : ℕ} {e e' : Expr} {cs cs' : Cases} → Follows K X c e e' → FollowsCases c cs cs' → FollowsStmt c (switch i e cs) (switch i' e' cs')
+    pub follows_switch : {ls : List (List ℕ)} {i i' : ℕ} {e e' : Expr} {cs cs' : Cases} → Follows K X c e e' → FollowsCases c cs cs' → FollowsStmt c ls (switch i e cs) (switch i' e' cs')
     unfolding ex value_at
-    follows_switch h k = record { by = λ v l g g' t ls. rel_bind (h.by v l g g' t) (λ v2 l2 x x' r. rel_bind (k.tests v2 (later l l2) g g' (env_later l2 t) r (λ u lu. normal_end K)) (λ v3 l3 a b q. rel_ret (unbroken a) (unbroken b) (unbroken_tied K q))) }
+    follows_switch h k = record { by = λ v l g g' t. rel_bind (h.by v l g g' t) (λ v2 l2 x x' r. rel_bind (k.tests v2 (later l l2) g g' (env_later l2 t) r (λ u lu. normal_end K)) (λ v3 l3 a b q. rel_ret (unbroken a) (unbroken b) (unbroken_tied K q))) }
 
     -- ---- `try`
 
@@ -294,22 +294,22 @@ module _ (K : Kit) (X : Below K) where
     unfolding ex
     follows_no_catch = record { by = λ v l g g' t r. rel_resume K r }
 
-    rel_caught : {b b' : Stmts} → FollowsStmts (in_catch c) b b' → {v : World} → Later w v → {g g' : Env} → EnvT c v g g' → {x y : Way Comp} → WayV K v x y → Rel (CompV K) v (ex_catch J B g (present b) x) (ex_catch J' B' g' (present b') y)
+    rel_caught : {b b' : Stmts} → FollowsStmts (in_catch c) [] b b' → {v : World} → Later w v → {g g' : Env} → EnvT c v g g' → {x y : Way Comp} → WayV K v x y → Rel (CompV K) v (ex_catch J B g (present b) x) (ex_catch J' B' g' (present b') y)
     unfolding ex
     rel_caught k l t (went_t {a = x} {b = x'} q) = rel_ret x x' q
-    rel_caught k l {g = g} {g' = g'} t (thrown_t q) = rel_bind (rel_catch t q) (λ v2 l2 m n et. k.by v2 (later l l2) _ _ et [])
+    rel_caught k l {g = g} {g' = g'} t (thrown_t q) = rel_bind (rel_catch t q) (λ v2 l2 m n et. k.by v2 (later l l2) _ _ et)
 
-    pub follows_catch : {b b' : Stmts} → FollowsStmts (in_catch c) b b' → FollowsCatch c (present b) (present b')
+    pub follows_catch : {b b' : Stmts} → FollowsStmts (in_catch c) [] b b' → FollowsCatch c (present b) (present b')
     follows_catch k = record { by = λ v l g g' t q. rel_caught k l t q }
 
     pub follows_no_finally : FollowsFinally c absent absent
     unfolding ex
     follows_no_finally = record { by = λ v l g g' t h. h }
 
-    pub follows_finally : {b b' : Stmts} → FollowsStmts c b b' → FollowsFinally c (present b) (present b')
+    pub follows_finally : {b b' : Stmts} → FollowsStmts c [] b b' → FollowsFinally c (present b) (present b')
     unfolding ex
-    follows_finally k = record { by = λ v l g g' t h. rel_bind (rel_attempt h) (λ v2 l2 a a' q. rel_bind (k.by v2 (later l l2) g g' (env_later l2 t) []) (λ v3 l3 e e' r. rel_next K r (rel_resume K (way_later K l3 q)))) }
+    follows_finally k = record { by = λ v l g g' t h. rel_bind (rel_attempt h) (λ v2 l2 a a' q. rel_bind (k.by v2 (later l l2) g g' (env_later l2 t)) (λ v3 l3 e e' r. rel_next K r (rel_resume K (way_later K l3 q)))) }
 
-    pub follows_try : {i i' : ℕ} {b b' : Stmts} {k k' f f' : MaybeStmts} → FollowsStmts c b b' → FollowsCatch c k k' → FollowsFinally c f f' → FollowsStmt c (try i b k f) (try i' b' k' f')
+    pub follows_try : {ls : List (List ℕ)} {i i' : ℕ} {b b' : Stmts} {k k' f f' : MaybeStmts} → FollowsStmts c [] b b' → FollowsCatch c k k' → FollowsFinally c f f' → FollowsStmt c ls (try i b k f) (try i' b' k' f')
     unfolding ex
-    follows_try hb hk hf = record { by = λ v l g g' t ls. hf.by v l g g' t (rel_bind (rel_attempt (hb.by v l g g' t [])) (λ v2 l2 a a' q. hk.by v2 (later l l2) g g' (env_later l2 t) q)) }
+    follows_try hb hk hf = record { by = λ v l g g' t. hf.by v l g g' t (rel_bind (rel_attempt (hb.by v l g g' t)) (λ v2 l2 a a' q. hk.by v2 (later l l2) g g' (env_later l2 t) q)) }
