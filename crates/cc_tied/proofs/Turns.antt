@@ -72,7 +72,7 @@ module _ (K : Kit) where
           let ld2 : bound v2 ≤ d = omega (arith, ld, less, bound_later l2) in
           let ld2' : bound' v2 ≤ d' = omega (arith, ld', less', bound_later' l2) in
           let body : FollowsBody K (below_of P Q d d' v2 (all v2 d d' (omega arith) ld2 ld2')) (inside a.function b.function) (body_of P a.function) (body_of Q b.function) = h.parts a.function b.function d d' ct.function v2 ld2 ld2' all (all v2 d d' (omega arith) ld2 ld2') in
-          rel_bind (rel_bind (body.hoist.by v2 (now v2) _ _ et) (λ v3 l3 _ _ _. body.runs.by v3 l3 _ _ (env_later l3 et) [])) (λ v4 l4 x y r. rel_ret (result a x) (result b y) (result_tied K (code_later K (later l2 l4) ct) r)));
+          rel_bind (rel_bind (body.hoist.by v2 (now v2) _ _ et) (λ v3 l3 _ _ _. body.runs.by v3 l3 _ _ (env_later l3 et))) (λ v4 l4 x y r. rel_ret (result a x) (result b y) (result_tied K (code_later K (later l2 l4) ct) r)));
     }
 
   -- ---- chunks
@@ -88,11 +88,11 @@ module _ (K : Kit) where
     unfolding ex_chunk
     follows_no_chunk = record { by = λ v l q. normal_end K }
 
-    pub follows_more_chunk : {c : ℕ} {s s' : Stmt} {ss ss' : Stmts} → DeclaresT (declared_by tables s) (declared_by tables' s') → FollowsStmt K X (outer c) s s' → FollowsChunk c ss ss' → FollowsChunk c (more_stmts s ss) (more_stmts s' ss')
+    pub follows_more_chunk : {c : ℕ} {s s' : Stmt} {ss ss' : Stmts} → DeclaresT (declared_by tables s) (declared_by tables' s') → FollowsStmt K X (outer c) [] s s' → FollowsChunk c ss ss' → FollowsChunk c (more_stmts s ss) (more_stmts s' ss')
     unfolding ex_chunk
     follows_more_chunk d h k = record {
       by = λ v l q.
-          rel_bind (rel_tables _ _ (h.by v l _ _ (env_top q d) [])) (λ v2 l2 a b r. rel_next K r (k.by v2 (later l l2) (loaded_later l2 q)));
+          rel_bind (rel_tables _ _ (h.by v l _ _ (env_top q d))) (λ v2 l2 a b r. rel_next K r (k.by v2 (later l l2) (loaded_later l2 q)));
     }
 
     pub record ChunkT (P Q : Program) (c : ℕ) : Type 0 where
