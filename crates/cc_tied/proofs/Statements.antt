@@ -8,14 +8,13 @@ use Rattle.cc_meaning.specs.State.{Env}
 use Rattle.cc_meaning.specs.Monad.{M, skip, ◌>>=◌, Way, Mode}
 use Rattle.cc_meaning.specs.Acts.{probe}
 use Rattle.cc_meaning.specs.Shapes.{path_of_ref}
-use Rattle.cc_meaning.specs.Meaning.{Place, put_place, Comp, returns, breaks, continues, next, labelled, unbroken, each_name, value_at, test_at, only_run, set_variable, declare, begin_for, begin_names, put_name, hoist_one, hoist, thrown_at, ex, exs, ex_catch, ex_finally, ex_cases, run_cases}
-use Rattle.cc_tied.specs.Tied.{prim_t, went_t, thrown_t, returns_t, breaks_t, continues_t, variable_t, slot_t}
+use Rattle.cc_meaning.specs.Meaning.{Comp, returns, breaks, continues, next, labelled, unbroken, each_name, value_at, test_at, only_run, set_variable, declare, begin_for, begin_names, put_name, hoist_one, hoist, thrown_at, ex, exs, ex_catch, ex_finally, ex_cases, run_cases}
+use Rattle.cc_tied.specs.Tied.{prim_t, went_t, thrown_t, returns_t, breaks_t, continues_t}
 use Rattle.cc_tied.proofs.Kit.{Kit}
-use Rattle.cc_tied.proofs.Parts.{V, PlaceV, CompV, WayV, Done, Equal, SiteT, Below, val_later, way_later, truthy_tied, rel_pick, rel_skip}
+use Rattle.cc_tied.proofs.Parts.{V, CompV, WayV, Done, Equal, SiteT, Below, val_later, way_later, truthy_tied, rel_pick, rel_skip}
 use Rattle.cc_tied.proofs.Judged.{rel_probe_on, rel_walk_on}
-use Rattle.cc_tied.proofs.Calls.{rel_put_to}
 use Rattle.cc_tied.proofs.Ends.{normal_end, rel_next, labelled_tied, unbroken_tied, rel_resume, rel_turns, rel_do_turns, rel_each}
-use Rattle.cc_tied.proofs.Expressions.{FollowsAs, Follows, FollowsTarget}
+use Rattle.cc_tied.proofs.Expressions.{FollowsAs, Follows, FollowsTarget, rel_put_place}
 
 -- a statement that declares a function
 unfoldable pub declares_function : Stmt → Bool
@@ -233,16 +232,11 @@ module _ (K : Kit) (X : Below K) where
 
     -- ---- `for-in`
 
-    rel_place : {Reads : Ref → Ref → Type 0} {v : World} {g g' : Env} → EnvT c v g g' → {a b : Place} {x y : Val} → PlaceV K Reads (WriteT c) v a b → V K v x y → Rel (Done K) v (put_place J g a x) (put_place J' g' b y)
-    unfolding put_place
-    rel_place t (variable_t s rd wr) h = rel_write_var s t wr h
-    rel_place t (slot_t r) h = rel_put_to K X t r h
-
     pub follows_in_target : {Reads : Ref → Ref → Type 0} {u u' : Target} → FollowsTarget K X c Reads u u' → FollowsNames c (in_target u) (in_target u')
     unfolding begin_names put_name
     follows_in_target h = record {
       begins = λ v l g g' t. rel_skip K;
-      puts = λ v l g g' t n. rel_bind (h.by v l g g' t) (λ v2 l2 a b q. rel_place (env_later l2 t) q prim_t);
+      puts = λ v l g g' t n. rel_bind (h.by v l g g' t) (λ v2 l2 a b q. rel_put_place K X c (env_later l2 t) q prim_t);
     }
 
     pub follows_in_declared : {d d' : Declarator} → SiteT K d.site d'.site → WriteT c d.variable d'.variable → FollowsSet c d d' → FollowsNames c (in_declared d) (in_declared d')
