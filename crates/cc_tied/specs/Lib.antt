@@ -1,1 +1,4 @@
 pub mod Tied
+pub mod Placed
+pub mod Rewrites
+pub mod Fine
