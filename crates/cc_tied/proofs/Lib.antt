@@ -19,3 +19,4 @@ pub mod EqualModes
 pub mod Reflexive
 pub mod Reaching
 pub mod Valued
+pub mod Nodes

@@ -176,7 +176,7 @@ module _ (K : Kit) (X : Below K) (built : Ref → Bool) where
     unfolding value with_tables ◌>>=◌
     tables_value f = refl
 
-    var_plain : {i i' : ℕ} → SiteT K i i' → {r r' : Ref} → ReadT c r r' → built_of tables' r' ≡ None → FollowsPlain c (var i r) (var i' r')
+    pub var_plain : {i i' : ℕ} → SiteT K i i' → {r r' : Ref} → ReadT c r r' → built_of tables' r' ≡ None → FollowsPlain c (var i r) (var i' r')
     unfolding ev
     var_plain {i = i} {i' = i'} s {r = r} {r' = r'} rd n = record { by = λ v l g g' t.
         rw (reach_by J i g r, reach_by J' i' g' r', tables_value (λ T. reach_built J i g r (built_of T r)))
