@@ -131,11 +131,11 @@ module _ (K : Kit) (L : LikeT K) (X : Below K) where
     like_only None = S.follows_no_only K X c
     like_only (Some e) = S.follows_only K X c (like_value e)
 
-    like_return : (i : ℕ) (o : Option Expr) (ls : List (List ℕ)) → S.FollowsStmt K X c (return i o) (return i o)
+    like_return : (i : ℕ) (o : Option Expr) (ls : List (List ℕ)) → S.FollowsStmt K X c ls (return i o) (return i o)
     like_return i None ls = S.follows_return_none K X c (sites i)
     like_return i (Some e) ls = S.follows_return K X c (sites i) (like_value e)
 
-    like_case : (o : Option Expr) (b : Stmts) (cs : Cases) → S.FollowsStmts K X c b b → S.FollowsCases K X c cs cs → S.FollowsCases K X c (more_cases o b cs) (more_cases o b cs)
+    like_case : (o : Option Expr) (b : Stmts) (cs : Cases) → S.FollowsStmts K X c [] b b → S.FollowsCases K X c cs cs → S.FollowsCases K X c (more_cases o b cs) (more_cases o b cs)
     like_case None b cs h k = S.follows_default K X c h k
     like_case (Some e) b cs h k = S.follows_case K X c (like_value e) h k
 
@@ -149,7 +149,7 @@ module _ (K : Kit) (L : LikeT K) (X : Below K) where
     like_hoist (more_stmts s ss) = S.hoist_more K X c (like_hoist_one s) (like_hoist ss)
 
   mutual
-    pub like_stmt : (c : K.Ctx) (ls : List (List ℕ)) (s : Stmt) → S.FollowsStmt K X c s s
+    pub like_stmt : (c : K.Ctx) (ls : List (List ℕ)) (s : Stmt) → S.FollowsStmt K X c ls s s
     like_stmt c ls (simple i e) = S.follows_simple K X c (like_value c e)
     like_stmt c ls (vars i ds) = S.follows_vars K X c (like_decls c ds)
     like_stmt c ls (fun_decl i r f) = S.follows_fun_decl K X c
@@ -167,7 +167,7 @@ module _ (K : Kit) (L : LikeT K) (X : Below K) where
     like_stmt c ls (try i b k f) = S.follows_try K X c (like_stmts c [] b) (like_catch c k) (like_finally c f)
     like_stmt c ls (pay_stmt i p) = S.follows_pay K X c p
 
-    pub like_stmts : (c : K.Ctx) (ls : List (List ℕ)) (ss : Stmts) → S.FollowsStmts K X c ss ss
+    pub like_stmts : (c : K.Ctx) (ls : List (List ℕ)) (ss : Stmts) → S.FollowsStmts K X c ls ss ss
     like_stmts c ls no_stmts = S.follows_no_stmts K X c
     like_stmts c ls (more_stmts s ss) = S.follows_more_stmts K X c (like_stmt c ls s) (like_stmts c ls ss)
 
