@@ -1,5 +1,5 @@
 -- A node whose parts follow, and that it follows itself, for two programs with the same tables.
-use Rattle.std.proofs.Common.{◌≡◌, refl, sym, ap, ◌∙◌, ℕ, Bool, true, false, List, [], ◌∷◌, Option, Some, None, subst}
+use Rattle.std.proofs.Common.{◌≡◌, refl, sym, ℕ, Bool, false, List, Option, Some, None, subst}
 use Rattle.cc_ast.specs.Syntax.{Prim, undefined, null, truth, whole, text, Expr, lit, var, this, fun, list, object, unary, binary, and, or, cond, assign, step, member, index, call, new, comma, cast, tick, Target, Exprs, Fields}
 use Rattle.cc_ast.specs.declared.operator.BinOp.{BinOp}
 use Rattle.cc_ast.specs.declared.operator.UnOp.{UnOp}
@@ -12,8 +12,8 @@ use Rattle.cc_tied.specs.Tied.{built_of}
 use Rattle.cc_tied.specs.Placed.{accesses, variable, builds, reaches}
 use Rattle.cc_tied.proofs.Kit.{Kit}
 use Rattle.cc_tied.proofs.Parts.{PathT, SiteT, Below}
-use Rattle.cc_tied.proofs.Expressions.{FollowsRef, FollowsAs, Follows, FollowsAll, FollowsFields, FollowsTarget, ReadsBy, PropT, BracketsT, values_t, texts_t, written_t, NewKeyT, deletes, as_value, follows_var, follows_lit, follows_this, follows_fun, follows_list, follows_object, follows_binary, follows_and, follows_or, follows_cond, follows_comma, follows_assign, follows_step, follows_member, follows_index, follows_call, follows_new, follows_delete, follows_unary}
-use Rattle.cc_tied.proofs.Valued.{FollowsPlain, FollowsValue, FollowsFrom, from_value, from_on, valued_alone, valued_access, valued_cast, valued_tick, var_plain}
+use Rattle.cc_tied.proofs.Expressions.{FollowsRef, Follows, FollowsAll, FollowsFields, FollowsTarget, ReadsBy, PropT, BracketsT, values_t, written_t, NewKeyT, deletes, as_value, follows_var, follows_lit, follows_this, follows_fun, follows_list, follows_object, follows_binary, follows_and, follows_or, follows_cond, follows_comma, follows_assign, follows_step, follows_member, follows_index, follows_call, follows_new, follows_delete, follows_unary}
+use Rattle.cc_tied.proofs.Valued.{FollowsValue, FollowsFrom, from_value, from_on, valued_alone, valued_access, valued_cast, valued_tick, var_plain}
 
 -- the literal that is written as a text
 text_literal : (e : Expr) (t : List ℕ) → literal_text e ≡ Some t → (i : ℕ) × (e ≡ lit i (text t))

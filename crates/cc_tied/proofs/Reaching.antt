@@ -1,10 +1,10 @@
 -- What an expression can reach, by its shape, and what its runs are then equal to.
-use Rattle.std.proofs.Common.{◌≡◌, refl, sym, ap, ◌∙◌, ℕ, Bool, true, false, List, [], ◌∷◌, ◌++◌, Option, Some, None}
+use Rattle.std.proofs.Common.{◌≡◌, refl, sym, ap, ◌∙◌, ℕ, Bool, true, false, List, [], ◌∷◌, ◌++◌, Option, None}
 use Rattle.std.specs.Prelude.{not}
 use Rattle.cc_ast.specs.Syntax.{Expr, lit, var, this, fun, list, object, unary, binary, and, or, cond, assign, step, member, index, call, new, comma, cast, tick}
-use Rattle.cc_meaning.specs.Values.{Val, prim, at_site}
+use Rattle.cc_meaning.specs.Values.{Val, at_site}
 use Rattle.cc_meaning.specs.State.{Env, Path}
-use Rattle.cc_meaning.specs.Monad.{M, ret, skip, ◌>>=◌, with_tables, Mode}
+use Rattle.cc_meaning.specs.Monad.{M, ret, ◌>>=◌, with_tables, Mode}
 use Rattle.cc_meaning.specs.Store.{dotted, name_of}
 use Rattle.cc_meaning.specs.Acts.{cast_to}
 use Rattle.cc_meaning.specs.Calls.{Reference, Reach, plain, access, built_global, built_member, Bodies, get, get_on, take_path, cast_all, value_of, value, cast_reach}

@@ -1,28 +1,24 @@
 -- Expressions whose values are tied, whatever else they reach; and what follows from their parts.
-use Rattle.std.proofs.Common.{◌≡◌, refl, sym, ap, ◌∙◌, ℕ, Bool, true, false, List, [], ◌∷◌, Option, Some, None, subst}
-use Rattle.std.specs.Prelude.{not, ◌&&◌, ◌||◌}
-use Rattle.cc_ast.specs.Syntax.{Prim, Expr, lit, var, this, fun, list, object, unary, binary, and, or, cond, assign, step, member, index, call, new, comma, cast, tick, Target, Exprs, Fields}
-use Rattle.cc_ast.specs.declared.operator.BinOp.{BinOp}
-use Rattle.cc_ast.specs.declared.operator.UnOp.{UnOp}
-use Rattle.cc_ast.specs.declared.operator.UnOp.TheVariants.{Delete}
+use Rattle.std.proofs.Common.{◌≡◌, refl, sym, ℕ, Bool, true, false, Option, Some, None, subst}
+use Rattle.std.specs.Prelude.{◌||◌}
+use Rattle.cc_ast.specs.Syntax.{Prim, Expr, var, cast, tick}
 use Rattle.cc_ast.specs.declared.tree.Ref.{Ref}
-use Rattle.cc_ast.specs.declared.tree.Key.{Key}
-use Rattle.cc_meaning.specs.Values.{Val, prim, at_site}
+use Rattle.cc_meaning.specs.Values.{Val, at_site}
 use Rattle.cc_meaning.specs.State.{Env, Path, Tables}
-use Rattle.cc_meaning.specs.Monad.{M, ret, ◌>>=◌, with_tables, Mode}
+use Rattle.cc_meaning.specs.Monad.{M, ret, ◌>>=◌, with_tables}
 use Rattle.cc_meaning.specs.Store.{Built}
 use Rattle.cc_meaning.specs.Acts.{read_var, cast_to}
-use Rattle.cc_meaning.specs.Shapes.{site_of, literal_text}
-use Rattle.cc_meaning.specs.Calls.{Reach, plain, access, value_of, value, Bodies, cast_reach}
-use Rattle.cc_meaning.specs.Meaning.{reach_member, reference, ev, reach_var}
+use Rattle.cc_meaning.specs.Shapes.{site_of}
+use Rattle.cc_meaning.specs.Calls.{Reach, plain, access, value_of, value, cast_reach}
+use Rattle.cc_meaning.specs.Meaning.{reach_member, ev}
 use Rattle.cc_tied.specs.Tied.{built_of, plain_t, access_t}
 use Rattle.cc_tied.specs.Placed.{accesses, variable, builds, reaches}
 use Rattle.cc_tied.proofs.Kit.{Kit}
 use Rattle.cc_tied.proofs.Parts.{V, ReachV, PathT, SiteT, Below, val_later}
-use Rattle.cc_tied.proofs.Laws.{ret_bind, bind_ret, bind_assoc, bind_alike}
+use Rattle.cc_tied.proofs.Laws.{ret_bind, bind_ret, bind_assoc}
 use Rattle.cc_tied.proofs.Calls.{rel_value_of}
 use Rattle.cc_tied.proofs.Reaching.{value_first, member_first, cast_value, tick_value}
-use Rattle.cc_tied.proofs.Expressions.{FollowsRef, FollowsAs, Follows, FollowsAll, FollowsFields, FollowsOn, FollowsTarget, ReadsBy, PropT, BracketsT, NewKeyT, deletes, reach_built, reach_by, rel_reference, as_value, on_reached, follows_lit, follows_this, follows_fun, follows_list, follows_object, follows_binary, follows_and, follows_or, follows_cond, follows_comma, follows_assign, follows_step, follows_member, follows_index, follows_call, follows_new, follows_delete, follows_unary}
+use Rattle.cc_tied.proofs.Expressions.{FollowsRef, FollowsAs, Follows, FollowsOn, PropT, reach_built, reach_by, rel_reference, as_value, on_reached}
 
 module _ (K : Kit) where
   open K use {World, Rel, rel_ret, rel_bind}
@@ -101,23 +97,29 @@ module _ (K : Kit) (X : Below K) (built : Ref → Bool) where
 
     pub from_on : {e e' : Expr} → FollowsFrom c e e' → FollowsOn K X c e e'
     from_on (reached_t h) = on_reached K X c h
-    from_on (valued_t {e = e} {e' = e'} h b d) = record { by = λ v l g g' t {i} {i'} s {p} {p'} pt {q} {q'} kt.
-        subst (λ z. Rel (ReachV K) v z (ev J' B' g' None e' >>= λ r. reach_member J' B' i' p' q' r)) (sym (member_first J B g None e b i p q)) (rel_on_right h d (accesses e') refl l t s pt kt) }
+    from_on (valued_t {e = e} {e' = e'} h b d) = record {
+      by = λ v l g g' t {i} {i'} s {p} {p'} pt {q} {q'} kt.
+          subst (λ z. Rel (ReachV K) v z (ev J' B' g' None e' >>= λ r. reach_member J' B' i' p' q' r)) (sym (member_first J B g None e b i p q)) (rel_on_right h d (accesses e') refl l t s pt kt);
+    }
 
     -- ---- values alone
 
     pub plain_of_values : {e e' : Expr} → accesses e' ≡ false → variable e' ≡ false → Follows K X c e e' → FollowsPlain c e e'
-    plain_of_values {e = e} {e' = e'} a b h = record { by = λ v l g g' t.
-        subst (λ z. Rel PlainT v (value J B (ev J B g None e)) z) (sym (value_first J' B' g' None e' a b))
-        (rel_left K (rel_bind (h.by v l g g' t) (λ v2 l2 x y q. rel_ret x (plain y) (plain_p q)))) }
+    plain_of_values {e = e} {e' = e'} a b h = record {
+      by = λ v l g g' t.
+          subst (λ z. Rel PlainT v (value J B (ev J B g None e)) z) (sym (value_first J' B' g' None e' a b))
+          (rel_left K (rel_bind (h.by v l g g' t) (λ v2 l2 x y q. rel_ret x (plain y) (plain_p q))));
+    }
 
     rel_reached : {v : World} {x : Val} {r : Reach} → PlainT v x r → Rel (ReachV K) v (ret (plain x)) (ret r)
     rel_reached {x = x} (plain_p {y = y} q) = rel_ret (plain x) (plain y) (plain_t q)
 
     pub ref_of_plain : {e e' : Expr} → accesses e ≡ false → variable e ≡ false → FollowsPlain c e e' → FollowsRef K X c None None e e'
-    ref_of_plain {e = e} {e' = e'} a b h = record { by = λ v l g g' t.
-        subst (λ z. Rel (ReachV K) v z (ev J' B' g' None e')) (sym (value_first J B g None e a b))
-        (rel_right K (rel_bind (h.by v l g g' t) (λ v2 l2 x r q. rel_reached q))) }
+    ref_of_plain {e = e} {e' = e'} a b h = record {
+      by = λ v l g g' t.
+          subst (λ z. Rel (ReachV K) v z (ev J' B' g' None e')) (sym (value_first J B g None e a b))
+          (rel_right K (rel_bind (h.by v l g g' t) (λ v2 l2 x r q. rel_reached q)));
+    }
 
     -- what gives a value alone on the right
     pub valued_alone : {e e' : Expr} → accesses e' ≡ false → variable e' ≡ false → SiteT K (site_of e) (site_of e') → ((p p' : Option Path) → FollowsRef K X c p p' e e') → FollowsValue c e e'
@@ -134,14 +136,18 @@ module _ (K : Kit) (X : Below K) (built : Ref → Bool) where
 
     cast_values : {i i' : ℕ} → SiteT K i i' → {d d' : ℕ} → DocT d d' → {e e' : Expr} → Follows K X c e e' → (p p' : Option Path) → FollowsAs K X (V K) c p p' (cast i d e) (cast i' d' e')
     unfolding ev
-    cast_values {i = i} {i' = i'} s {d = d} {d' = d'} dt {e = e} {e' = e'} h p p' = record { by = λ v l g g' t.
-        rw (cast_value J B i d (ev J B g None e), cast_value J' B' i' d' (ev J' B' g' None e'))
-        (rel_bind (h.by v l g g' t) (λ v2 l2 x y q. rel_bind (rel_cast s dt q) (λ v3 l3 _ _ _. rel_ret x y (val_later K l3 q)))) }
+    cast_values {i = i} {i' = i'} s {d = d} {d' = d'} dt {e = e} {e' = e'} h p p' = record {
+      by = λ v l g g' t.
+          rw (cast_value J B i d (ev J B g None e), cast_value J' B' i' d' (ev J' B' g' None e'))
+          (rel_bind (h.by v l g g' t) (λ v2 l2 x y q. rel_bind (rel_cast s dt q) (λ v3 l3 _ _ _. rel_ret x y (val_later K l3 q))));
+    }
 
     cast_plain : {i i' : ℕ} → SiteT K i i' → {d d' : ℕ} → DocT d d' → {e e' : Expr} → FollowsPlain c e e' → FollowsPlain c (cast i d e) (cast i' d' e')
     unfolding ev
-    cast_plain {i = i} {i' = i'} s {d = d} {d' = d'} dt {e = e} {e' = e'} h = record { by = λ v l g g' t.
-        rw (cast_value J B i d (ev J B g None e)) (rel_bind (h.by v l g g' t) (λ v2 l2 x r q. rel_cast_plain s dt q)) }
+    cast_plain {i = i} {i' = i'} s {d = d} {d' = d'} dt {e = e} {e' = e'} h = record {
+      by = λ v l g g' t.
+          rw (cast_value J B i d (ev J B g None e)) (rel_bind (h.by v l g g' t) (λ v2 l2 x r q. rel_cast_plain s dt q));
+    }
 
     pub valued_cast : {i i' : ℕ} → SiteT K i i' → {d d' : ℕ} → DocT d d' → {e e' : Expr} → FollowsValue c e e' → FollowsValue c (cast i d e) (cast i' d' e')
     unfolding site_of reaches accesses builds
@@ -149,14 +155,18 @@ module _ (K : Kit) (X : Below K) (built : Ref → Bool) where
 
     tick_values : (n : ℕ) {i i' : ℕ} {e e' : Expr} → Follows K X c e e' → (p p' : Option Path) → FollowsAs K X (V K) c p p' (tick i n e) (tick i' n e')
     unfolding ev
-    tick_values n {e = e} {e' = e'} h p p' = record { by = λ v l g g' t.
-        rw (tick_value J B n (ev J B g None e), tick_value J' B' n (ev J' B' g' None e'))
-        (rel_bind (rel_mark n) (λ v2 l2 _ _ _. h.by v2 (later l l2) g g' (env_later l2 t))) }
+    tick_values n {e = e} {e' = e'} h p p' = record {
+      by = λ v l g g' t.
+          rw (tick_value J B n (ev J B g None e), tick_value J' B' n (ev J' B' g' None e'))
+          (rel_bind (rel_mark n) (λ v2 l2 _ _ _. h.by v2 (later l l2) g g' (env_later l2 t)));
+    }
 
     tick_plain : (n : ℕ) {i i' : ℕ} {e e' : Expr} → FollowsPlain c e e' → FollowsPlain c (tick i n e) (tick i' n e')
     unfolding ev
-    tick_plain n {e = e} {e' = e'} h = record { by = λ v l g g' t.
-        rw (tick_value J B n (ev J B g None e)) (rel_bind (rel_mark n) (λ v2 l2 _ _ _. h.by v2 (later l l2) g g' (env_later l2 t))) }
+    tick_plain n {e = e} {e' = e'} h = record {
+      by = λ v l g g' t.
+          rw (tick_value J B n (ev J B g None e)) (rel_bind (rel_mark n) (λ v2 l2 _ _ _. h.by v2 (later l l2) g g' (env_later l2 t)));
+    }
 
     pub valued_tick : (n : ℕ) {i i' : ℕ} → SiteT K i i' → {e e' : Expr} → FollowsValue c e e' → FollowsValue c (tick i n e) (tick i' n e')
     unfolding site_of reaches accesses builds
@@ -178,6 +188,8 @@ module _ (K : Kit) (X : Below K) (built : Ref → Bool) where
 
     pub var_plain : {i i' : ℕ} → SiteT K i i' → {r r' : Ref} → ReadT c r r' → built_of tables' r' ≡ None → FollowsPlain c (var i r) (var i' r')
     unfolding ev
-    var_plain {i = i} {i' = i'} s {r = r} {r' = r'} rd n = record { by = λ v l g g' t.
-        rw (reach_by J i g r, reach_by J' i' g' r', tables_value (λ T. reach_built J i g r (built_of T r)))
-        (rel_tables _ _ (read_alone s t rd (built_of tables r) (built_of tables' r') (read_built rd) n)) }
+    var_plain {i = i} {i' = i'} s {r = r} {r' = r'} rd n = record {
+      by = λ v l g g' t.
+          rw (reach_by J i g r, reach_by J' i' g' r', tables_value (λ T. reach_built J i g r (built_of T r)))
+          (rel_tables _ _ (read_alone s t rd (built_of tables r) (built_of tables' r') (read_built rd) n));
+    }
