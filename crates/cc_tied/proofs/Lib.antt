@@ -20,4 +20,4 @@ pub mod Reflexive
 pub mod Reaching
 pub mod Valued
 pub mod Nodes
-pub mod Rewriting
+pub mod Rebuilding

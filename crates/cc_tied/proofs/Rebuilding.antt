@@ -10,8 +10,8 @@ use Rattle.cc_meaning.specs.Monad.{pick}
 use Rattle.cc_meaning.specs.Shapes.{literal_text}
 use Rattle.cc_meaning.specs.Meaning as M
 use Rattle.cc_tied.specs.Placed.{Place, a_value, an_assigned, a_callee, a_deleted, an_object, accesses, variable, functions, builds, reaches, keeps, guard, operand}
-use Rattle.cc_tied.specs.Rewrites.{init_of, put, put_call, put_on_value, re, re_target, re_all, re_fields, re_value, re_option, re_declarator, re_declarators, re_init, re_names, re_stmt, re_stmts, re_maybe, re_cases}
-use Rattle.cc_tied.specs.Fine.{Allowed, FineRead, Fine, FineTarget, FineAll, FineFields, FineOption, FineDeclarator, FineDeclarators, FineInit, FineNames, FineStmt, FineStmts, FineMaybe, FineCases}
+use Rattle.cc_tied.specs.Rebuilt.{init_of, put, put_call, put_on_value, re, re_target, re_all, re_fields, re_value, re_option, re_declarator, re_declarators, re_init, re_names, re_stmt, re_stmts, re_maybe, re_cases}
+use Rattle.cc_tied.specs.Allowed.{Allowed, FineRead, Fine, FineTarget, FineAll, FineFields, FineOption, FineDeclarator, FineDeclarators, FineInit, FineNames, FineStmt, FineStmts, FineMaybe, FineCases}
 use Rattle.cc_tied.proofs.Kit.{Kit}
 use Rattle.cc_tied.specs.Tied.{variable_t, slot_t}
 use Rattle.cc_tied.proofs.Parts.{Below, PlaceV}
