@@ -6,6 +6,7 @@ pub mod Judged
 pub mod Calls
 pub mod Expressions
 pub mod AtValues
+pub mod Standing
 pub mod Ends
 pub mod Statements
 pub mod Turns
