@@ -22,3 +22,4 @@ pub mod Reaching
 pub mod Valued
 pub mod Nodes
 pub mod Rebuilding
+pub mod RebuiltBodies

@@ -1,7 +1,7 @@
--- Rewriting from the leaves up keeps what each step, each call, each trim and each cut keeps.
-use Rattle.std.proofs.Common.{◌≡◌, refl, ℕ, Bool, true, false, List, [], ◌∷◌, ◌++◌, Option, Some, None}
+-- Rewriting from the leaves up keeps what each step and each call keeps: expressions and declarators.
+use Rattle.std.proofs.Common.{◌≡◌, refl, ℕ, Bool, true, false, List, [], Option, Some, None}
 use Rattle.std.specs.Prelude.{not, ◌&&◌, ◌||◌, is_some}
-use Rattle.cc_ast.specs.Syntax.{Prim, undefined, null, truth, whole, text, Expr, lit, var, this, fun, list, object, unary, binary, and, or, cond, assign, step as step_of, member, index, call, new, comma, cast, tick, Target, to_var, to_member, to_index, Exprs, no_exprs, more_exprs, Fields, no_fields, more_fields, Declarator, ForInit, no_init, init_value, init_vars, ForTarget, in_target, in_declared, Stmt, simple, vars, fun_decl, if, while, do_while, for, for_in, return, throw, break, continue, label, switch, try, pay_stmt, Stmts, no_stmts, more_stmts, MaybeStmts, absent, present, Cases, no_cases, more_cases}
+use Rattle.cc_ast.specs.Syntax.{Prim, undefined, null, truth, whole, text, Expr, lit, var, this, fun, list, object, unary, binary, and, or, cond, assign, step as step_of, member, index, call, new, comma, cast, tick, Target, to_var, to_member, to_index, Exprs, no_exprs, more_exprs, Fields, no_fields, more_fields, Declarator, Stmt, return, Stmts, Cases, more_cases}
 use Rattle.cc_ast.specs.declared.operator.BinOp.{BinOp}
 use Rattle.cc_ast.specs.declared.operator.UnOp.TheVariants.{Delete}
 use Rattle.cc_ast.specs.declared.tree.Ref.{Ref}
@@ -10,8 +10,8 @@ use Rattle.cc_meaning.specs.Monad.{pick}
 use Rattle.cc_meaning.specs.Shapes.{literal_text}
 use Rattle.cc_meaning.specs.Meaning as M
 use Rattle.cc_tied.specs.Placed.{Place, a_value, an_assigned, a_callee, a_deleted, an_object, accesses, variable, functions, builds, reaches, keeps, guard, operand}
-use Rattle.cc_tied.specs.Rebuilt.{init_of, put, put_call, put_on_value, re, re_target, re_all, re_fields, re_value, re_option, re_declarator, re_declarators, re_init, re_names, re_stmt, re_stmts, re_maybe, re_cases}
-use Rattle.cc_tied.specs.Allowed.{Allowed, FineRead, Fine, FineTarget, FineAll, FineFields, FineOption, FineDeclarator, FineDeclarators, FineInit, FineNames, FineStmt, FineStmts, FineMaybe, FineCases}
+use Rattle.cc_tied.specs.Rebuilt.{put, put_call, put_on_value, re, re_target, re_all, re_fields, re_value, re_option, re_declarator}
+use Rattle.cc_tied.specs.Allowed.{Allowed, FineRead, Fine, FineTarget, FineAll, FineFields, FineOption, FineDeclarator}
 use Rattle.cc_tied.proofs.Kit.{Kit}
 use Rattle.cc_tied.specs.Tied.{variable_t, slot_t}
 use Rattle.cc_tied.proofs.Parts.{Below, PlaceV}
@@ -19,7 +19,6 @@ use Rattle.cc_tied.proofs.Expressions as E
 use Rattle.cc_tied.proofs.Valued as W
 use Rattle.cc_tied.proofs.Nodes as N
 use Rattle.cc_tied.proofs.Statements as S
-use Rattle.cc_tied.proofs.Turns as T
 
 -- ---- what a guard leaves
 
@@ -83,42 +82,30 @@ module _ (K : Kit) (X : Below K) (built : Ref → Bool) (c : K.Ctx) where
   placed_same a_deleted h k = h
   placed_same an_object h k = W.reached_t h
 
-module _ (K : Kit) (X : Below K) (built : Ref → Bool) (Here : K.Ctx → Type 0) (Stands : K.Ctx → List (List ℕ) → Stmt → Type 0) (step : Expr → Expr) (step_call : ℕ → Expr → Exprs → Expr) (trim : Declarator → List Declarator) (trim_in : Declarator → Declarator) (cut : Stmt → Stmts → Stmts) where
-  abbrev pub allowed : Allowed K.Ctx
-  allowed = record { caught = K.in_catch; reads = λ c r. K.ReadT c r r; writes = λ c r. K.WriteT c r r; this_here = K.ThisT; makes = λ c f. K.StandT c f f; stands = Stands }
+-- what a kit ties to itself, and the statements of a pass
+abbrev pub allowed : (K : Kit) → (Stands : K.Ctx → List (List ℕ) → Stmt → Type 0) → Allowed K.Ctx
+allowed K Stands = record { caught = K.in_catch; reads = λ c r. K.ReadT c r r; writes = λ c r. K.WriteT c r r; this_here = K.ThisT; makes = λ c f. K.StandT c f f; stands = Stands }
 
-  abbrev pub new_stmt : Stmt → Stmt
-  new_stmt s = re_stmt built step step_call trim trim_in cut s
-
-  abbrev pub new_stmts : Stmts → Stmts
-  new_stmts ss = re_stmts built step step_call trim trim_in cut ss
-
+module _ (K : Kit) (X : Below K) (built : Ref → Bool) (Here : K.Ctx → Type 0) (Stands : K.Ctx → List (List ℕ) → Stmt → Type 0) (step : Expr → Expr) (step_call : ℕ → Expr → Exprs → Expr) where
   abbrev pub new_declarator : Declarator → Declarator
   new_declarator d = re_declarator built step step_call d
 
-  -- what a pass owes, in the contexts where it rewrites
-  pub record Rules : Type 0 where
+  -- what the steps of a pass owe, in the contexts where it rewrites
+  pub record StepRules : Type 0 where
     pub caught : (c : K.Ctx) → Here c → Here (K.in_catch c)
     -- a variable that is read, wherever it stands
     pub reads : (c : K.Ctx) → Here c → (i : ℕ) (r : Ref) → K.ReadT c r r → E.FollowsRef K X c None None (var i r) (step (var i r)) × W.FollowsValue K X built c (var i r) (step (var i r))
     -- a node with its parts
     pub steps : (c : K.Ctx) → Here c → (e e' : Expr) → N.NodeT K X built c e e' → W.FollowsValue K X built c e (step e')
     pub calls : (c : K.Ctx) → Here c → (i : ℕ) (f f' : Expr) (es es' : Exprs) → E.FollowsRef K X c None None f f' → E.FollowsAll K X c es es' → W.FollowsValue K X built c (call i f es) (step_call i f' es')
-    -- a declarator and a statement, beside what their parts became
-    pub trims : (c : K.Ctx) → Here c → (d : Declarator) (ds ds' : List Declarator) → FineDeclarator K.Ctx allowed c d → S.FollowsSet K X c d (new_declarator d) → S.FollowsDecls K X c ds ds' → S.FollowsDecls K X c (d ∷ ds) (trim (new_declarator d) ++ ds')
-    pub trim_ins : (c : K.Ctx) → Here c → (d : Declarator) → FineDeclarator K.Ctx allowed c d → S.FollowsSet K X c d (new_declarator d) → S.FollowsNames K X c (in_declared d) (in_declared (trim_in (new_declarator d)))
-    pub cuts : (c : K.Ctx) → Here c → (ls : List (List ℕ)) (s : Stmt) (ss ss' : Stmts) → Stands c ls s → FineStmt K.Ctx allowed c ls s → S.FollowsStmt K X c ls s (new_stmt s) → S.FollowsStmts K X c ls ss ss' → S.FollowsStmts K X c ls (more_stmts s ss) (cut (new_stmt s) ss')
-    -- in a function's or a chunk's own list
-    pub hoists : (c : K.Ctx) → Here c → (s : Stmt) (ss ss' : Stmts) → Stands c [] s → FineStmt K.Ctx allowed c [] s → S.FollowsHoistOne K X c s (new_stmt s) → S.FollowsHoist K X c ss ss' → S.FollowsHoist K X c (more_stmts s ss) (cut (new_stmt s) ss')
-    pub chunks : (n : ℕ) → Here (K.outer n) → (s : Stmt) (ss ss' : Stmts) → Stands (K.outer n) [] s → FineStmt K.Ctx allowed (K.outer n) [] s → S.FollowsStmt K X (K.outer n) [] s (new_stmt s) → T.FollowsChunk K X n ss ss' → T.FollowsChunk K X n (more_stmts s ss) (cut (new_stmt s) ss')
 
-  module _ (same : N.SameTables K X built) (rules : Rules) where
+  module _ (same : N.SameTables K X built) (rules : StepRules) where
     module _ (c : K.Ctx) (here : Here c) where
       abbrev pub New : (t : Bool) → Place → Expr → Expr
       New t q e = re built step step_call t q e
 
       abbrev pub FE : Expr → Type 0
-      FE e = Fine K.Ctx allowed c e
+      FE e = Fine K.Ctx (allowed K Stands) c e
 
       put_like : (t : Bool) (q : Place) {e e' : Expr} → N.NodeT K X built c e e' → accesses e ≡ false → variable e ≡ false → reaches built e' ≡ false → At K X built c q e (put built step step_call t q e')
       unfolding put
@@ -178,7 +165,7 @@ module _ (K : Kit) (X : Below K) (built : Ref → Bool) (Here : K.Ctx → Type 0
 
       -- what the tree says of a variable that is written
       pub data ReadWhere (b : Bool) : Ref → Ref → Type 0 where
-        read_where : {r : Ref} → FineRead K.Ctx allowed c b r → ReadWhere b r r
+        read_where : {r : Ref} → FineRead K.Ctx (allowed K Stands) c b r → ReadWhere b r r
 
       place_as : {Reads Reads' : Ref → Ref → Type 0} → ((r r' : Ref) → Reads r r' → Reads' r r') → {v : K.World} {a b : M.Place} → PlaceV K Reads (K.WriteT c) v a b → PlaceV K Reads' (K.WriteT c) v a b
       place_as f (variable_t s rd wr) = variable_t s (f _ _ rd) wr
@@ -222,16 +209,16 @@ module _ (K : Kit) (X : Below K) (built : Ref → Bool) (Here : K.Ctx → Type 0
         re_like t q (cast i d e) o = cast_like q i d e _ (re_like t q e o)
         re_like t q (tick i n e) o = tick_like q i n e _ (re_like t q e o)
 
-        pub re_like_target : (b : Bool) (u : Target) → FineTarget K.Ctx allowed c b u → E.FollowsTarget K X c (ReadWhere b) u (re_target built step step_call u)
+        pub re_like_target : (b : Bool) (u : Target) → FineTarget K.Ctx (allowed K Stands) c b u → E.FollowsTarget K X c (ReadWhere b) u (re_target built step step_call u)
         re_like_target b (to_var i r) o = E.target_var K X c (same.sites i) (read_where o.0) o.1
         re_like_target b (to_member i e p) o = E.target_member K X c (same.sites i) (same.paths _ _) (same.props p) (W.from_value K X built c (re_like true an_object e o))
         re_like_target b (to_index i e k) o = E.target_index K X c (same.sites i) (W.from_value K X built c (re_like true an_object e o.0)) (new_key true k) ((re_like true a_value k o.1).values None None)
 
-        pub re_like_all : (t : Bool) (es : Exprs) → FineAll K.Ctx allowed c es → E.FollowsAll K X c es (re_all built step step_call t es)
+        pub re_like_all : (t : Bool) (es : Exprs) → FineAll K.Ctx (allowed K Stands) c es → E.FollowsAll K X c es (re_all built step step_call t es)
         re_like_all t no_exprs o = E.follows_no_exprs K X c
         re_like_all t (more_exprs e es) o = E.follows_more_exprs K X c ((re_like t a_value e o.0).values None None) (re_like_all t es o.1)
 
-        pub re_like_fields : (t : Bool) (p p' : Option Path) (fs : Fields) → FineFields K.Ctx allowed c fs → E.FollowsFields K X c p p' fs (re_fields built step step_call t fs)
+        pub re_like_fields : (t : Bool) (p p' : Option Path) (fs : Fields) → FineFields K.Ctx (allowed K Stands) c fs → E.FollowsFields K X c p p' fs (re_fields built step step_call t fs)
         re_like_fields t p p' no_fields o = E.follows_no_fields K X c
         re_like_fields t p p' (more_fields k e fs) o = let h = re_like t a_value e o.0 in E.follows_more_fields K X c h.site (same.keys k) (same.paths _ _) (h.values _ _) (re_like_fields t p p' fs o.1)
 
@@ -247,113 +234,31 @@ module _ (K : Kit) (X : Below K) (built : Ref → Bool) (Here : K.Ctx → Type 0
       unfolding re_value
       re_like_value e o = (re_like false a_value e o).values None None
 
-      re_like_test : (o : Option Expr) → FineOption K.Ctx allowed c o → S.FollowsTest K X c o (NewOption o)
+      pub re_like_test : (o : Option Expr) → FineOption K.Ctx (allowed K Stands) c o → S.FollowsTest K X c o (NewOption o)
       unfolding re_option FineOption
       re_like_test None o = S.follows_no_test K X c
       re_like_test (Some e) o = S.follows_test K X c (re_like_value e o)
 
-      re_like_only : (o : Option Expr) → FineOption K.Ctx allowed c o → S.FollowsOnly K X c o (NewOption o)
+      pub re_like_only : (o : Option Expr) → FineOption K.Ctx (allowed K Stands) c o → S.FollowsOnly K X c o (NewOption o)
       unfolding re_option FineOption
       re_like_only None o = S.follows_no_only K X c
       re_like_only (Some e) o = S.follows_only K X c (re_like_value e o)
 
-      re_like_return : (ls : List (List ℕ)) (i : ℕ) (o : Option Expr) → FineOption K.Ctx allowed c o → S.FollowsStmt K X c ls (return i o) (return i (NewOption o))
+      pub re_like_return : (ls : List (List ℕ)) (i : ℕ) (o : Option Expr) → FineOption K.Ctx (allowed K Stands) c o → S.FollowsStmt K X c ls (return i o) (return i (NewOption o))
       unfolding re_option FineOption
       re_like_return ls i None o = S.follows_return_none K X c (same.sites i)
       re_like_return ls i (Some e) o = S.follows_return K X c (same.sites i) (re_like_value e o)
 
-      re_like_case : (v : Option Expr) {b b' : Stmts} {cs cs' : Cases} → FineOption K.Ctx allowed c v → S.FollowsStmts K X c [] b b' → S.FollowsCases K X c cs cs' → S.FollowsCases K X c (more_cases v b cs) (more_cases (NewOption v) b' cs')
+      pub re_like_case : (v : Option Expr) {b b' : Stmts} {cs cs' : Cases} → FineOption K.Ctx (allowed K Stands) c v → S.FollowsStmts K X c [] b b' → S.FollowsCases K X c cs cs' → S.FollowsCases K X c (more_cases v b cs) (more_cases (NewOption v) b' cs')
       unfolding re_option FineOption
       re_like_case None o h k = S.follows_default K X c h k
       re_like_case (Some e) o h k = S.follows_case K X c (re_like_value e o) h k
 
-      set_like : (i : ℕ) (r : Ref) (v : Option Expr) → K.WriteT c r r → FineOption K.Ctx allowed c v → S.FollowsSet K X c (record { site = i; variable = r; value = v }) (record { site = i; variable = r; value = NewOption v })
+      pub set_like : (i : ℕ) (r : Ref) (v : Option Expr) → K.WriteT c r r → FineOption K.Ctx (allowed K Stands) c v → S.FollowsSet K X c (record { site = i; variable = r; value = v }) (record { site = i; variable = r; value = NewOption v })
       unfolding re_option FineOption re_value
       set_like i r None wr o = S.follows_bare K X c
       set_like i r (Some e) wr o = S.follows_set K X c (same.sites i) wr ((re_like false a_value e o).values _ _)
 
-      re_like_declarator : (d : Declarator) → FineDeclarator K.Ctx allowed c d → S.FollowsSet K X c d (new_declarator d)
+      pub re_like_declarator : (d : Declarator) → FineDeclarator K.Ctx (allowed K Stands) c d → S.FollowsSet K X c d (new_declarator d)
       unfolding re_declarator FineDeclarator
       re_like_declarator d o = set_like d.site d.variable d.value o.0 o.1
-
-      re_like_declarators : (ds : List Declarator) → FineDeclarators K.Ctx allowed c ds → S.FollowsDecls K X c ds (re_declarators built step step_call trim trim_in ds)
-      unfolding re_declarators FineDeclarators
-      re_like_declarators [] o = S.follows_no_decls K X c
-      re_like_declarators (d ∷ ds) o = rules.trims c here d ds _ o.0 (re_like_declarator d o.0) (re_like_declarators ds o.1)
-
-      init_vars_like : (ds ds' : List Declarator) → S.FollowsDecls K X c ds ds' → S.FollowsInit K X c (init_vars ds) (init_of ds')
-      unfolding init_of M.begin_for M.declare
-      init_vars_like ds [] h = record { by = λ v l g g' t. h.by v l g g' t }
-      init_vars_like ds (d ∷ ds') h = S.follows_init_vars K X c h
-
-      re_like_init : (h : ForInit) → FineInit K.Ctx allowed c h → S.FollowsInit K X c h (re_init built step step_call trim trim_in h)
-      unfolding re_init FineInit
-      re_like_init no_init o = S.follows_no_init K X c
-      re_like_init (init_value e) o = S.follows_init_value K X c (re_like_value e o)
-      re_like_init (init_vars ds) o = init_vars_like ds _ (re_like_declarators ds o)
-
-      re_like_names : (u : ForTarget) → FineNames K.Ctx allowed c u → S.FollowsNames K X c u (re_names built step step_call trim trim_in u)
-      unfolding re_names FineNames
-      re_like_names (in_target u) o = S.follows_in_target K X c (re_like_target false u o)
-      re_like_names (in_declared d) o = rules.trim_ins c here d o (re_like_declarator d o)
-
-    -- ---- statements
-
-    mutual
-      unfolding re_stmt FineStmt
-
-      pub re_like_stmt : (c : K.Ctx) → Here c → (ls : List (List ℕ)) (s : Stmt) → FineStmt K.Ctx allowed c ls s → S.FollowsStmt K X c ls s (new_stmt s)
-      re_like_stmt c here ls (simple i e) o = S.follows_simple K X c (re_like_value c here e o)
-      re_like_stmt c here ls (vars i ds) o = S.follows_vars K X c (re_like_declarators c here ds o)
-      re_like_stmt c here ls (fun_decl i r f) o = S.follows_fun_decl K X c
-      re_like_stmt c here ls (if i e a b) o = S.follows_if K X c (re_like_value c here e o.0) (re_like_stmts c here [] a o.1) (re_like_stmts c here [] b o.2)
-      re_like_stmt c here ls (while i e b) o = S.follows_while K X c (S.follows_test K X c (re_like_value c here e o.0)) (re_like_stmts c here [] b o.1)
-      re_like_stmt c here ls (do_while i b e) o = S.follows_do_while K X c (re_like_stmts c here [] b o.0) (S.follows_test K X c (re_like_value c here e o.1))
-      re_like_stmt c here ls (for i h e f b) o = S.follows_for K X c (re_like_init c here h o.0) (re_like_test c here e o.1) (re_like_only c here f o.2) (re_like_stmts c here [] b o.3)
-      re_like_stmt c here ls (for_in i u e b) o = S.follows_for_in K X c (same.sites i) (re_like_names c here u o.0) (re_like_value c here e o.1) (re_like_stmts c here [] b o.2)
-      re_like_stmt c here ls (return i v) o = re_like_return c here ls i v o
-      re_like_stmt c here ls (throw i e) o = S.follows_throw K X c (re_like_value c here e o)
-      re_like_stmt c here ls (break i l) o = S.follows_break K X c l
-      re_like_stmt c here ls (continue i l) o = S.follows_continue K X c l
-      re_like_stmt c here ls (label i l b) o = S.follows_label K X c l (re_like_stmts c here (l ∷ ls) b o)
-      re_like_stmt c here ls (switch i e cs) o = S.follows_switch K X c (re_like_value c here e o.0) (re_like_cases c here cs o.1)
-      re_like_stmt c here ls (try i b k f) o = S.follows_try K X c (re_like_stmts c here [] b o.0) (re_like_catch c here k o.1) (re_like_finally c here f o.2)
-      re_like_stmt c here ls (pay_stmt i n) o = S.follows_pay K X c n
-
-      pub re_like_stmts : (c : K.Ctx) → Here c → (ls : List (List ℕ)) (ss : Stmts) → FineStmts K.Ctx allowed c ls ss → S.FollowsStmts K X c ls ss (new_stmts ss)
-      re_like_stmts c here ls no_stmts o = S.follows_no_stmts K X c
-      re_like_stmts c here ls (more_stmts s ss) o = rules.cuts c here ls s ss _ o.0 o.1 (re_like_stmt c here ls s o.1) (re_like_stmts c here ls ss o.2)
-
-      re_like_catch : (c : K.Ctx) → Here c → (k : MaybeStmts) → FineMaybe K.Ctx allowed (K.in_catch c) k → S.FollowsCatch K X c k (re_maybe built step step_call trim trim_in cut k)
-      re_like_catch c here absent o = S.follows_no_catch K X c
-      re_like_catch c here (present b) o = S.follows_catch K X c (re_like_stmts (K.in_catch c) (rules.caught c here) [] b o)
-
-      re_like_finally : (c : K.Ctx) → Here c → (k : MaybeStmts) → FineMaybe K.Ctx allowed c k → S.FollowsFinally K X c k (re_maybe built step step_call trim trim_in cut k)
-      re_like_finally c here absent o = S.follows_no_finally K X c
-      re_like_finally c here (present b) o = S.follows_finally K X c (re_like_stmts c here [] b o)
-
-      re_like_cases : (c : K.Ctx) → Here c → (cs : Cases) → FineCases K.Ctx allowed c cs → S.FollowsCases K X c cs (re_cases built step step_call trim trim_in cut cs)
-      re_like_cases c here no_cases o = S.follows_no_cases K X c
-      re_like_cases c here (more_cases v b cs) o = re_like_case c here v o.0 (re_like_stmts c here [] b o.1) (re_like_cases c here cs o.2)
-
-    -- ---- hoisting, bodies and chunks
-
-    hoist_one_like : (c : K.Ctx) (ls : List (List ℕ)) (s : Stmt) → FineStmt K.Ctx allowed c ls s → S.FollowsHoistOne K X c s (new_stmt s)
-    unfolding re_stmt FineStmt S.declares_function
-    hoist_one_like c ls (fun_decl i r f) o = S.hoist_fun K X c (same.sites i) o.1 o.0
-    hoist_one_like c ls s o = S.hoist_other K X c s _ refl refl
-
-    pub re_like_hoist : (c : K.Ctx) → Here c → (ss : Stmts) → FineStmts K.Ctx allowed c [] ss → S.FollowsHoist K X c ss (new_stmts ss)
-    unfolding re_stmt FineStmt
-    re_like_hoist c here no_stmts o = S.hoist_no K X c
-    re_like_hoist c here (more_stmts s ss) o = rules.hoists c here s ss _ o.0 o.1 (hoist_one_like c [] s o.1) (re_like_hoist c here ss o.2)
-
-    -- the body of a function
-    pub re_like_body : (c : K.Ctx) → Here c → (ss : Stmts) → FineStmts K.Ctx allowed c [] ss → S.FollowsBody K X c ss (new_stmts ss)
-    re_like_body c here ss o = record { hoist = re_like_hoist c here ss o; runs = re_like_stmts c here [] ss o }
-
-    -- a chunk's own list
-    pub re_like_chunk : (n : ℕ) → Here (K.outer n) → (ss : Stmts) → FineStmts K.Ctx allowed (K.outer n) [] ss → T.FollowsChunk K X n ss (new_stmts ss)
-    unfolding re_stmt FineStmt
-    re_like_chunk n here no_stmts o = T.follows_no_chunk K X
-    re_like_chunk n here (more_stmts s ss) o = rules.chunks n here s ss _ o.0 o.1 (re_like_stmt (K.outer n) here [] s o.1) (re_like_chunk n here ss o.2)
