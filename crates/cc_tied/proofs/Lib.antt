@@ -23,3 +23,4 @@ pub mod Valued
 pub mod Nodes
 pub mod Rebuilding
 pub mod RebuiltBodies
+pub mod Unchanged
