@@ -24,3 +24,4 @@ pub mod Nodes
 pub mod Rebuilding
 pub mod RebuiltBodies
 pub mod Unchanged
+pub mod Subsets

@@ -1,5 +1,5 @@
 -- Where no step changes anything, trees stay; and each fine tree follows itself.
-use Rattle.std.proofs.Common.{◌≡◌, refl, ap, ℕ, Bool, true, false, List, [], ◌∷◌, Option, Some, None, subst}
+use Rattle.std.proofs.Common.{◌≡◌, refl, ℕ, Bool, true, false, List, [], ◌∷◌, Option, Some, None, subst}
 use Rattle.cc_ast.specs.Syntax.{Expr, lit, var, this, fun, list, object, unary, binary, and, or, cond, assign, step as step_of, member, index, call, new, comma, cast, tick, Target, to_var, to_member, to_index, Exprs, no_exprs, more_exprs, Fields, no_fields, more_fields, Declarator, ForInit, no_init, init_value, init_vars, ForTarget, in_target, in_declared, Stmt, simple, vars, fun_decl, if, while, do_while, for, for_in, return, throw, break, continue, label, switch, try, pay_stmt, Stmts, no_stmts, more_stmts, MaybeStmts, absent, present, Cases, no_cases, more_cases}
 use Rattle.cc_ast.specs.declared.tree.Ref.{Ref}
 use Rattle.cc_meaning.specs.Monad.{pick}
@@ -217,7 +217,7 @@ module _ (K : Kit) (X : Below K) (built : Ref → Bool) (same : N.SameTables K X
   like_body c ss o = record { hoist = like_hoist c ss o; runs = like_stmts c [] ss o }
 
   -- a chunk's own list, whose statements declare the same prototypes
-  pub like_chunk : ((s : Stmt) → K.DeclaresT (declared_by K.tables s) (declared_by K.tables' s)) → (n : ℕ) (ss : Stmts) → FineStmts K.Ctx (allowed K Stands) (K.outer n) [] ss → T.FollowsChunk K X n ss ss
+  pub like_chunk : (n : ℕ) → ((s : Stmt) → Stands (K.outer n) [] s → K.DeclaresT (declared_by K.tables s) (declared_by K.tables' s)) → (ss : Stmts) → FineStmts K.Ctx (allowed K Stands) (K.outer n) [] ss → T.FollowsChunk K X n ss ss
   unfolding FineStmt
-  like_chunk d n no_stmts o = T.follows_no_chunk K X
-  like_chunk d n (more_stmts s ss) o = T.follows_more_chunk K X (d s) (like_stmt (K.outer n) [] s o.1) (like_chunk d n ss o.2)
+  like_chunk n d no_stmts o = T.follows_no_chunk K X
+  like_chunk n d (more_stmts s ss) o = T.follows_more_chunk K X (d s o.0) (like_stmt (K.outer n) [] s o.1) (like_chunk n d ss o.2)
