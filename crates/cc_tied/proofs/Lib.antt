@@ -14,6 +14,7 @@ pub mod Sim
 pub mod Upkeep
 pub mod Runs
 pub mod Rewriting
+pub mod RewritingBodies
 pub mod Blind
 pub mod Equal
 pub mod EqualUpkeep

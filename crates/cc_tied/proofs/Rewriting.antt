@@ -416,7 +416,7 @@ module _ (K : Kit) (all : AllTied K) (X : Below K) (step_one : Expr → Expr) (s
       like (cast i d e) f w = cast_like i d e (like e f w)
       like (tick i n e) f w = tick_like i n e (like e f w)
 
-      like_target : (u : Option (Option BinOp)) (t : Target) → FineTarget Ks c (needed u) t → IsTrue (target_well tables t) → E.FollowsTarget K X c (also_read u) t (rt t)
+      pub like_target : (u : Option (Option BinOp)) (t : Target) → FineTarget Ks c (needed u) t → IsTrue (target_well tables t) → E.FollowsTarget K X c (also_read u) t (rt t)
       like_target u (to_var i x) f w = E.target_var K X c (all.sites i i) (reads_of u x f.0) f.1
       like_target u (to_member i e p) f w = E.target_member K X c (all.sites i i) (all.paths _ _) (like_prop p) ((like e f w).values as_object None None)
       like_target u (to_index i e k) f w = let t = both_true _ _ w in E.target_index K X c (all.sites i i) ((like e f.0 t.0).values as_object None None) (brackets_like k) ((like k f.1 t.1).values as_value None None)
