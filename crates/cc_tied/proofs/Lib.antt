@@ -15,6 +15,7 @@ pub mod Upkeep
 pub mod Runs
 pub mod Rewriting
 pub mod RewritingBodies
+pub mod Kept
 pub mod Blind
 pub mod Equal
 pub mod EqualUpkeep

@@ -1,7 +1,7 @@
 -- Rewriting from the leaves up keeps what each step keeps: expressions.
 use Rattle.std.proofs.Common.{◌≡◌, refl, sym, ap, ◌∙◌, ℕ, Bool, true, false, List, [], ◌∷◌, ◌++◌, Option, Some, None, IsTrue, subst}
 use Rattle.std.specs.Prelude.{◌&&◌, ◌||◌, not}
-use Rattle.cc_ast.specs.Syntax.{Prim, undefined, null, truth, whole, text, Expr, lit, var, this, fun, list, object, unary, binary, and, or, cond, assign, step, member, index, call, new, comma, cast, tick, Target, to_var, to_member, to_index, Exprs, no_exprs, more_exprs, Fields, no_fields, more_fields}
+use Rattle.cc_ast.specs.Syntax.{Prim, text, Expr, lit, var, this, fun, list, object, unary, binary, and, or, cond, assign, step, member, index, call, new, comma, cast, tick, Target, to_var, to_member, to_index, Exprs, no_exprs, more_exprs, Fields, no_fields, more_fields}
 use Rattle.cc_ast.specs.declared.operator.BinOp.{BinOp}
 use Rattle.cc_ast.specs.declared.operator.UnOp.{UnOp}
 use Rattle.cc_ast.specs.declared.operator.UnOp.TheVariants.{Delete}
@@ -12,8 +12,8 @@ use Rattle.cc_meaning.specs.State.{Path, Tables}
 use Rattle.cc_meaning.specs.Monad.{pick}
 use Rattle.cc_meaning.specs.Store.{dotted, name_of, Global, extern, built_in, of_chunk, global_kind}
 use Rattle.cc_meaning.specs.Calls.{member_use}
-use Rattle.cc_meaning.specs.Shapes.{longer, path_of, path_of_ref, path_of_target, path_of_key, literal_text, literal_key, site_of}
-use Rattle.cc_meaning.specs.Parts.{is_no_built, may_read, may_write, built_callee, is_string, is_use, has_use, global_at, is_variable, takes_operand, expr_well, target_well, exprs_well, fields_well}
+use Rattle.cc_meaning.specs.Shapes.{longer, path_of, path_of_ref, path_of_target, path_of_key, literal_text, literal_key}
+use Rattle.cc_meaning.specs.Parts.{is_no_built, may_read, built_callee, is_string, is_use, has_use, global_at, is_variable, takes_operand, expr_well, target_well, exprs_well, fields_well}
 use Rattle.cc_tied.specs.Tied.{built_of, built_at}
 use Rattle.cc_tied.specs.Rewrites.{Position, as_value, as_callee, as_deleted, as_right, as_object, is_access, stays, exchanged, position_before, position_under, stepped_at, re, re_target, re_all, re_fields}
 use Rattle.cc_tied.specs.Fine.{Kinds, ReadBy, Fine, FineTarget, FineAll, FineFields}
@@ -161,11 +161,11 @@ module _ (K : Kit) (all : AllTied K) (X : Below K) (step_one : Expr → Expr) (s
     exchanged_like : (e old fresh : Expr) → is_access e ≡ false → is_access old ≡ false → is_variable old ≡ is_variable e → Well e → Well old → Well fresh → ((p p' : Option Path) → E.FollowsRef K X c p p' e old) → ((p p' : Option Path) → E.FollowsAs K X (V K) c p p' e fresh) → LikeT c e (λ q. exchanged q old fresh)
     unfolding exchanged
     exchanged_like e old fresh a b d w wo wn h k = record {
-        values = λ q p p'. by_pick q (stays q old fresh) p p';
-        reached = λ q r. ref_pick q r (stays q old fresh) refl;
-        well = λ q. well_pick (stays q old fresh);
-        stays_other = λ n. other_pick n (stays as_deleted old fresh) refl;
-      }
+      values = λ q p p'. by_pick q (stays q old fresh) p p';
+      reached = λ q r. ref_pick q r (stays q old fresh) refl;
+      well = λ q. well_pick (stays q old fresh);
+      stays_other = λ n. other_pick n (stays as_deleted old fresh) refl;
+    }
       where
         by_pick : (q : Position) (s : Bool) (p p' : Option Path) → E.FollowsAs K X (V K) c p p' e (pick s old fresh)
         by_pick q true p p' = E.as_value K X c (h p p')
@@ -304,11 +304,11 @@ module _ (K : Kit) (all : AllTied K) (X : Below K) (step_one : Expr → Expr) (s
     member_like : (i : ℕ) (e : Expr) (p : ℕ) → Well e → LikeT c e (λ q. r q e) → LikeT c (member i e p) (λ q. r q (member i e p))
     unfolding re expr_well is_variable
     member_like i e p w l = record {
-        values = λ q p1 p2. E.as_value K X c (follows q p1 p2);
-        reached = λ q x. follows q None None;
-        well = λ q. l.well (position_before q);
-        stays_other = λ n. refl;
-      }
+      values = λ q p1 p2. E.as_value K X c (follows q p1 p2);
+      reached = λ q x. follows q None None;
+      well = λ q. l.well (position_before q);
+      stays_other = λ n. refl;
+    }
       where
         follows : (q : Position) (p1 p2 : Option Path) → E.FollowsRef K X c p1 p2 (member i e p) (member i (r (position_before q) e) p)
         follows q p1 p2 = E.follows_member K X c (all.sites i i) (all.paths _ _) (like_prop p) (on_values K all.marks X c (well_unbuilt tables e w) (unbuilt' _ (l.well (position_before q))) (l.values (position_before q) None None))
@@ -316,11 +316,11 @@ module _ (K : Kit) (all : AllTied K) (X : Below K) (step_one : Expr → Expr) (s
     index_like : (i : ℕ) (e k : Expr) → LikeT c e (λ q. r q e) → LikeT c k (λ q. r q k) → LikeT c (index i e k) (λ q. r q (index i e k))
     unfolding re expr_well is_variable
     index_like i e k l m = record {
-        values = λ q p1 p2. E.as_value K X c (follows q p1 p2);
-        reached = λ q x. follows q None None;
-        well = λ q. both (l.well (position_before q)) (m.well as_value);
-        stays_other = λ n. refl;
-      }
+      values = λ q p1 p2. E.as_value K X c (follows q p1 p2);
+      reached = λ q x. follows q None None;
+      well = λ q. both (l.well (position_before q)) (m.well as_value);
+      stays_other = λ n. refl;
+    }
       where
         follows : (q : Position) (p1 p2 : Option Path) → E.FollowsRef K X c p1 p2 (index i e k) (index i (r (position_before q) e) (r as_value k))
         follows q p1 p2 = E.follows_index K X c (all.sites i i) (l.values (position_before q) None None) (brackets_like k) (m.values as_value None None)

@@ -1,21 +1,20 @@
 -- Rewriting from the leaves up keeps what each step, each trim and each cut keeps: statements, bodies, chunks.
-use Rattle.std.proofs.Common.{◌≡◌, refl, sym, ap, ◌∙◌, ℕ, Bool, true, false, List, [], ◌∷◌, ◌++◌, Option, Some, None, IsTrue, subst}
-use Rattle.std.specs.Prelude.{◌&&◌, ◌||◌, not}
-use Rattle.cc_ast.specs.Syntax.{Expr, call, Target, Exprs, Declarator, ForInit, no_init, init_value, init_vars, ForTarget, in_target, in_declared, Stmt, simple, vars, fun_decl, if, while, do_while, for, for_in, return, throw, break, continue, label, switch, try, pay_stmt, Stmts, no_stmts, more_stmts, MaybeStmts, absent, present, Cases, no_cases, more_cases}
+use Rattle.std.proofs.Common.{refl, ℕ, List, [], ◌∷◌, ◌++◌, Option, Some, None, IsTrue}
+use Rattle.cc_ast.specs.Syntax.{Expr, Exprs, Declarator, ForInit, no_init, init_value, init_vars, ForTarget, in_target, in_declared, Stmt, simple, vars, fun_decl, if, while, do_while, for, for_in, return, throw, break, continue, label, switch, try, pay_stmt, Stmts, no_stmts, more_stmts, MaybeStmts, absent, present, Cases, no_cases, more_cases}
 use Rattle.cc_ast.specs.declared.tree.Ref.{Ref}
-use Rattle.cc_meaning.specs.Shapes.{path_of_ref, declared_by}
+use Rattle.cc_meaning.specs.Shapes.{path_of_ref}
 use Rattle.cc_meaning.specs.Meaning.{begin_for, declare}
 use Rattle.cc_meaning.specs.Parts.{expr_well}
 use Rattle.cc_meaning.specs.WellMade.{Open, option_well, vars_well, some_vars, init_well, name_well, stmt_well, stmts_well, maybe_well, cases_well}
-use Rattle.cc_tied.specs.Rewrites.{Position, as_value, re, re_target, re_option, re_declarator, head_of_vars, re_vars, re_init, re_names, re_stmt, re_stmts, re_maybe, re_cases}
-use Rattle.cc_tied.specs.Fine.{Kinds, ReadBy, Fine, FineTarget, FineOption, FineVars, FineInit, FineNames, FineStmt, FineStmts, FineMaybe, FineCases}
+use Rattle.cc_tied.specs.Rewrites.{as_value, re, re_option, re_declarator, head_of_vars, re_vars, re_init, re_names, re_stmt, re_stmts, re_maybe, re_cases}
+use Rattle.cc_tied.specs.Fine.{Kinds, ReadBy, Fine, FineOption, FineVars, FineInit, FineNames, FineStmt, FineStmts, FineMaybe, FineCases}
 use Rattle.cc_tied.proofs.Kit.{Kit}
-use Rattle.cc_tied.proofs.Parts.{V, Below}
+use Rattle.cc_tied.proofs.Parts.{Below}
 use Rattle.cc_tied.proofs.Rewriting.{AllTied, kinds_of, StepRules, both_true}
 use Rattle.cc_tied.proofs.Rewriting as R
 use Rattle.cc_tied.proofs.Expressions as E
 use Rattle.cc_tied.proofs.Statements as S
-use Rattle.cc_tied.proofs.Turns.{FollowsChunk, follows_no_chunk, follows_more_chunk}
+use Rattle.cc_tied.proofs.Turns.{FollowsChunk, follows_no_chunk}
 
 -- what a phase owes for declarators and statements, beside what their parts became
 pub record BodyRules (K : Kit) (X : Below K) (step_one : Expr → Expr) (step_call : ℕ → Expr → Exprs → Expr) (trim : Declarator → List Declarator) (cut : Stmt → Stmts → Stmts) : Type 0 where
