@@ -1,18 +1,16 @@
 -- Expressions whose values alone are tied, below a cast, a price mark and a dot.
-use Rattle.std.proofs.Common.{◌≡◌, refl, sym, ◌∙◌, ℕ, Bool, true, false, List, [], ◌∷◌, ◌++◌, Option, None}
-use Rattle.cc_ast.specs.Syntax.{Prim, Expr, lit, var, this, fun, list, object, unary, binary, and, or, cond, assign, step, member, index, call, new, comma, cast, tick}
+use Rattle.std.proofs.Common.{◌≡◌, refl, sym, ◌∙◌, ℕ, List, [], ◌∷◌, ◌++◌, Option, None}
+use Rattle.cc_ast.specs.Syntax.{Prim, Expr, cast, tick}
 use Rattle.cc_meaning.specs.Values.{Val, at_site}
-use Rattle.cc_meaning.specs.State.{Env, Path, Tables}
-use Rattle.cc_meaning.specs.Monad.{M, ret, ◌>>=◌, with_tables, Mode}
-use Rattle.cc_meaning.specs.Store.{Built, dotted}
+use Rattle.cc_meaning.specs.State.{Env, Path}
+use Rattle.cc_meaning.specs.Monad.{ret, ◌>>=◌, Mode}
 use Rattle.cc_meaning.specs.Acts.{cast_to}
 use Rattle.cc_meaning.specs.Calls.{Reference, Reach, plain, access, built_global, built_member, cast_all, get, value_of, value, cast_reach, Bodies}
-use Rattle.cc_meaning.specs.Meaning.{reach_member, reference, ev}
+use Rattle.cc_meaning.specs.Meaning.{ev}
 use Rattle.cc_tied.proofs.Kit.{Kit}
 use Rattle.cc_tied.proofs.Parts.{V, Below, val_later}
-use Rattle.cc_tied.proofs.Laws.{bind_assoc, bind_ret, ret_bind, stop_bind, bind_alike, tables_bind, tables_alike}
-use Rattle.cc_tied.proofs.Expressions.{FollowsAs, Follows, FollowsOn, rel_reference}
-use Rattle.cc_tied.specs.Tied.{access_t}
+use Rattle.cc_tied.proofs.Laws.{bind_assoc, bind_ret, ret_bind, stop_bind, bind_alike}
+use Rattle.cc_tied.proofs.Expressions.{FollowsAs, Follows}
 
 -- ---- casts
 

@@ -13,6 +13,9 @@ pub mod Turns
 pub mod Sim
 pub mod Upkeep
 pub mod Runs
+pub mod Rewriting
+pub mod RewritingBodies
+pub mod Kept
 pub mod Blind
 pub mod Equal
 pub mod EqualUpkeep

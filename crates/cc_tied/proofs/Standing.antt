@@ -1,18 +1,18 @@
 -- Expressions that reach a value or an access alone, and no built-in global: there tied values suffice.
-use Rattle.std.proofs.Common.{◌≡◌, refl, sym, ap, ◌∙◌, ℕ, Bool, true, false, List, [], ◌∷◌, ◌++◌, Option, Some, None, is_some, subst}
-use Rattle.cc_ast.specs.Syntax.{Prim, undefined, Expr, lit, var, this, fun, list, object, unary, binary, and, or, cond, assign, step, member, index, call, new, comma, cast, tick}
+use Rattle.std.proofs.Common.{◌≡◌, refl, sym, ap, ◌∙◌, ℕ, Bool, true, false, List, Option, Some, None, is_some}
+use Rattle.cc_ast.specs.Syntax.{Prim, Expr, lit, var, this, fun, list, object, unary, binary, and, or, cond, assign, step, member, index, call, new, comma, cast, tick}
 use Rattle.cc_ast.specs.declared.tree.Ref.{Ref}
-use Rattle.cc_meaning.specs.Values.{Val, Spot, at_site}
+use Rattle.cc_meaning.specs.Values.{Val, at_site}
 use Rattle.cc_meaning.specs.State.{Env, Path, Tables, State}
-use Rattle.cc_meaning.specs.Monad.{Res, ok, threw, over, M, ret, skip, stop, said, after, ◌>>=◌, with_tables, Mode}
-use Rattle.cc_meaning.specs.Store.{Built, dotted, name_of}
+use Rattle.cc_meaning.specs.Monad.{Res, ok, threw, over, M, ret, said, after, ◌>>=◌, with_tables, Mode}
+use Rattle.cc_meaning.specs.Store.{Built, dotted}
 use Rattle.cc_meaning.specs.Acts.{cast_to, read_var}
 use Rattle.cc_meaning.specs.Calls.{Reference, Reach, plain, access, built_global, built_member, value_of, value, cast_reach, Bodies}
 use Rattle.cc_meaning.specs.Meaning.{reach_var, reach_member, reference, ev}
 use Rattle.cc_tied.specs.Tied.{built_of, plain_t, access_t}
 use Rattle.cc_tied.specs.Rewrites.{is_access}
 use Rattle.cc_tied.proofs.Kit.{Kit}
-use Rattle.cc_tied.proofs.Parts.{V, Below, val_later}
+use Rattle.cc_tied.proofs.Parts.{V, Below}
 use Rattle.cc_tied.proofs.Laws.{bind_assoc, bind_ret, ret_bind, bind_alike, tables_bind, tables_alike}
 use Rattle.cc_tied.proofs.Expressions.{FollowsAs, FollowsRef, Follows, FollowsOn, rel_reference, reach_built, reach_by}
 
@@ -82,14 +82,16 @@ tick_at T b mark m keeps o = record { by = λ k h a s e. ap (λ f. f s) (bind_as
 
 cast_at : (T : Tables) (b : Bool) (J : Mode) (i d : ℕ) (m : M Reach) → OnlyAt T b m → OnlyAt T b (m >>= λ r. cast_reach J i d r)
 unfolding cast_reach
-cast_at T b J i d m o = record { by = λ k h a s e.
-    ap (λ f. f s) (bind_assoc m (λ r. cast_reach J i d r) k)
-    ∙ o.by (λ r. cast_reach J i d r >>= k) (λ r. cast_reach J i d r >>= h) (record {
+cast_at T b J i d m o = record {
+  by = λ k h a s e.
+      ap (λ f. f s) (bind_assoc m (λ r. cast_reach J i d r) k)
+      ∙ o.by (λ r. cast_reach J i d r >>= k) (λ r. cast_reach J i d r >>= h) (record {
         on_plain = λ v. (after_only b (cast_to J (at_site i) d v) (λ u. ret (plain v)) (λ u. one_only b v)).by k h a;
         on_access = λ w r. ret_bind _ k ∙ a.on_access w _ ∙ sym (ret_bind _ h);
         on_member = λ w j c t. ret_bind _ k ∙ a.on_member w j c t ∙ sym (ret_bind _ h);
       }) s e
-    ∙ sym (ap (λ f. f s) (bind_assoc m (λ r. cast_reach J i d r) h)) }
+      ∙ sym (ap (λ f. f s) (bind_assoc m (λ r. cast_reach J i d r) h));
+}
 
 reach_plain : (T : Tables) (J : Mode) (i : ℕ) (g : Env) (r : Ref) → built_of T r ≡ None → (s : State) → s.tables ≡ T → reach_var J i g r s ≡ (read_var J (at_site i) g r >>= λ v. ret (plain v)) s
 unfolding reach_built with_tables
@@ -97,10 +99,12 @@ reach_plain T J i g r n s e = ap (λ f. f s) (reach_by J i g r) ∙ ap (λ o. re
 
 var_at : (T : Tables) (b : Bool) (J : Mode) (i : ℕ) (g : Env) (r : Ref) → built_of T r ≡ None → OnlyAt T b (reach_var J i g r)
 unfolding ◌>>=◌
-var_at T b J i g r n = record { by = λ k h a s e.
-    ap (λ z. after z k) (reach_plain T J i g r n s e)
-    ∙ ap (λ f. f s) ((plain_only b (read_var J (at_site i) g r)).by k h a)
-    ∙ sym (ap (λ z. after z h) (reach_plain T J i g r n s e)) }
+var_at T b J i g r n = record {
+  by = λ k h a s e.
+      ap (λ z. after z k) (reach_plain T J i g r n s e)
+      ∙ ap (λ f. f s) ((plain_only b (read_var J (at_site i) g r)).by k h a)
+      ∙ sym (ap (λ z. after z h) (reach_plain T J i g r n s e));
+}
 
 none_of : {A : Type 0} (o : Option A) → is_some o ≡ false → o ≡ None
 none_of None e = refl
@@ -161,12 +165,16 @@ module _ (K : Kit) (keeps : MarksKeep K) (X : Below K) (c : K.Ctx) where
 
   -- before a dot the values suffice, where neither stands for a built-in global
   pub on_values : {e e' : Expr} → is_built tables e ≡ false → is_built tables' e' ≡ false → Follows K X c e e' → FollowsOn K X c e e'
-  on_values {e = e} {e' = e'} n n' h = record { by = λ v l g g' t {i} {i'} s {p} {p'} pt {q} {q'} kt.
-      rel_at _ _ _ _ (member_at tables J keeps.left B g i p q e n) (member_at tables' J' keeps.right B' g' i' p' q' e' n')
-      (rel_bind (h.by v l g g' t) (λ v2 l2 x y r. rel_bind (rel_reference K X s pt r (kt.keys v2 (later l l2) x y r)) (λ v3 l3 a b k. rel_ret (access a) (access b) (access_t k)))) }
+  on_values {e = e} {e' = e'} n n' h = record {
+    by = λ v l g g' t {i} {i'} s {p} {p'} pt {q} {q'} kt.
+        rel_at _ _ _ _ (member_at tables J keeps.left B g i p q e n) (member_at tables' J' keeps.right B' g' i' p' q' e' n')
+        (rel_bind (h.by v l g g' t) (λ v2 l2 x y r. rel_bind (rel_reference K X s pt r (kt.keys v2 (later l l2) x y r)) (λ v3 l3 a b k. rel_ret (access a) (access b) (access_t k))));
+  }
 
   -- what is reached, where neither is an access either
   pub of_values : {e e' : Expr} {p p' : Option Path} → is_built tables e ≡ false → is_built tables' e' ≡ false → is_access e ≡ false → is_access e' ≡ false → FollowsAs K X (V K) c p p' e e' → FollowsRef K X c p p' e e'
-  of_values {e = e} {e' = e'} {p = p} {p' = p'} n n' a a' h = record { by = λ v l g g' t.
-      rel_at _ _ _ _ (value_at tables J keeps.left B g p e n a) (value_at tables' J' keeps.right B' g' p' e' n' a')
-      (rel_bind (h.by v l g g' t) (λ v2 l2 x y q. rel_ret (plain x) (plain y) (plain_t q))) }
+  of_values {e = e} {e' = e'} {p = p} {p' = p'} n n' a a' h = record {
+    by = λ v l g g' t.
+        rel_at _ _ _ _ (value_at tables J keeps.left B g p e n a) (value_at tables' J' keeps.right B' g' p' e' n' a')
+        (rel_bind (h.by v l g g' t) (λ v2 l2 x y q. rel_ret (plain x) (plain y) (plain_t q)));
+  }
