@@ -30,11 +30,11 @@ cast_reached J B i d (access r) = ret_bind _ _ ∙ get_cast J B i d r
 cast_reached J B i d (built_global j b) = ret_bind _ _ ∙ sym (stop_bind _ _)
 cast_reached J B i d (built_member j b n) = ret_bind _ _ ∙ sym (stop_bind _ _)
 
-cast_value : (J : Mode) (B : Bodies) (g : Env) (p : Option Path) (i d : ℕ) (e : Expr) → value J B (ev J B g p (cast i d e)) ≡ (value J B (ev J B g None e) >>= λ v. cast_to J (at_site i) d v >>= λ _. ret v)
+pub cast_value : (J : Mode) (B : Bodies) (g : Env) (p : Option Path) (i d : ℕ) (e : Expr) → value J B (ev J B g p (cast i d e)) ≡ (value J B (ev J B g None e) >>= λ v. cast_to J (at_site i) d v >>= λ _. ret v)
 unfolding ev value
 cast_value J B g p i d e = bind_assoc (ev J B g None e) (λ r. cast_reach J i d r) (value_of J B) ∙ bind_alike (ev J B g None e) _ _ (λ r. cast_reached J B i d r) ∙ sym (bind_assoc (ev J B g None e) (value_of J B) _)
 
-tick_value : (J : Mode) (B : Bodies) (g : Env) (p : Option Path) (i n : ℕ) (e : Expr) → value J B (ev J B g p (tick i n e)) ≡ (J.mark n >>= λ _. value J B (ev J B g None e))
+pub tick_value : (J : Mode) (B : Bodies) (g : Env) (p : Option Path) (i n : ℕ) (e : Expr) → value J B (ev J B g p (tick i n e)) ≡ (J.mark n >>= λ _. value J B (ev J B g None e))
 unfolding ev value
 tick_value J B g p i n e = bind_assoc (J.mark n) (λ _. ev J B g None e) (value_of J B)
 

@@ -1,5 +1,5 @@
 -- What an expression can reach, by its shape, and what its runs are then equal to.
-use Rattle.std.proofs.Common.{◌≡◌, refl, sym, ap, ◌∙◌, ℕ, Bool, true, false, List, [], ◌∷◌, ◌++◌, Option, None}
+use Rattle.std.proofs.Common.{◌≡◌, refl, sym, ◌∙◌, ℕ, Bool, true, false, [], ◌∷◌, ◌++◌, Option, None}
 use Rattle.std.specs.Prelude.{not}
 use Rattle.cc_ast.specs.Syntax.{Expr, lit, var, this, fun, list, object, unary, binary, and, or, cond, assign, step, member, index, call, new, comma, cast, tick}
 use Rattle.cc_meaning.specs.Values.{Val, at_site}
@@ -7,10 +7,10 @@ use Rattle.cc_meaning.specs.State.{Env, Path}
 use Rattle.cc_meaning.specs.Monad.{M, ret, ◌>>=◌, with_tables, Mode}
 use Rattle.cc_meaning.specs.Store.{dotted, name_of}
 use Rattle.cc_meaning.specs.Acts.{cast_to}
-use Rattle.cc_meaning.specs.Calls.{Reference, Reach, plain, access, built_global, built_member, Bodies, get, get_on, take_path, cast_all, value_of, value, cast_reach}
+use Rattle.cc_meaning.specs.Calls.{Reference, Reach, plain, access, built_global, built_member, Bodies, value_of, value, cast_reach}
 use Rattle.cc_meaning.specs.Meaning.{reference, reach_member, ev}
 use Rattle.cc_tied.specs.Placed.{accesses, variable}
-use Rattle.cc_tied.proofs.Laws.{ret_bind, bind_ret, bind_assoc, bind_alike, stop_bind}
+use Rattle.cc_tied.proofs.Laws.{ret_bind, bind_ret, bind_assoc, bind_alike}
 
 unfoldable pub is_plain : Reach → Bool
 is_plain (plain v) = true
@@ -118,46 +118,6 @@ module _ (J : Mode) (B : Bodies) {A : Type 0} where
   reach_alike g p (cast i d e) k k' h = bind_assoc _ _ k ∙ reach_alike g None e (λ r. cast_reach J i d r >>= k) (λ r. cast_reach J i d r >>= k') (cast_alike k k' e h i d) ∙ sym (bind_assoc _ _ k')
   reach_alike g p (tick i n e) k k' h = then_alike k k' _ _ (λ _. reach_alike g None e k k' h)
 
--- ---- casts: of a value that is reached, or of the value
-
-module _ (J : Mode) where
-  one_cast : (i d : ℕ) (v : Val) → cast_all J ((i, d) ∷ []) v ≡ cast_to J (at_site i) d v
-  unfolding cast_all
-  one_cast i d v = bind_ret (cast_to J (at_site i) d v)
-
-  casts_on : (cs : List (ℕ × ℕ)) (i d : ℕ) (v : Val) → cast_all J (cs ++ (i, d) ∷ []) v ≡ (cast_all J cs v >>= λ _. cast_to J (at_site i) d v)
-  unfolding cast_all
-  casts_on [] i d v = one_cast i d v ∙ sym (ret_bind tt (λ _. cast_to J (at_site i) d v))
-  casts_on (c ∷ cs) i d v = bind_alike (cast_to J (at_site c.0) c.1 v) (λ _. cast_all J (cs ++ (i, d) ∷ []) v) (λ _. cast_all J cs v >>= λ _. cast_to J (at_site i) d v) (λ _. casts_on cs i d v) ∙ sym (bind_assoc (cast_to J (at_site c.0) c.1 v) (λ _. cast_all J cs v) (λ _. cast_to J (at_site i) d v))
-
-  module _ (B : Bodies) (i d : ℕ) where
-    cast_after : Val → M Val
-    cast_after v = cast_to J (at_site i) d v >>= λ _. ret v
-
-    get_cast : (r : Reference) → get J B (record r { casts = r.casts ++ (i, d) ∷ [] }) ≡ (get J B r >>= cast_after)
-    unfolding get cast_after
-    get_cast r =
-        bind_alike (get_on J B (at_site r.site) r.on r.key) _ _ (λ v.
-        bind_alike (take_path J (at_site r.site) r.path r.on r.key) _ _ (λ _. step_on v) ∙ sym (bind_assoc (take_path J (at_site r.site) r.path r.on r.key) (λ _. cast_all J r.casts v >>= λ _. ret v) cast_after))
-        ∙ sym (bind_assoc (get_on J B (at_site r.site) r.on r.key) (λ v. take_path J (at_site r.site) r.path r.on r.key >>= λ _. cast_all J r.casts v >>= λ _. ret v) cast_after)
-      where
-        step_on : (v : Val) → (cast_all J (r.casts ++ (i, d) ∷ []) v >>= λ _. ret v) ≡ ((cast_all J r.casts v >>= λ _. ret v) >>= cast_after)
-        step_on v = ap (λ z. z >>= λ _. ret v) (casts_on r.casts i d v)
-            ∙ bind_assoc (cast_all J r.casts v) (λ _. cast_to J (at_site i) d v) (λ _. ret v)
-            ∙ bind_alike (cast_all J r.casts v) (λ _. cast_to J (at_site i) d v >>= λ _. ret v) (λ _. ret v >>= cast_after) (λ _. sym (ret_bind v cast_after))
-            ∙ sym (bind_assoc (cast_all J r.casts v) (λ _. ret v) cast_after)
-
-    cast_one : (x : Reach) → (cast_reach J i d x >>= value_of J B) ≡ (value_of J B x >>= cast_after)
-    unfolding cast_reach value_of cast_after
-    cast_one (plain v) = bind_assoc (cast_to J (at_site i) d v) (λ _. ret (plain v)) (value_of J B) ∙ bind_alike (cast_to J (at_site i) d v) (λ _. ret (plain v) >>= value_of J B) (λ _. ret v) (λ _. ret_bind (plain v) (value_of J B)) ∙ sym (ret_bind v cast_after)
-    cast_one (access r) = ret_bind (access (record r { casts = r.casts ++ (i, d) ∷ [] })) (value_of J B) ∙ get_cast r
-    cast_one (built_global j b) = ret_bind (built_global j b) (value_of J B) ∙ sym (stop_bind _ cast_after)
-    cast_one (built_member j b n) = ret_bind (built_member j b n) (value_of J B) ∙ sym (stop_bind _ cast_after)
-
-    pub cast_value : (m : M Reach) → value J B (m >>= λ r. cast_reach J i d r) ≡ (value J B m >>= λ v. cast_to J (at_site i) d v >>= λ _. ret v)
-    unfolding value cast_after
-    cast_value m = bind_assoc m (λ r. cast_reach J i d r) (value_of J B) ∙ bind_alike m (λ r. cast_reach J i d r >>= value_of J B) (λ r. value_of J B r >>= cast_after) cast_one ∙ sym (bind_assoc m (value_of J B) cast_after)
-
 -- ---- runs through the value alone
 
 module _ (J : Mode) (B : Bodies) where
@@ -186,8 +146,3 @@ module _ (J : Mode) (B : Bodies) where
   unfolding value
   member_first g p e b i w q = reach_alike J B g p e (λ r. reach_member J B i w q r) (λ x. value_of J B x >>= λ v. reach_member J B i w q (plain v)) (λ x h. member_again i w q x (reaches_no_global e b x h))
       ∙ sym (bind_assoc (ev J B g p e) (value_of J B) (λ v. reach_member J B i w q (plain v)))
-
-  -- a price mark before the value
-  pub tick_value : (n : ℕ) (m : M Reach) → value J B (J.mark n >>= λ _. m) ≡ (J.mark n >>= λ _. value J B m)
-  unfolding value
-  tick_value n m = bind_assoc (J.mark n) (λ _. m) (value_of J B)

@@ -1,443 +1,264 @@
--- Rewriting from the leaves up keeps what each step keeps: expressions.
-use Rattle.std.proofs.Common.{◌≡◌, refl, sym, ap, ◌∙◌, ℕ, Bool, true, false, List, [], ◌∷◌, ◌++◌, Option, Some, None, IsTrue, subst}
-use Rattle.std.specs.Prelude.{◌&&◌, ◌||◌, not}
-use Rattle.cc_ast.specs.Syntax.{Prim, text, Expr, lit, var, this, fun, list, object, unary, binary, and, or, cond, assign, step, member, index, call, new, comma, cast, tick, Target, to_var, to_member, to_index, Exprs, no_exprs, more_exprs, Fields, no_fields, more_fields}
+-- Rewriting from the leaves up keeps what each step and each call keeps: expressions and declarators.
+use Rattle.std.proofs.Common.{◌≡◌, refl, ℕ, Bool, true, false, List, [], Option, Some, None}
+use Rattle.std.specs.Prelude.{not, ◌&&◌, ◌||◌, is_some}
+use Rattle.cc_ast.specs.Syntax.{Prim, undefined, null, truth, whole, text, Expr, lit, var, this, fun, list, object, unary, binary, and, or, cond, assign, step as step_of, member, index, call, new, comma, cast, tick, Target, to_var, to_member, to_index, Exprs, no_exprs, more_exprs, Fields, no_fields, more_fields, Declarator, Stmt, return, Stmts, Cases, more_cases}
 use Rattle.cc_ast.specs.declared.operator.BinOp.{BinOp}
-use Rattle.cc_ast.specs.declared.operator.UnOp.{UnOp}
 use Rattle.cc_ast.specs.declared.operator.UnOp.TheVariants.{Delete}
 use Rattle.cc_ast.specs.declared.tree.Ref.{Ref}
-use Rattle.cc_ast.specs.declared.tree.Key.{Key}
-use Rattle.cc_meaning.specs.Values.{Val}
-use Rattle.cc_meaning.specs.State.{Path, Tables}
+use Rattle.cc_meaning.specs.State.{Path}
 use Rattle.cc_meaning.specs.Monad.{pick}
-use Rattle.cc_meaning.specs.Store.{dotted, name_of, Global, extern, built_in, of_chunk, global_kind}
-use Rattle.cc_meaning.specs.Calls.{member_use}
-use Rattle.cc_meaning.specs.Shapes.{longer, path_of, path_of_ref, path_of_target, path_of_key, literal_text, literal_key}
-use Rattle.cc_meaning.specs.Parts.{is_no_built, may_read, built_callee, is_string, is_use, has_use, global_at, is_variable, takes_operand, expr_well, target_well, exprs_well, fields_well}
-use Rattle.cc_tied.specs.Tied.{built_of, built_at}
-use Rattle.cc_tied.specs.Rewrites.{Position, as_value, as_callee, as_deleted, as_right, as_object, is_access, stays, exchanged, position_before, position_under, stepped_at, re, re_target, re_all, re_fields}
-use Rattle.cc_tied.specs.Fine.{Kinds, ReadBy, Fine, FineTarget, FineAll, FineFields}
+use Rattle.cc_meaning.specs.Shapes.{literal_text}
+use Rattle.cc_meaning.specs.Meaning as M
+use Rattle.cc_tied.specs.Placed.{Place, a_value, an_assigned, a_callee, a_deleted, an_object, accesses, variable, functions, builds, reaches, keeps, guard, operand}
+use Rattle.cc_tied.specs.Rewrites.{put, put_call, put_on_value, re, re_target, re_all, re_fields, re_value, re_option, re_declarator}
+use Rattle.cc_tied.specs.Fine.{Allowed, FineRead, Fine, FineTarget, FineAll, FineFields, FineOption, FineDeclarator}
 use Rattle.cc_tied.proofs.Kit.{Kit}
-use Rattle.cc_tied.proofs.Parts.{V, SiteT, PathT, Below}
-use Rattle.cc_tied.proofs.Standing.{is_built, MarksKeep, on_values, of_values}
-use Rattle.cc_tied.proofs.AtValues.{cast_at_value, tick_at_value}
+use Rattle.cc_tied.specs.Tied.{variable_t, slot_t}
+use Rattle.cc_tied.proofs.Parts.{Below, PlaceV}
 use Rattle.cc_tied.proofs.Expressions as E
-
-pub both : {a b : Bool} → IsTrue a → IsTrue b → IsTrue (a && b)
-both {a = a} {b = b} h k = subst (λ z. IsTrue (z && b)) (sym h) k
-
-pub both_true : (a b : Bool) → IsTrue (a && b) → IsTrue a × IsTrue b
-both_true true b h = (refl, h)
-both_true false b h = absurd (cc)
-
--- ---- what stands well isn't a built-in global
-
-global_unbuilt : (k : Global) → IsTrue (is_no_built k) → Rattle.std.specs.Prelude.is_some (built_at k) ≡ false
-unfolding is_no_built built_at
-global_unbuilt extern h = refl
-global_unbuilt (built_in b) h = absurd (cc)
-global_unbuilt (of_chunk c) h = refl
-
-var_unbuilt : (T : Tables) (r : Ref) → IsTrue (may_read T r) → Rattle.std.specs.Prelude.is_some (built_of T r) ≡ false
-unfolding may_read built_of
-var_unbuilt T (Ref.Frame up n) h = refl
-var_unbuilt T (Ref.Global n) h = global_unbuilt (global_kind T n) h
-
-pub well_unbuilt : (T : Tables) (e : Expr) → IsTrue (expr_well T e) → is_built T e ≡ false
-unfolding expr_well is_built
-well_unbuilt T (var i r) h = var_unbuilt T r h
-well_unbuilt T (cast i d e) h = well_unbuilt T e h
-well_unbuilt T (tick i n e) h = well_unbuilt T e h
-well_unbuilt T _ h = refl
-
-built_alike : (T T' : Tables) → ((n : ℕ) → global_kind T n ≡ global_kind T' n) → (e : Expr) → is_built T e ≡ is_built T' e
-unfolding is_built built_of
-built_alike T T' k (var i (Ref.Frame up n)) = refl
-built_alike T T' k (var i (Ref.Global n)) = ap (λ z. Rattle.std.specs.Prelude.is_some (built_at z)) (k n)
-built_alike T T' k (cast i d e) = built_alike T T' k e
-built_alike T T' k (tick i n e) = built_alike T T' k e
-built_alike T T' k _ = refl
-
--- ---- keys between brackets
-
-some_text : (s t : List ℕ) → ◌≡◌ {A = Option (List ℕ)} (Some s) (Some t) → s ≡ t
-some_text s t e = cc
-
-literal_of : (k : Expr) (t : List ℕ) → literal_text k ≡ Some t → (i : ℕ) × (k ≡ lit i (text t))
-unfolding literal_text
-literal_of (lit i (text s)) t e = (i, ap (λ z. lit i (text z)) (some_text s t e))
-literal_of _ t e = absurd (cc)
-
--- what a kit ties wherever it stands, for programs without flat paths
-pub record AllTied (K : Kit) : Type 0 where
-  pub sites : (i j : ℕ) → SiteT K i j
-  pub docs : (d : ℕ) → K.DocT d d
-  pub paths : (p p' : Option Path) → PathT K p p'
-  pub dots : (w : K.World) (x : Val) (p : ℕ) → K.KeyT w x (dotted p) (dotted p)
-  pub quotes : (t : List ℕ) → K.QuotedT t
-  pub written : (t : List ℕ) → K.WrittenT t
-  pub names : (p : ℕ) → name_of K.tables (dotted p) ≡ name_of K.tables' (dotted p)
-  pub kinds : (n : ℕ) → global_kind K.tables n ≡ global_kind K.tables' n
-  pub marks : MarksKeep K
-
--- variables, functions and `this` that a kit ties to themselves
-abbrev pub kinds_of : Kit → Kinds
-kinds_of K = record { Place = K.Ctx; inner = K.in_catch; Read = λ c r. K.ReadT c r r; Written = λ c r. K.WriteT c r r; Made = λ c f. K.StandT c f f; This = K.ThisT }
-
--- what the steps of a phase owe, at values alone
-pub record StepRules (K : Kit) (X : Below K) (step_one : Expr → Expr) (step_call : ℕ → Expr → Exprs → Expr) : Type 0 where
-  pub steps : (c : K.Ctx) (p p' : Option Path) (e e' : Expr) → IsTrue (expr_well K.tables e') → E.FollowsAs K X (V K) c p p' e e' → E.FollowsAs K X (V K) c p p' e (step_one e')
-  pub calls : (c : K.Ctx) (p p' : Option Path) (i : ℕ) (f f' : Expr) (es es' : Exprs) → IsTrue (expr_well K.tables (call i f' es')) → E.FollowsRef K X c None None f f' → E.FollowsAll K X c es es' → E.FollowsAs K X (V K) c p p' (call i f es) (step_call i f' es')
-  pub well_step : (e : Expr) → IsTrue (expr_well K.tables e) → IsTrue (expr_well K.tables (step_one e))
-  pub well_call : (i : ℕ) (f : Expr) (es : Exprs) → IsTrue (expr_well K.tables (call i f es)) → IsTrue (expr_well K.tables (step_call i f es))
-  -- a text stays that text, and a built-in global itself
-  pub texts : (i : ℕ) (t : List ℕ) → literal_text (step_one (lit i (text t))) ≡ Some t
-  pub built : (i : ℕ) (r : Ref) → may_read K.tables r ≡ false → step_one (var i r) ≡ var i r
-
--- where what is reached counts
-unfoldable pub refers : Position → Bool
-refers as_value = false
-refers as_callee = true
-refers as_deleted = true
-refers as_right = false
-refers as_object = false
-
--- no access stays where it isn't one before, nor a variable under `delete`
-no_access : (q : Position) (old e : Expr) → refers q ≡ true → is_access old ≡ false → stays q old e ≡ false → is_access e ≡ false
-unfolding refers stays
-no_access as_value old e r a h = absurd (cc)
-no_access as_right old e r a h = absurd (cc)
-no_access as_object old e r a h = absurd (cc)
-no_access as_callee old e r a h = first_no (is_access e) (is_access old) a h
-  where
-    first_no : (x y : Bool) → y ≡ false → (x && not y) ≡ false → x ≡ false
-    first_no true true a h = absurd (cc)
-    first_no true false a h = absurd (cc)
-    first_no false y a h = refl
-no_access as_deleted old e r a h = first_no (is_access e) (is_access old) (is_variable e) a h
-  where
-    first_no : (x y z : Bool) → y ≡ false → ((x && not y) || z) ≡ false → x ≡ false
-    first_no true true z a h = absurd (cc)
-    first_no true false z a h = absurd (cc)
-    first_no false y z a h = refl
-
-no_variable : (old e : Expr) → stays as_deleted old e ≡ false → is_variable e ≡ false
-unfolding stays
-no_variable old e h = last_no (is_access e && not (is_access old)) (is_variable e) h
-  where
-    last_no : (x z : Bool) → (x || z) ≡ false → z ≡ false
-    last_no true z h = absurd (cc)
-    last_no false z h = h
-
-module _ (K : Kit) (all : AllTied K) (X : Below K) (step_one : Expr → Expr) (step_call : ℕ → Expr → Exprs → Expr) (rules : StepRules K X step_one step_call) where
-  open K use {tables, tables', Ctx}
-
-  abbrev Well : Expr → Type 0
-  Well e = IsTrue (expr_well tables e)
-
-  abbrev Ks : Kinds
-  Ks = kinds_of K
-
-  -- an expression, beside what stands for it at each position
-  pub record LikeT (c : Ctx) (e : Expr) (F : Position → Expr) : Type 0 where
-    pub values : (q : Position) (p p' : Option Path) → E.FollowsAs K X (V K) c p p' e (F q)
-    pub reached : (q : Position) → refers q ≡ true → E.FollowsRef K X c None None e (F q)
-    pub well : (q : Position) → Well (F q)
-    pub stays_other : is_variable e ≡ false → is_variable (F as_deleted) ≡ false
-
-  unbuilt' : (e : Expr) → Well e → is_built tables' e ≡ false
-  unbuilt' e h = sym (built_alike tables tables' all.kinds e) ∙ well_unbuilt tables e h
-
-  module _ (c : Ctx) where
-    like_prop : (p : ℕ) → E.PropT K X p p
-    like_prop p = record { keys = λ v l x y h. all.dots v x p; uses = λ b. ap (λ z. member_use b z) (all.names p) }
-
-    like_key : (k : Key) → E.NewKeyT K X k k
-    unfolding literal_key
-    like_key (Key.Dotted p) = record { keys = λ v l x y h. all.dots v x p }
-    like_key (Key.Quoted t) = record { keys = λ v l x y h. K.key_quoted x (all.quotes t) }
-
-    -- an old node whose parts were rewritten, or a new one
-    exchanged_like : (e old fresh : Expr) → is_access e ≡ false → is_access old ≡ false → is_variable old ≡ is_variable e → Well e → Well old → Well fresh → ((p p' : Option Path) → E.FollowsRef K X c p p' e old) → ((p p' : Option Path) → E.FollowsAs K X (V K) c p p' e fresh) → LikeT c e (λ q. exchanged q old fresh)
-    unfolding exchanged
-    exchanged_like e old fresh a b d w wo wn h k = record {
-      values = λ q p p'. by_pick q (stays q old fresh) p p';
-      reached = λ q r. ref_pick q r (stays q old fresh) refl;
-      well = λ q. well_pick (stays q old fresh);
-      stays_other = λ n. other_pick n (stays as_deleted old fresh) refl;
-    }
-      where
-        by_pick : (q : Position) (s : Bool) (p p' : Option Path) → E.FollowsAs K X (V K) c p p' e (pick s old fresh)
-        by_pick q true p p' = E.as_value K X c (h p p')
-        by_pick q false p p' = k p p'
-
-        ref_pick : (q : Position) → refers q ≡ true → (s : Bool) → stays q old fresh ≡ s → E.FollowsRef K X c None None e (pick s old fresh)
-        ref_pick q r true x = h None None
-        ref_pick q r false x = of_values K all.marks X c (well_unbuilt tables e w) (unbuilt' fresh wn) a (no_access q old fresh r b x) (k None None)
-
-        well_pick : (s : Bool) → Well (pick s old fresh)
-        well_pick true = wo
-        well_pick false = wn
-
-        other_pick : is_variable e ≡ false → (s : Bool) → stays as_deleted old fresh ≡ s → is_variable (pick s old fresh) ≡ false
-        other_pick n true x = d ∙ n
-        other_pick n false x = no_variable old fresh x
-
-    stepped_like : (e e' : Expr) → is_access e ≡ false → is_access e' ≡ false → is_variable e' ≡ is_variable e → Well e → Well e' → ((p p' : Option Path) → E.FollowsRef K X c p p' e e') → LikeT c e (λ q. stepped_at step_one step_call q e')
-    unfolding stepped_at
-    stepped_like e e' a b d w w' h = exchanged_like e e' (step_one e') a b d w w' (rules.well_step e' w') h (λ p p'. rules.steps c p p' e e' w' (E.as_value K X c (h p p')))
-
-    -- ---- keys between brackets
-
-    brackets_by : (k k' : Expr) → literal_text k ≡ None → (o : Option (List ℕ)) → literal_text k' ≡ o → E.BracketsT K X k k'
-    brackets_by k k' e None d = E.values_t e d
-    brackets_by k k' e (Some t) d = let h = literal_of k' t d in subst (λ z. E.BracketsT K X k z) (sym h.1) (E.written_t e (all.written t))
-
-    texts_by : (i : ℕ) (t : List ℕ) (k' : Expr) → literal_text k' ≡ Some t → E.BracketsT K X (lit i (text t)) k'
-    texts_by i t k' d = let h = literal_of k' t d in subst (λ z. E.BracketsT K X (lit i (text t)) z) (sym h.1) (E.texts_t (all.quotes t))
-
-    abbrev r : Position → Expr → Expr
-    r = re step_one step_call
-
-    brackets_like : (k : Expr) → E.BracketsT K X k (r as_value k)
-    unfolding re stepped_at exchanged stays literal_text
-    brackets_like (lit i (text t)) = texts_by i t _ (rules.texts i t)
-    brackets_like k = brackets_by k (r as_value k) refl (literal_text (r as_value k)) refl
-
-    -- ---- callees
-
-    -- a built-in global
-    data BuiltVar : Expr → Type 0 where
-      built_var : {i n : ℕ} → may_read tables (Ref.Global n) ≡ false → BuiltVar (var i (Ref.Global n))
-
-    string_built : (k : Global) → IsTrue (is_string k) → is_no_built k ≡ false
-    unfolding is_string is_no_built
-    string_built extern h = absurd (cc)
-    string_built (of_chunk n) h = absurd (cc)
-    string_built (built_in b) h = refl
-
-    use_built : (k : Global) (t : List ℕ) → IsTrue (has_use k t) → is_no_built k ≡ false
-    unfolding has_use is_no_built
-    use_built extern t h = absurd (cc)
-    use_built (of_chunk n) t h = absurd (cc)
-    use_built (built_in b) t h = refl
-
-    no_global : (n : ℕ) (qs : List ℕ) (q : ℕ) → global_at tables (Some (n, qs ++ q ∷ [])) ≡ None
-    unfolding global_at
-    no_global n [] q = refl
-    no_global n (x ∷ qs) q = refl
-
-    no_use : (o : Option Path) (q : ℕ) (t : List ℕ) → IsTrue (is_use (global_at tables (longer o q)) t) → ⊥
-    unfolding longer is_use global_at
-    no_use None q t h = absurd (cc)
-    no_use (Some x) q t h = by_none _ (no_global x.0 x.1 q) h
-      where
-        by_none : (g : Option Global) → g ≡ None → IsTrue (is_use g t) → ⊥
-        by_none None e h = absurd (cc)
-        by_none (Some g) e h = absurd (cc)
-
-    use_var : (e : Expr) (t : List ℕ) → IsTrue (is_use (global_at tables (path_of e)) t) → BuiltVar e
-    unfolding path_of path_of_ref is_use global_at may_read
-    use_var (var i (Ref.Frame up n)) t h = absurd (cc)
-    use_var (var i (Ref.Global n)) t h = built_var (use_built (global_kind tables n) t h)
-    use_var (member i e q) t h = absurd (no_use (path_of e) q t h)
-    use_var _ t h = absurd (cc)
-
-    one_of_same : (b : Bool) (e : Expr) → pick b e e ≡ e
-    one_of_same true e = refl
-    one_of_same false e = refl
-
-    built_stays : (q : Position) (e : Expr) → BuiltVar e → r q e ≡ e
-    unfolding re stepped_at exchanged
-    built_stays q _ (built_var {i = i} {n = n} h) =
-        let v : Expr = var i (Ref.Global n) in
-        ap (λ z. exchanged q v z) (rules.built i (Ref.Global n) h) ∙ one_of_same (stays q v v) v
-
-    record CalleeT (f : Expr) : Type 0 where
-      follows : E.FollowsRef K X c None None f (r as_callee f)
-      well : IsTrue (built_callee tables (r as_callee f) || expr_well tables (r as_callee f))
-
-    built_follows : (e : Expr) → BuiltVar e → Fine Ks c e → E.FollowsRef K X c None None e e
-    unfolding Fine
-    built_follows _ (built_var {i = i} u) h = E.follows_var K X c (all.sites i i) h
-
-    -- a callee that stays as it is
-    kept_callee : (f : Expr) → r as_callee f ≡ f → E.FollowsRef K X c None None f f → IsTrue (built_callee tables f || expr_well tables f) → CalleeT f
-    kept_callee f e h w = record { follows = subst (λ z. E.FollowsRef K X c None None f z) (sym e) h; well = subst (λ z. IsTrue (built_callee tables z || expr_well tables z)) (sym e) w }
-
-    built_callee_like : (f : Expr) → Fine Ks c f → IsTrue (built_callee tables f) → IsTrue (built_callee tables f || expr_well tables f) → CalleeT f
-    unfolding built_callee may_read Fine re position_before
-    built_callee_like (var i (Ref.Global n)) h b w = let v : BuiltVar (var i (Ref.Global n)) = built_var (string_built (global_kind tables n) b) in kept_callee (var i (Ref.Global n)) (built_stays as_callee _ v) (built_follows _ v h) w
-    built_callee_like (member i e p) h b w =
-        let v : BuiltVar e = use_var e (name_of tables (dotted p)) b in
-        kept_callee (member i e p) (ap (λ z. member i z p) (built_stays as_value e v)) (E.follows_member K X c (all.sites i i) (all.paths _ _) (like_prop p) (E.on_reached K X c (built_follows e v h))) w
-    built_callee_like _ h b w = absurd (cc)
-
-    callee_by : (f : Expr) (b : Bool) → built_callee tables f ≡ b → Fine Ks c f → IsTrue (b || expr_well tables f) → (Well f → LikeT c f (λ q. r q f)) → CalleeT f
-    unfolding refers
-    callee_by f true e h w k = built_callee_like f h e (subst (λ z. IsTrue (z || expr_well tables f)) (sym e) refl)
-    callee_by f false e h w k = record { follows = (k w).reached as_callee refl; well = either (built_callee tables (r as_callee f)) ((k w).well as_callee) }
-      where
-        either : (b : Bool) → Well (r as_callee f) → IsTrue (b || expr_well tables (r as_callee f))
-        either true q = refl
-        either false q = q
-
-    callee_like : (f : Expr) → Fine Ks c f → IsTrue (built_callee tables f || expr_well tables f) → (Well f → LikeT c f (λ q. r q f)) → CalleeT f
-    callee_like f h w k = callee_by f (built_callee tables f) refl h w k
-
-    -- ---- constructs over what their parts became
-
-    unary_like : (i : ℕ) (op : UnOp) (e : Expr) → IsTrue (takes_operand op e) → Well e → LikeT c e (λ q. r q e) → LikeT c (unary i op e) (λ q. r q (unary i op e))
-    unfolding re stepped_at position_under takes_operand expr_well is_variable is_access E.deletes refers
-    unary_like i Delete e t w l =
-        stepped_like (unary i Delete e) (unary i Delete (r as_deleted e)) refl refl refl (both t w) (both (other_not (l.stays_other (not_true t))) (l.well as_deleted)) (λ p p'. E.follows_delete K X c (all.sites i i) (l.reached as_deleted refl))
-      where
-        not_true : {b : Bool} → IsTrue (not b) → b ≡ false
-        not_true {b = true} h = absurd (cc)
-        not_true {b = false} h = refl
-
-        other_not : {b : Bool} → b ≡ false → IsTrue (not b)
-        other_not {b = b} h = subst (λ z. IsTrue (not z)) (sym h) refl
-    unary_like i op e t w l =
-        stepped_like (unary i op e) (unary i op (r as_value e)) refl refl refl w (l.well as_value) (λ p p'. E.follows_unary K X c (all.sites i i) op refl (l.values as_value None None))
-
-    member_like : (i : ℕ) (e : Expr) (p : ℕ) → Well e → LikeT c e (λ q. r q e) → LikeT c (member i e p) (λ q. r q (member i e p))
-    unfolding re expr_well is_variable
-    member_like i e p w l = record {
-      values = λ q p1 p2. E.as_value K X c (follows q p1 p2);
-      reached = λ q x. follows q None None;
-      well = λ q. l.well (position_before q);
-      stays_other = λ n. refl;
-    }
-      where
-        follows : (q : Position) (p1 p2 : Option Path) → E.FollowsRef K X c p1 p2 (member i e p) (member i (r (position_before q) e) p)
-        follows q p1 p2 = E.follows_member K X c (all.sites i i) (all.paths _ _) (like_prop p) (on_values K all.marks X c (well_unbuilt tables e w) (unbuilt' _ (l.well (position_before q))) (l.values (position_before q) None None))
-
-    index_like : (i : ℕ) (e k : Expr) → LikeT c e (λ q. r q e) → LikeT c k (λ q. r q k) → LikeT c (index i e k) (λ q. r q (index i e k))
-    unfolding re expr_well is_variable
-    index_like i e k l m = record {
-      values = λ q p1 p2. E.as_value K X c (follows q p1 p2);
-      reached = λ q x. follows q None None;
-      well = λ q. both (l.well (position_before q)) (m.well as_value);
-      stays_other = λ n. refl;
-    }
-      where
-        follows : (q : Position) (p1 p2 : Option Path) → E.FollowsRef K X c p1 p2 (index i e k) (index i (r (position_before q) e) (r as_value k))
-        follows q p1 p2 = E.follows_index K X c (all.sites i i) (l.values (position_before q) None None) (brackets_like k) (m.values as_value None None)
-
-    cast_like : (i d : ℕ) (e : Expr) → LikeT c e (λ q. r q e) → LikeT c (cast i d e) (λ q. r q (cast i d e))
-    unfolding re expr_well is_variable
-    cast_like i d e l = record {
-      values = λ q p p'. cast_at_value K X c (all.sites i i) (all.docs d) (l.values q None None);
-      reached = λ q x. E.follows_cast K X c (all.sites i i) (all.docs d) (l.reached q x);
-      well = λ q. l.well q;
-      stays_other = λ n. l.stays_other n;
-    }
-
-    tick_like : (i n : ℕ) (e : Expr) → LikeT c e (λ q. r q e) → LikeT c (tick i n e) (λ q. r q (tick i n e))
-    unfolding re expr_well is_variable
-    tick_like i n e l = record {
-      values = λ q p p'. tick_at_value K X c n (l.values q None None);
-      reached = λ q x. E.follows_tick K X c n (l.reached q x);
-      well = λ q. l.well q;
-      stays_other = λ n. l.stays_other n;
-    }
-
-    -- ---- calls
-
-    record AllLikeT (es : Exprs) : Type 0 where
-      follows : E.FollowsAll K X c es (re_all step_one step_call es)
-      well : IsTrue (exprs_well tables (re_all step_one step_call es))
-
-    call_like : (i : ℕ) (f : Expr) (es : Exprs) → Well (call i f es) → CalleeT f → AllLikeT es → LikeT c (call i f es) (λ q. r q (call i f es))
-    unfolding re expr_well is_variable is_access
-    call_like i f es w l m =
-        let wo : Well (call i (r as_callee f) (re_all step_one step_call es)) = both l.well m.well in
-        exchanged_like (call i f es) (call i (r as_callee f) (re_all step_one step_call es)) (step_call i (r as_callee f) (re_all step_one step_call es)) refl refl refl w wo (rules.well_call i _ _ wo) (λ p p'. E.follows_call K X c (all.sites i i) l.follows m.follows) (λ p p'. rules.calls c p p' i f _ es _ wo l.follows m.follows)
-
-    -- how a target's variable is also read: by a step, or by an assignment with this operator
-    abbrev needed : Option (Option BinOp) → Ref → Type 0
-    needed None x = K.ReadT c x x
-    needed (Some op) x = ReadBy Ks op c x
-
-    abbrev also_read : Option (Option BinOp) → Ref → Ref → Type 0
-    also_read None = K.ReadT c
-    also_read (Some op) = E.ReadsBy K X c op
-
-    reads_of : (u : Option (Option BinOp)) (x : Ref) → needed u x → also_read u x x
-    unfolding ReadBy
-    reads_of None x h = h
-    reads_of (Some None) x h = E.not_read
-    reads_of (Some (Some op)) x h = E.is_read h
-
-    -- ---- each expression
-
-    abbrev ra : Exprs → Exprs
-    ra = re_all step_one step_call
-
-    abbrev rt : Target → Target
-    rt = re_target step_one step_call
-
-    mutual
-      unfolding re stepped_at Fine expr_well is_variable is_access
-
-      pub like : (e : Expr) → Fine Ks c e → Well e → LikeT c e (λ q. r q e)
-      like (lit i q) f w = stepped_like (lit i q) (lit i q) refl refl refl w w (λ p p'. E.follows_lit K X c q)
-      like (var i x) f w = stepped_like (var i x) (var i x) refl refl refl w w (λ p p'. E.follows_var K X c (all.sites i i) f)
-      like (this i) f w = stepped_like (this i) (this i) refl refl refl w w (λ p p'. E.follows_this K X c (all.sites i i) f)
-      like (fun i g) f w = stepped_like (fun i g) (fun i g) refl refl refl w w (λ p p'. E.follows_fun K X c (all.sites i i) f)
-      like (list i es) f w = let l = like_all es f w in stepped_like (list i es) (list i (ra es)) refl refl refl w l.well (λ p p'. E.follows_list K X c l.follows)
-      like (object i fs) f w = stepped_like (object i fs) (object i (re_fields step_one step_call fs)) refl refl refl w (fields_rewell fs f w) (λ p p'. E.follows_object K X c (like_fields p p' fs f w))
-      like (unary i op e) f w = let b = both_true _ _ w in unary_like i op e b.0 b.1 (like e f b.1)
-      like (binary i op a b) f w =
-          let t = both_true _ _ w in let l = like a f.0 t.0 in let m = like b f.1 t.1 in
-          stepped_like (binary i op a b) (binary i op (r as_value a) (r as_value b)) refl refl refl w (both (l.well as_value) (m.well as_value)) (λ p p'. E.follows_binary K X c (all.sites i i) op (l.values as_value None None) (m.values as_value None None))
-      like (and i a b) f w =
-          let t = both_true _ _ w in let l = like a f.0 t.0 in let m = like b f.1 t.1 in
-          stepped_like (and i a b) (and i (r as_value a) (r as_value b)) refl refl refl w (both (l.well as_value) (m.well as_value)) (λ p p'. E.follows_and K X c (l.values as_value None None) (m.values as_value None None))
-      like (or i a b) f w =
-          let t = both_true _ _ w in let l = like a f.0 t.0 in let m = like b f.1 t.1 in
-          stepped_like (or i a b) (or i (r as_value a) (r as_value b)) refl refl refl w (both (l.well as_value) (m.well as_value)) (λ p p'. E.follows_or K X c (l.values as_value None None) (m.values as_value None None))
-      like (comma i a b) f w =
-          let t = both_true _ _ w in let l = like a f.0 t.0 in let m = like b f.1 t.1 in
-          stepped_like (comma i a b) (comma i (r as_value a) (r as_value b)) refl refl refl w (both (l.well as_value) (m.well as_value)) (λ p p'. E.follows_comma K X c (l.values as_value None None) (m.values as_value None None))
-      like (cond i t a b) f w =
-          let h = both_true _ _ w in let k = both_true _ _ h.0 in let l = like t f.0 k.0 in let m = like a f.1 k.1 in let n = like b f.2 h.1 in
-          stepped_like (cond i t a b) (cond i (r as_value t) (r as_value a) (r as_value b)) refl refl refl w (both (both (l.well as_value) (m.well as_value)) (n.well as_value)) (λ p p'. E.follows_cond K X c (l.values as_value None None) (m.values as_value None None) (n.values as_value None None))
-      like (assign i op t e) f w =
-          let h = both_true _ _ w in let k = both_true _ _ h.0 in let l = like e f.1 h.1 in
-          stepped_like (assign i op t e) (assign i op (rt t) (r as_right e)) refl refl refl w (both (both k.0 (target_rewell (Some op) t f.0 k.1)) (l.well as_right)) (λ p p'. E.follows_assign K X c (all.sites i i) op (like_target (Some op) t f.0 k.1) (l.values as_right (path_of_target t) (path_of_target (rt t))))
-      like (step i up prefix t) f w = stepped_like (step i up prefix t) (step i up prefix (rt t)) refl refl refl w (target_rewell None t f w) (λ p p'. E.follows_step K X c (all.sites i i) up prefix (like_target None t f w))
-      like (member i e p) f w = member_like i e p w (like e f w)
-      like (index i e k) f w = let t = both_true _ _ w in index_like i e k (like e f.0 t.0) (like k f.1 t.1)
-      like (call i g es) f w = let t = both_true _ _ w in call_like i g es w (callee_like g f.0 t.0 (λ x. like g f.0 x)) (like_all es f.1 t.1)
-      like (new i g es) f w = let t = both_true _ _ w in let l = like g f.0 t.0 in let m = like_all es f.1 t.1 in
-          stepped_like (new i g es) (new i (r as_value g) (ra es)) refl refl refl w (both (l.well as_value) m.well) (λ p p'. E.follows_new K X c (all.sites i i) (l.values as_value None None) m.follows)
-      like (cast i d e) f w = cast_like i d e (like e f w)
-      like (tick i n e) f w = tick_like i n e (like e f w)
-
-      pub like_target : (u : Option (Option BinOp)) (t : Target) → FineTarget Ks c (needed u) t → IsTrue (target_well tables t) → E.FollowsTarget K X c (also_read u) t (rt t)
-      like_target u (to_var i x) f w = E.target_var K X c (all.sites i i) (reads_of u x f.0) f.1
-      like_target u (to_member i e p) f w = E.target_member K X c (all.sites i i) (all.paths _ _) (like_prop p) ((like e f w).values as_object None None)
-      like_target u (to_index i e k) f w = let t = both_true _ _ w in E.target_index K X c (all.sites i i) ((like e f.0 t.0).values as_object None None) (brackets_like k) ((like k f.1 t.1).values as_value None None)
-
-      target_rewell : (u : Option (Option BinOp)) (t : Target) → FineTarget Ks c (needed u) t → IsTrue (target_well tables t) → IsTrue (target_well tables (rt t))
-      target_rewell u (to_var i x) f w = w
-      target_rewell u (to_member i e p) f w = (like e f w).well as_object
-      target_rewell u (to_index i e k) f w = let t = both_true _ _ w in both ((like e f.0 t.0).well as_object) ((like k f.1 t.1).well as_value)
-
-      like_all : (es : Exprs) → FineAll Ks c es → IsTrue (exprs_well tables es) → AllLikeT es
-      like_all no_exprs f w = record { follows = E.follows_no_exprs K X c; well = refl }
-      like_all (more_exprs e es) f w =
-          let t = both_true _ _ w in let l = like e f.0 t.0 in let m = like_all es f.1 t.1 in
-          record { follows = E.follows_more_exprs K X c (l.values as_value None None) m.follows; well = both (l.well as_value) m.well }
-
-      like_fields : (p p' : Option Path) (fs : Fields) → FineFields Ks c fs → IsTrue (fields_well tables fs) → E.FollowsFields K X c p p' fs (re_fields step_one step_call fs)
-      like_fields p p' no_fields f w = E.follows_no_fields K X c
-      like_fields p p' (more_fields k e fs) f w =
-          let t = both_true _ _ w in
-          E.follows_more_fields K X c (all.sites _ _) (like_key k) (all.paths _ _) ((like e f.0 t.0).values as_value (path_of_key p k) (path_of_key p' k)) (like_fields p p' fs f.1 t.1)
-
-      fields_rewell : (fs : Fields) → FineFields Ks c fs → IsTrue (fields_well tables fs) → IsTrue (fields_well tables (re_fields step_one step_call fs))
-      fields_rewell no_fields f w = refl
-      fields_rewell (more_fields k e fs) f w = let t = both_true _ _ w in both ((like e f.0 t.0).well as_value) (fields_rewell fs f.1 t.1)
+use Rattle.cc_tied.proofs.Valued as W
+use Rattle.cc_tied.proofs.Nodes as N
+use Rattle.cc_tied.proofs.Statements as S
+
+-- ---- what a guard leaves
+
+and_first : (x y : Bool) → y ≡ false → x && not y ≡ false → x ≡ false
+and_first true true e h = absurd (cc)
+and_first true false e h = h
+and_first false y e h = refl
+
+or_first : (x y : Bool) → x || y ≡ false → x ≡ false
+or_first true y h = absurd (cc)
+or_first false y h = refl
+
+module _ (K : Kit) (X : Below K) (built : Ref → Bool) (c : K.Ctx) where
+  -- what ties two expressions at their place
+  abbrev pub At : Place → Expr → Expr → Type 0
+  At a_value e e' = W.FollowsValue K X built c e e'
+  At an_assigned e e' = W.FollowsValue K X built c e e'
+  At a_callee e e' = E.FollowsRef K X c None None e e'
+  At a_deleted e e' = E.FollowsRef K X c None None e e'
+  At an_object e e' = W.FollowsFrom K X built c e e'
+
+  one_value : (b : Bool) {e before after : Expr} → W.FollowsValue K X built c e before → W.FollowsValue K X built c e after → W.FollowsValue K X built c e (pick b before after)
+  one_value true h k = h
+  one_value false h k = k
+
+  one_reached : (b : Bool) {e before after : Expr} → (b ≡ false → reaches built after ≡ false) → accesses e ≡ false → variable e ≡ false → E.FollowsRef K X c None None e before → W.FollowsValue K X built c e after → E.FollowsRef K X c None None e (pick b before after)
+  one_reached true d x y h k = h
+  one_reached false d x y h k = W.ref_of_plain K X built c x y (k.plain (d refl))
+
+  one_object : (b : Bool) {e before after : Expr} → (b ≡ false → builds built after ≡ false) → variable e ≡ false → E.FollowsRef K X c None None e before → W.FollowsValue K X built c e after → W.FollowsFrom K X built c e (pick b before after)
+  one_object true d y h k = W.reached_t h
+  one_object false d y h k = W.valued_t k y (d refl)
+
+  -- an expression that gives a value alone, which is left or exchanged
+  placed : (t : Bool) (q : Place) {e : Expr} (before after : Expr) → accesses e ≡ false → variable e ≡ false → reaches built before ≡ false → W.FollowsValue K X built c e before → W.FollowsValue K X built c e after → At q e (guard built t q before after)
+  unfolding guard keeps
+  placed t a_value before after x y r h k = k
+  placed t an_assigned before after x y r h k = one_value (functions after && not (functions before)) h k
+  placed t a_callee before after x y r h k = one_reached (reaches built after && not (reaches built before)) (λ d. and_first (reaches built after) (reaches built before) r d) x y (W.ref_of_plain K X built c x y (h.plain r)) k
+  placed t a_deleted before after x y r h k = one_reached ((reaches built after && not (reaches built before)) || variable after) (λ d. and_first (reaches built after) (reaches built before) r (or_first (reaches built after && not (reaches built before)) (variable after) d)) x y (W.ref_of_plain K X built c x y (h.plain r)) k
+  placed t an_object before after x y r h k = one_object (builds built after || (t && ((variable after || accesses after) && not (variable before || accesses before)))) (λ d. or_first (builds built after) (t && ((variable after || accesses after) && not (variable before || accesses before))) d) y (W.ref_of_plain K X built c x y (h.plain r)) k
+
+  one_ref : (b : Bool) {e before after : Expr} → E.FollowsRef K X c None None e before → E.FollowsRef K X c None None e after → E.FollowsRef K X c None None e (pick b before after)
+  one_ref true h k = h
+  one_ref false h k = k
+
+  -- a variable, which reaches what it becomes wherever it stands
+  placed_variable : (t : Bool) (q : Place) {e : Expr} (before after : Expr) → E.FollowsRef K X c None None e before → W.FollowsValue K X built c e before → E.FollowsRef K X c None None e after → W.FollowsValue K X built c e after → At q e (guard built t q before after)
+  unfolding guard keeps
+  placed_variable t a_value before after h hv k kv = kv
+  placed_variable t an_assigned before after h hv k kv = one_value (functions after && not (functions before)) hv kv
+  placed_variable t a_callee before after h hv k kv = one_ref (reaches built after && not (reaches built before)) h k
+  placed_variable t a_deleted before after h hv k kv = one_ref ((reaches built after && not (reaches built before)) || variable after) h k
+  placed_variable t an_object before after h hv k kv = W.reached_t (one_ref (builds built after || (t && ((variable after || accesses after) && not (variable before || accesses before)))) h k)
+
+  -- what stays
+  placed_same : (q : Place) {e e' : Expr} → E.FollowsRef K X c None None e e' → W.FollowsValue K X built c e e' → At q e e'
+  placed_same a_value h k = k
+  placed_same an_assigned h k = k
+  placed_same a_callee h k = h
+  placed_same a_deleted h k = h
+  placed_same an_object h k = W.reached_t h
+
+-- what a kit ties to itself, and the statements of a pass
+abbrev pub allowed : (K : Kit) → (Stands : K.Ctx → List (List ℕ) → Stmt → Type 0) → Allowed K.Ctx
+allowed K Stands = record { caught = K.in_catch; reads = λ c r. K.ReadT c r r; writes = λ c r. K.WriteT c r r; this_here = K.ThisT; makes = λ c f. K.StandT c f f; stands = Stands }
+
+module _ (K : Kit) (X : Below K) (built : Ref → Bool) (Here : K.Ctx → Type 0) (Stands : K.Ctx → List (List ℕ) → Stmt → Type 0) (step : Expr → Expr) (step_call : ℕ → Expr → Exprs → Expr) where
+  abbrev pub new_declarator : Declarator → Declarator
+  new_declarator d = re_declarator built step step_call d
+
+  -- what the steps of a pass owe, in the contexts where it rewrites
+  pub record StepRules : Type 0 where
+    pub caught : (c : K.Ctx) → Here c → Here (K.in_catch c)
+    -- a variable that is read, wherever it stands
+    pub reads : (c : K.Ctx) → Here c → (i : ℕ) (r : Ref) → K.ReadT c r r → E.FollowsRef K X c None None (var i r) (step (var i r)) × W.FollowsValue K X built c (var i r) (step (var i r))
+    -- a node with its parts
+    pub steps : (c : K.Ctx) → Here c → (e e' : Expr) → N.NodeT K X built c e e' → W.FollowsValue K X built c e (step e')
+    pub calls : (c : K.Ctx) → Here c → (i : ℕ) (f f' : Expr) (es es' : Exprs) → E.FollowsRef K X c None None f f' → E.FollowsAll K X c es es' → W.FollowsValue K X built c (call i f es) (step_call i f' es')
+
+  module _ (same : N.SameTables K X built) (rules : StepRules) where
+    module _ (c : K.Ctx) (here : Here c) where
+      abbrev pub New : (t : Bool) → Place → Expr → Expr
+      New t q e = re built step step_call t q e
+
+      abbrev pub FE : Expr → Type 0
+      FE e = Fine K.Ctx (allowed K Stands) c e
+
+      put_like : (t : Bool) (q : Place) {e e' : Expr} → N.NodeT K X built c e e' → accesses e ≡ false → variable e ≡ false → reaches built e' ≡ false → At K X built c q e (put built step step_call t q e')
+      unfolding put
+      put_like t q n x y r = placed K X built c t q _ _ x y r (N.node_valued K X built same c n) (rules.steps c here _ _ n)
+
+      call_like : (t : Bool) (q : Place) (i : ℕ) {f f' : Expr} {es es' : Exprs} → E.FollowsRef K X c None None f f' → E.FollowsAll K X c es es' → At K X built c q (call i f es) (put_call built step step_call t q i f' es')
+      unfolding put_call accesses variable reaches builds
+      call_like t q i h k = placed K X built c t q _ _ refl refl refl (N.call_valued K X built same c i h k) (rules.calls c here i _ _ _ _ h k)
+
+      var_like : (t : Bool) (q : Place) (i : ℕ) (r : Ref) → K.ReadT c r r → At K X built c q (var i r) (put built step step_call t q (var i r))
+      unfolding put
+      var_like t q i r rd = placed_variable K X built c t q _ _ (E.follows_var K X c (same.sites i) rd) (N.var_valued K X built same c i r rd) (rules.reads c here i r rd).0 (rules.reads c here i r rd).1
+
+      -- an access where it stands
+      access_like : (q : Place) {e e' : Expr} → N.NodeT K X built c e e' → E.FollowsRef K X c None None e e' → At K X built c q e (put_on_value built step step_call q e')
+      unfolding put_on_value
+      access_like a_value n h = rules.steps c here _ _ n
+      access_like an_assigned n h = rules.steps c here _ _ n
+      access_like a_callee n h = h
+      access_like a_deleted n h = h
+      access_like an_object n h = W.reached_t h
+
+      cast_object : (i d : ℕ) {e e' : Expr} → W.FollowsFrom K X built c e e' → W.FollowsFrom K X built c (cast i d e) (cast i d e')
+      unfolding variable builds
+      cast_object i d (W.reached_t h) = W.reached_t (E.follows_cast K X c (same.sites i) (same.docs d) h)
+      cast_object i d (W.valued_t h b y) = W.valued_t (W.valued_cast K X built c (same.sites i) (same.docs d) h) b y
+
+      cast_like : (q : Place) (i d : ℕ) (e e' : Expr) → At K X built c q e e' → At K X built c q (cast i d e) (put_on_value built step step_call q (cast i d e'))
+      unfolding put_on_value
+      cast_like a_value i d e e' h = rules.steps c here _ _ (N.cast_n h)
+      cast_like an_assigned i d e e' h = rules.steps c here _ _ (N.cast_n h)
+      cast_like a_callee i d e e' h = E.follows_cast K X c (same.sites i) (same.docs d) h
+      cast_like a_deleted i d e e' h = E.follows_cast K X c (same.sites i) (same.docs d) h
+      cast_like an_object i d e e' h = cast_object i d h
+
+      tick_object : (i n : ℕ) {e e' : Expr} → W.FollowsFrom K X built c e e' → W.FollowsFrom K X built c (tick i n e) (tick i n e')
+      unfolding variable builds
+      tick_object i n (W.reached_t h) = W.reached_t (E.follows_tick K X c n h)
+      tick_object i n (W.valued_t h b y) = W.valued_t (W.valued_tick K X built c n (same.sites i) h) b y
+
+      tick_like : (q : Place) (i n : ℕ) (e e' : Expr) → At K X built c q e e' → At K X built c q (tick i n e) (put_on_value built step step_call q (tick i n e'))
+      unfolding put_on_value
+      tick_like a_value i n e e' h = rules.steps c here _ _ (N.tick_n h)
+      tick_like an_assigned i n e e' h = rules.steps c here _ _ (N.tick_n h)
+      tick_like a_callee i n e e' h = E.follows_tick K X c n h
+      tick_like a_deleted i n e e' h = E.follows_tick K X c n h
+      tick_like an_object i n e e' h = tick_object i n h
+
+      new_key : (t : Bool) (k : Expr) → E.BracketsT K X k (New t a_value k)
+      unfolding re literal_text
+      new_key t (lit i (text u)) = E.texts_t (same.quoted u)
+      new_key t (lit i undefined) = E.values_t refl refl
+      new_key t (lit i null) = E.values_t refl refl
+      new_key t (lit i (truth b)) = E.values_t refl refl
+      new_key t (lit i (whole z)) = E.values_t refl refl
+      new_key t k = N.brackets_new K X built same c k _ refl
+
+      -- what the tree says of a variable that is written
+      pub data ReadWhere (b : Bool) : Ref → Ref → Type 0 where
+        read_where : {r : Ref} → FineRead K.Ctx (allowed K Stands) c b r → ReadWhere b r r
+
+      place_as : {Reads Reads' : Ref → Ref → Type 0} → ((r r' : Ref) → Reads r r' → Reads' r r') → {v : K.World} {a b : M.Place} → PlaceV K Reads (K.WriteT c) v a b → PlaceV K Reads' (K.WriteT c) v a b
+      place_as f (variable_t s rd wr) = variable_t s (f _ _ rd) wr
+      place_as f (slot_t h) = slot_t h
+
+      target_as : {Reads Reads' : Ref → Ref → Type 0} → ((r r' : Ref) → Reads r r' → Reads' r r') → {u u' : Target} → E.FollowsTarget K X c Reads u u' → E.FollowsTarget K X c Reads' u u'
+      target_as f h = record { by = λ v l g g' t. K.rel_as (λ u lu a b q. place_as f q) (h.by v l g g' t) }
+
+      by_operator : (op : Option BinOp) (r r' : Ref) → ReadWhere (is_some op) r r' → E.ReadsBy K X c op r r'
+      unfolding FineRead
+      by_operator None r r' h = E.not_read
+      by_operator (Some op) r r' (read_where h) = E.is_read h
+
+      by_step : (r r' : Ref) → ReadWhere true r r' → K.ReadT c r r'
+      unfolding FineRead
+      by_step r r' (read_where h) = h
+
+      mutual
+        unfolding re Fine accesses variable reaches builds operand E.deletes
+
+        pub re_like : (t : Bool) (q : Place) (e : Expr) → FE e → At K X built c q e (New t q e)
+        re_like t q (lit i p) o = placed_same K X built c q (E.follows_lit K X c p) (N.lit_valued K X built same c i p)
+        re_like t q (var i r) o = var_like t q i r o
+        re_like t q (this i) o = put_like t q (N.this_n o) refl refl refl
+        re_like t q (fun i f) o = put_like t q (N.fun_n o) refl refl refl
+        re_like t q (list i es) o = put_like t q (N.list_n (re_like_all t es o)) refl refl refl
+        re_like t q (object i fs) o = put_like t q (N.object_n (λ p p'. re_like_fields t p p' fs o)) refl refl refl
+        re_like t q (unary i Delete e) o = put_like t q (N.delete_n (re_like t a_deleted e o)) refl refl refl
+        re_like t q (unary i op e) o = put_like t q (N.unary_n refl (re_like t a_value e o)) refl refl refl
+        re_like t q (binary i op a b) o = put_like t q (N.binary_n (re_like t a_value a o.0) (re_like t a_value b o.1)) refl refl refl
+        re_like t q (and i a b) o = put_like t q (N.and_n (re_like t a_value a o.0) (re_like t a_value b o.1)) refl refl refl
+        re_like t q (or i a b) o = put_like t q (N.or_n (re_like t a_value a o.0) (re_like t a_value b o.1)) refl refl refl
+        re_like t q (cond i e a b) o = put_like t q (N.cond_n (re_like t a_value e o.0) (re_like t a_value a o.1) (re_like t a_value b o.2)) refl refl refl
+        re_like t q (assign i op u e) o = put_like t q (N.assign_n (target_as (λ r r' h. by_operator op r r' h) (re_like_target (is_some op) u o.0)) (re_like t an_assigned e o.1)) refl refl refl
+        re_like t q (step_of i up prefix u) o = put_like t q (N.step_n (target_as (λ r r' h. by_step r r' h) (re_like_target true u o))) refl refl refl
+        re_like t q (member i e p) o = let h = re_like t an_object e o in access_like q (N.member_n h) (E.follows_member K X c (same.sites i) (same.paths _ _) (same.props p) (W.from_on K X built c h))
+        re_like t q (index i e k) o = let h = re_like t an_object e o.0 in let j = re_like t a_value k o.1 in access_like q (N.index_n h (new_key t k) j) (E.follows_index K X c (same.sites i) (W.from_value K X built c h) (new_key t k) (j.values None None))
+        re_like t q (call i f es) o = call_like t q i (re_like t a_callee f o.0) (re_like_all t es o.1)
+        re_like t q (new i f es) o = put_like t q (N.new_n (re_like t a_callee f o.0) (re_like_all t es o.1)) refl refl refl
+        re_like t q (comma i a b) o = put_like t q (N.comma_n (re_like t a_value a o.0) (re_like t a_value b o.1)) refl refl refl
+        re_like t q (cast i d e) o = cast_like q i d e _ (re_like t q e o)
+        re_like t q (tick i n e) o = tick_like q i n e _ (re_like t q e o)
+
+        pub re_like_target : (b : Bool) (u : Target) → FineTarget K.Ctx (allowed K Stands) c b u → E.FollowsTarget K X c (ReadWhere b) u (re_target built step step_call u)
+        re_like_target b (to_var i r) o = E.target_var K X c (same.sites i) (read_where o.0) o.1
+        re_like_target b (to_member i e p) o = E.target_member K X c (same.sites i) (same.paths _ _) (same.props p) (W.from_value K X built c (re_like true an_object e o))
+        re_like_target b (to_index i e k) o = E.target_index K X c (same.sites i) (W.from_value K X built c (re_like true an_object e o.0)) (new_key true k) ((re_like true a_value k o.1).values None None)
+
+        pub re_like_all : (t : Bool) (es : Exprs) → FineAll K.Ctx (allowed K Stands) c es → E.FollowsAll K X c es (re_all built step step_call t es)
+        re_like_all t no_exprs o = E.follows_no_exprs K X c
+        re_like_all t (more_exprs e es) o = E.follows_more_exprs K X c ((re_like t a_value e o.0).values None None) (re_like_all t es o.1)
+
+        pub re_like_fields : (t : Bool) (p p' : Option Path) (fs : Fields) → FineFields K.Ctx (allowed K Stands) c fs → E.FollowsFields K X c p p' fs (re_fields built step step_call t fs)
+        re_like_fields t p p' no_fields o = E.follows_no_fields K X c
+        re_like_fields t p p' (more_fields k e fs) o = let h = re_like t a_value e o.0 in E.follows_more_fields K X c h.site (same.keys k) (same.paths _ _) (h.values _ _) (re_like_fields t p p' fs o.1)
+
+      -- ---- values and declarators
+
+      abbrev pub NewValue : Expr → Expr
+      NewValue e = re_value built step step_call e
+
+      abbrev pub NewOption : Option Expr → Option Expr
+      NewOption o = re_option built step step_call o
+
+      pub re_like_value : (e : Expr) → FE e → E.Follows K X c e (NewValue e)
+      unfolding re_value
+      re_like_value e o = (re_like false a_value e o).values None None
+
+      pub re_like_test : (o : Option Expr) → FineOption K.Ctx (allowed K Stands) c o → S.FollowsTest K X c o (NewOption o)
+      unfolding re_option FineOption
+      re_like_test None o = S.follows_no_test K X c
+      re_like_test (Some e) o = S.follows_test K X c (re_like_value e o)
+
+      pub re_like_only : (o : Option Expr) → FineOption K.Ctx (allowed K Stands) c o → S.FollowsOnly K X c o (NewOption o)
+      unfolding re_option FineOption
+      re_like_only None o = S.follows_no_only K X c
+      re_like_only (Some e) o = S.follows_only K X c (re_like_value e o)
+
+      pub re_like_return : (ls : List (List ℕ)) (i : ℕ) (o : Option Expr) → FineOption K.Ctx (allowed K Stands) c o → S.FollowsStmt K X c ls (return i o) (return i (NewOption o))
+      unfolding re_option FineOption
+      re_like_return ls i None o = S.follows_return_none K X c (same.sites i)
+      re_like_return ls i (Some e) o = S.follows_return K X c (same.sites i) (re_like_value e o)
+
+      pub re_like_case : (v : Option Expr) {b b' : Stmts} {cs cs' : Cases} → FineOption K.Ctx (allowed K Stands) c v → S.FollowsStmts K X c [] b b' → S.FollowsCases K X c cs cs' → S.FollowsCases K X c (more_cases v b cs) (more_cases (NewOption v) b' cs')
+      unfolding re_option FineOption
+      re_like_case None o h k = S.follows_default K X c h k
+      re_like_case (Some e) o h k = S.follows_case K X c (re_like_value e o) h k
+
+      pub set_like : (i : ℕ) (r : Ref) (v : Option Expr) → K.WriteT c r r → FineOption K.Ctx (allowed K Stands) c v → S.FollowsSet K X c (record { site = i; variable = r; value = v }) (record { site = i; variable = r; value = NewOption v })
+      unfolding re_option FineOption re_value
+      set_like i r None wr o = S.follows_bare K X c
+      set_like i r (Some e) wr o = S.follows_set K X c (same.sites i) wr ((re_like false a_value e o).values _ _)
+
+      pub re_like_declarator : (d : Declarator) → FineDeclarator K.Ctx (allowed K Stands) c d → S.FollowsSet K X c d (new_declarator d)
+      unfolding re_declarator FineDeclarator
+      re_like_declarator d o = set_like d.site d.variable d.value o.0 o.1

@@ -4,15 +4,15 @@ use Rattle.cc_ast.specs.Syntax.{Expr, Exprs, Declarator, Stmt, Stmts, Program}
 use Rattle.cc_ast.specs.declared.tree.Ref.{Ref}
 use Rattle.cc_meaning.specs.Shapes.{declared_by, body_of}
 use Rattle.cc_meaning.specs.Meaning.{bodies}
-use Rattle.cc_tied.specs.Rebuilt.{re_stmts}
-use Rattle.cc_tied.specs.Allowed.{FineStmts}
+use Rattle.cc_tied.specs.Rewrites.{re_stmts}
+use Rattle.cc_tied.specs.Fine.{FineStmts}
 use Rattle.cc_tied.proofs.Kit.{Kit}
 use Rattle.cc_tied.proofs.Parts.{Below, BodiesT}
 use Rattle.cc_tied.proofs.Statements.{FollowsBody, FollowsHoist}
 use Rattle.cc_tied.proofs.Turns.{AllBodiesT, below_of, ProgramT, ChunkT, ChunksT, FollowsChunk}
 use Rattle.cc_tied.proofs.Nodes.{SameTables}
-use Rattle.cc_tied.proofs.Rebuilding.{allowed, StepRules}
-use Rattle.cc_tied.proofs.RebuiltBodies.{Rules, re_like_hoist, re_like_body, re_like_chunk}
+use Rattle.cc_tied.proofs.Rewriting.{allowed, StepRules}
+use Rattle.cc_tied.proofs.RewritingBodies.{Rules, re_like_hoist, re_like_body, re_like_chunk}
 use Rattle.cc_tied.proofs.Unchanged.{like_hoist, like_body, like_chunk}
 
 -- what a pass does in each scope

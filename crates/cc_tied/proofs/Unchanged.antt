@@ -5,8 +5,8 @@ use Rattle.cc_ast.specs.declared.tree.Ref.{Ref}
 use Rattle.cc_meaning.specs.Monad.{pick}
 use Rattle.cc_meaning.specs.Shapes.{declared_by}
 use Rattle.cc_tied.specs.Placed.{Place, a_value, an_assigned, a_callee, a_deleted, an_object, keeps, guard, operand}
-use Rattle.cc_tied.specs.Rebuilt.{put, put_call, put_on_value, re, re_target, re_all, re_fields, re_value, re_option, re_declarator}
-use Rattle.cc_tied.specs.Allowed.{FineOption, FineDeclarator, FineDeclarators, FineInit, FineNames, FineStmt, FineStmts, FineMaybe, FineCases, Fine, FineTarget}
+use Rattle.cc_tied.specs.Rewrites.{put, put_call, put_on_value, re, re_target, re_all, re_fields, re_value, re_option, re_declarator}
+use Rattle.cc_tied.specs.Fine.{FineOption, FineDeclarator, FineDeclarators, FineInit, FineNames, FineStmt, FineStmts, FineMaybe, FineCases, Fine, FineTarget}
 use Rattle.cc_tied.proofs.Kit.{Kit}
 use Rattle.cc_tied.proofs.Parts.{Below}
 use Rattle.cc_tied.proofs.Expressions as E
@@ -14,8 +14,8 @@ use Rattle.cc_tied.proofs.Valued as W
 use Rattle.cc_tied.proofs.Nodes as N
 use Rattle.cc_tied.proofs.Statements as S
 use Rattle.cc_tied.proofs.Turns as T
-use Rattle.cc_tied.proofs.Rebuilding as R
-use Rattle.cc_tied.proofs.Rebuilding.{allowed}
+use Rattle.cc_tied.proofs.Rewriting as R
+use Rattle.cc_tied.proofs.Rewriting.{allowed}
 
 -- no step
 unfoldable pub stay : Expr → Expr

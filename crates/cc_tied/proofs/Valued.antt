@@ -17,7 +17,8 @@ use Rattle.cc_tied.proofs.Kit.{Kit}
 use Rattle.cc_tied.proofs.Parts.{V, ReachV, PathT, SiteT, Below, val_later}
 use Rattle.cc_tied.proofs.Laws.{ret_bind, bind_ret, bind_assoc}
 use Rattle.cc_tied.proofs.Calls.{rel_value_of}
-use Rattle.cc_tied.proofs.Reaching.{value_first, member_first, cast_value, tick_value}
+use Rattle.cc_tied.proofs.Reaching.{value_first, member_first}
+use Rattle.cc_tied.proofs.AtValues.{cast_value, tick_value, cast_at_value, tick_at_value}
 use Rattle.cc_tied.proofs.Expressions.{FollowsRef, FollowsAs, Follows, FollowsOn, PropT, reach_built, reach_by, rel_reference, as_value, on_reached}
 
 module _ (K : Kit) where
@@ -134,43 +135,27 @@ module _ (K : Kit) (X : Below K) (built : Ref → Bool) where
     unfolding cast_reach
     rel_cast_plain s dt {x = x} (plain_p {y = y} h) = rel_bind (rel_cast s dt h) (λ v2 l2 _ _ _. rel_ret x (plain y) (plain_p (val_later K l2 h)))
 
-    cast_values : {i i' : ℕ} → SiteT K i i' → {d d' : ℕ} → DocT d d' → {e e' : Expr} → Follows K X c e e' → (p p' : Option Path) → FollowsAs K X (V K) c p p' (cast i d e) (cast i' d' e')
-    unfolding ev
-    cast_values {i = i} {i' = i'} s {d = d} {d' = d'} dt {e = e} {e' = e'} h p p' = record {
-      by = λ v l g g' t.
-          rw (cast_value J B i d (ev J B g None e), cast_value J' B' i' d' (ev J' B' g' None e'))
-          (rel_bind (h.by v l g g' t) (λ v2 l2 x y q. rel_bind (rel_cast s dt q) (λ v3 l3 _ _ _. rel_ret x y (val_later K l3 q))));
-    }
-
     cast_plain : {i i' : ℕ} → SiteT K i i' → {d d' : ℕ} → DocT d d' → {e e' : Expr} → FollowsPlain c e e' → FollowsPlain c (cast i d e) (cast i' d' e')
     unfolding ev
     cast_plain {i = i} {i' = i'} s {d = d} {d' = d'} dt {e = e} {e' = e'} h = record {
       by = λ v l g g' t.
-          rw (cast_value J B i d (ev J B g None e)) (rel_bind (h.by v l g g' t) (λ v2 l2 x r q. rel_cast_plain s dt q));
+          subst (λ z. Rel PlainT v z (ev J' B' g' None (cast i' d' e'))) (sym (cast_value J B g None i d e)) (rel_bind (h.by v l g g' t) (λ v2 l2 x r q. rel_cast_plain s dt q));
     }
 
     pub valued_cast : {i i' : ℕ} → SiteT K i i' → {d d' : ℕ} → DocT d d' → {e e' : Expr} → FollowsValue c e e' → FollowsValue c (cast i d e) (cast i' d' e')
     unfolding site_of reaches accesses builds
-    valued_cast s dt h = record { site = s; values = λ p p'. cast_values s dt (h.values None None) p p'; plain = λ q. cast_plain s dt (h.plain q) }
-
-    tick_values : (n : ℕ) {i i' : ℕ} {e e' : Expr} → Follows K X c e e' → (p p' : Option Path) → FollowsAs K X (V K) c p p' (tick i n e) (tick i' n e')
-    unfolding ev
-    tick_values n {e = e} {e' = e'} h p p' = record {
-      by = λ v l g g' t.
-          rw (tick_value J B n (ev J B g None e), tick_value J' B' n (ev J' B' g' None e'))
-          (rel_bind (rel_mark n) (λ v2 l2 _ _ _. h.by v2 (later l l2) g g' (env_later l2 t)));
-    }
+    valued_cast s dt h = record { site = s; values = λ p p'. cast_at_value K X c s dt (h.values None None); plain = λ q. cast_plain s dt (h.plain q) }
 
     tick_plain : (n : ℕ) {i i' : ℕ} {e e' : Expr} → FollowsPlain c e e' → FollowsPlain c (tick i n e) (tick i' n e')
     unfolding ev
-    tick_plain n {e = e} {e' = e'} h = record {
+    tick_plain n {i = i} {i' = i'} {e = e} {e' = e'} h = record {
       by = λ v l g g' t.
-          rw (tick_value J B n (ev J B g None e)) (rel_bind (rel_mark n) (λ v2 l2 _ _ _. h.by v2 (later l l2) g g' (env_later l2 t)));
+          subst (λ z. Rel PlainT v z (ev J' B' g' None (tick i' n e'))) (sym (tick_value J B g None i n e)) (rel_bind (rel_mark n) (λ v2 l2 _ _ _. h.by v2 (later l l2) g g' (env_later l2 t)));
     }
 
     pub valued_tick : (n : ℕ) {i i' : ℕ} → SiteT K i i' → {e e' : Expr} → FollowsValue c e e' → FollowsValue c (tick i n e) (tick i' n e')
     unfolding site_of reaches accesses builds
-    valued_tick n s h = record { site = s; values = λ p p'. tick_values n (h.values None None) p p'; plain = λ q. tick_plain n (h.plain q) }
+    valued_tick n s h = record { site = s; values = λ p p'. tick_at_value K X c n (h.values None None); plain = λ q. tick_plain n (h.plain q) }
 
     -- ---- variables
 

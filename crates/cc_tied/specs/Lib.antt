@@ -1,6 +1,4 @@
 pub mod Tied
+pub mod Placed
 pub mod Rewrites
 pub mod Fine
-pub mod Placed
-pub mod Rebuilt
-pub mod Allowed

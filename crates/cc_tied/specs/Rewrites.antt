@@ -1,163 +1,135 @@
--- Rewriting from the leaves up: `step` on each expression that is no access, cast or price mark, once
--- its parts are rewritten, `step_call` on each call, `trim` on each declarator, `cut` on each
--- statement before what follows it.
-use Rattle.std.specs.Prelude.{ℕ, Bool, true, false, not, ◌&&◌, ◌||◌, List, [], ◌∷◌, ◌++◌, Option, Some, None}
-use Rattle.cc_ast.specs.Syntax.{Expr, lit, var, this, fun, list, object, unary, binary, and, or, cond, assign, step, member, index, call, new, comma, cast, tick, Target, to_var, to_member, to_index, Exprs, no_exprs, more_exprs, Fields, no_fields, more_fields, Declarator, ForInit, no_init, init_value, init_vars, ForTarget, in_target, in_declared, Stmt, simple, vars, fun_decl, if, while, do_while, for, for_in, return, throw, break, continue, label, switch, try, pay_stmt, Stmts, no_stmts, more_stmts, MaybeStmts, absent, present, Cases, no_cases, more_cases}
-use Rattle.cc_ast.specs.declared.operator.UnOp.{UnOp}
-use Rattle.cc_ast.specs.declared.operator.UnOp.TheVariants.{Delete}
-use Rattle.cc_meaning.specs.Monad.{pick}
-use Rattle.cc_meaning.specs.Parts.{is_variable}
+-- Rewriting from the leaves up: `step` on each value, `step_call` on each call, `trim` on each
+-- declarator and `cut` on each statement, once its parts are rewritten. Literals stay.
+use Rattle.std.specs.Prelude.{ℕ, Bool, true, false, List, [], ◌∷◌, ◌++◌, Option, Some, None}
+use Rattle.cc_ast.specs.Syntax.{Expr, lit, var, this, fun, list, object, unary, binary, and, or, cond, assign, step as step_of, member, index, call, new, comma, cast, tick, Target, to_var, to_member, to_index, Exprs, no_exprs, more_exprs, Fields, no_fields, more_fields, Declarator, ForInit, no_init, init_value, init_vars, ForTarget, in_target, in_declared, Stmt, simple, vars, fun_decl, if, while, do_while, for, for_in, return, throw, break, continue, label, switch, try, pay_stmt, Stmts, no_stmts, more_stmts, MaybeStmts, absent, present, Cases, no_cases, more_cases}
+use Rattle.cc_ast.specs.declared.tree.Ref.{Ref}
+use Rattle.cc_tied.specs.Placed.{Place, a_value, an_assigned, a_callee, an_object, guard, operand}
 
--- where an expression stands: as a value, a callee, the operand of `delete`, the right side of an
--- assignment, or the object of an access within a target
-pub data Position : Type 0 where
-  as_value as_callee as_deleted as_right as_object : Position
+unfoldable pub splice : Stmts → Stmts → Stmts
+splice no_stmts ss = ss
+splice (more_stmts s rest) ss = more_stmts s (splice rest ss)
 
--- what an expression is under casts and price marks
-unfoldable pub is_access : Expr → Bool
-is_access (member i e p) = true
-is_access (index i e k) = true
-is_access (cast i d e) = is_access e
-is_access (tick i p e) = is_access e
-is_access _ = false
+-- a `for` without declarators begins with nothing
+unfoldable pub init_of : List Declarator → ForInit
+init_of [] = no_init
+init_of (d ∷ ds) = init_vars (d ∷ ds)
 
-unfoldable pub is_function : Expr → Bool
-is_function (fun i f) = true
-is_function (cast i d e) = is_function e
-is_function (tick i p e) = is_function e
-is_function _ = false
+module _ (built : Ref → Bool) (step : Expr → Expr) (step_call : ℕ → Expr → Exprs → Expr) where
+  -- a value alone with its parts rewritten: the old node, or what the step makes of it
+  unfoldable pub put : (in_target : Bool) → Place → Expr → Expr
+  unfolding guard
+  put t q e = guard built t q e (step e)
 
--- where the old node stays: a callee and an operand of `delete` don't become accesses, nor the
--- latter variables; a right side doesn't become a function, nor an object within a target a
--- variable or an access
-unfoldable pub stays : Position → (old new : Expr) → Bool
-unfolding is_access is_function is_variable
-stays as_value old e = false
-stays as_callee old e = is_access e && not (is_access old)
-stays as_deleted old e = (is_access e && not (is_access old)) || is_variable e
-stays as_right old e = is_function e && not (is_function old)
-stays as_object old e = (is_access e || is_variable e) && not (is_access old || is_variable old)
+  unfoldable pub put_call : (in_target : Bool) → Place → ℕ → Expr → Exprs → Expr
+  unfolding guard
+  put_call t q i f es = guard built t q (call i f es) (step_call i f es)
 
-unfoldable pub exchanged : Position → (old new : Expr) → Expr
-unfolding stays
-exchanged q old e = pick (stays q old e) old e
-
--- what stands before a dot or a bracket
-unfoldable pub position_before : Position → Position
-position_before as_object = as_object
-position_before as_value = as_value
-position_before as_callee = as_value
-position_before as_deleted = as_value
-position_before as_right = as_value
-
-unfoldable pub position_under : UnOp → Position
-position_under Delete = as_deleted
-position_under _ = as_value
-
-module _ (step_one : Expr → Expr) (step_call : ℕ → Expr → Exprs → Expr) where
-  unfoldable pub stepped_at : Position → Expr → Expr
-  unfolding exchanged
-  stepped_at q e = exchanged q e (step_one e)
+  -- an access, a cast or a price mark is no value alone where more than its value counts
+  unfoldable pub put_on_value : Place → Expr → Expr
+  put_on_value a_value e = step e
+  put_on_value an_assigned e = step e
+  put_on_value _ e = e
 
   unfoldable mutual
-    unfolding stepped_at exchanged position_before position_under
+    unfolding put put_call put_on_value operand
 
-    pub re : Position → Expr → Expr
-    re q (lit i p) = stepped_at q (lit i p)
-    re q (var i r) = stepped_at q (var i r)
-    re q (this i) = stepped_at q (this i)
-    re q (fun i f) = stepped_at q (fun i f)
-    re q (list i es) = stepped_at q (list i (re_all es))
-    re q (object i fs) = stepped_at q (object i (re_fields fs))
-    re q (unary i op e) = stepped_at q (unary i op (re (position_under op) e))
-    re q (binary i op a b) = stepped_at q (binary i op (re as_value a) (re as_value b))
-    re q (and i a b) = stepped_at q (and i (re as_value a) (re as_value b))
-    re q (or i a b) = stepped_at q (or i (re as_value a) (re as_value b))
-    re q (cond i t a b) = stepped_at q (cond i (re as_value t) (re as_value a) (re as_value b))
-    re q (assign i op t e) = stepped_at q (assign i op (re_target t) (re as_right e))
-    re q (step i up prefix t) = stepped_at q (step i up prefix (re_target t))
-    re q (member i e p) = member i (re (position_before q) e) p
-    re q (index i e k) = index i (re (position_before q) e) (re as_value k)
-    re q (call i f es) = exchanged q (call i (re as_callee f) (re_all es)) (step_call i (re as_callee f) (re_all es))
-    re q (new i f es) = stepped_at q (new i (re as_value f) (re_all es))
-    re q (comma i a b) = stepped_at q (comma i (re as_value a) (re as_value b))
-    re q (cast i d e) = cast i d (re q e)
-    re q (tick i p e) = tick i p (re q e)
+    pub re : (in_target : Bool) → Place → Expr → Expr
+    re t q (lit i p) = lit i p
+    re t q (var i r) = put t q (var i r)
+    re t q (this i) = put t q (this i)
+    re t q (fun i f) = put t q (fun i f)
+    re t q (list i es) = put t q (list i (re_all t es))
+    re t q (object i fs) = put t q (object i (re_fields t fs))
+    re t q (unary i op e) = put t q (unary i op (re t (operand op) e))
+    re t q (binary i op a b) = put t q (binary i op (re t a_value a) (re t a_value b))
+    re t q (and i a b) = put t q (and i (re t a_value a) (re t a_value b))
+    re t q (or i a b) = put t q (or i (re t a_value a) (re t a_value b))
+    re t q (cond i e a b) = put t q (cond i (re t a_value e) (re t a_value a) (re t a_value b))
+    re t q (assign i op u e) = put t q (assign i op (re_target u) (re t an_assigned e))
+    re t q (step_of i up prefix u) = put t q (step_of i up prefix (re_target u))
+    re t q (member i e p) = put_on_value q (member i (re t an_object e) p)
+    re t q (index i e k) = put_on_value q (index i (re t an_object e) (re t a_value k))
+    re t q (call i f es) = put_call t q i (re t a_callee f) (re_all t es)
+    re t q (new i f es) = put t q (new i (re t a_callee f) (re_all t es))
+    re t q (comma i a b) = put t q (comma i (re t a_value a) (re t a_value b))
+    re t q (cast i d e) = put_on_value q (cast i d (re t q e))
+    re t q (tick i n e) = put_on_value q (tick i n (re t q e))
 
     pub re_target : Target → Target
     re_target (to_var i r) = to_var i r
-    re_target (to_member i e p) = to_member i (re as_object e) p
-    re_target (to_index i e k) = to_index i (re as_object e) (re as_value k)
+    re_target (to_member i e p) = to_member i (re true an_object e) p
+    re_target (to_index i e k) = to_index i (re true an_object e) (re true a_value k)
 
-    pub re_all : Exprs → Exprs
-    re_all no_exprs = no_exprs
-    re_all (more_exprs e es) = more_exprs (re as_value e) (re_all es)
+    pub re_all : (in_target : Bool) → Exprs → Exprs
+    re_all t no_exprs = no_exprs
+    re_all t (more_exprs e es) = more_exprs (re t a_value e) (re_all t es)
 
-    pub re_fields : Fields → Fields
-    re_fields no_fields = no_fields
-    re_fields (more_fields k e fs) = more_fields k (re as_value e) (re_fields fs)
+    pub re_fields : (in_target : Bool) → Fields → Fields
+    re_fields t no_fields = no_fields
+    re_fields t (more_fields k e fs) = more_fields k (re t a_value e) (re_fields t fs)
+
+  unfoldable pub re_value : Expr → Expr
+  unfolding re
+  re_value e = re false a_value e
 
   unfoldable pub re_option : Option Expr → Option Expr
-  unfolding re
+  unfolding re_value
   re_option None = None
-  re_option (Some e) = Some (re as_value e)
+  re_option (Some e) = Some (re_value e)
 
   unfoldable pub re_declarator : Declarator → Declarator
   unfolding re_option
   re_declarator d = record { site = d.site; variable = d.variable; value = re_option d.value }
 
-  -- a head without declarators has none
-  unfoldable pub head_of_vars : List Declarator → ForInit
-  head_of_vars [] = no_init
-  head_of_vars (d ∷ ds) = init_vars (d ∷ ds)
-
-  module _ (trim : Declarator → List Declarator) (cut : Stmt → Stmts → Stmts) where
-    unfoldable pub re_vars : List Declarator → List Declarator
+  -- `trim` leaves what is left of a declarator, `trim_in` of the one in the head of a `for-in`
+  module _ (trim : Declarator → List Declarator) (trim_in : Declarator → Declarator) where
+    unfoldable pub re_declarators : List Declarator → List Declarator
     unfolding re_declarator
-    re_vars [] = []
-    re_vars (d ∷ ds) = trim (re_declarator d) ++ re_vars ds
+    re_declarators [] = []
+    re_declarators (d ∷ ds) = trim (re_declarator d) ++ re_declarators ds
 
     unfoldable pub re_init : ForInit → ForInit
-    unfolding re re_vars head_of_vars
+    unfolding re_value re_declarators init_of
     re_init no_init = no_init
-    re_init (init_value e) = init_value (re as_value e)
-    re_init (init_vars ds) = head_of_vars (re_vars ds)
+    re_init (init_value e) = init_value (re_value e)
+    re_init (init_vars ds) = init_of (re_declarators ds)
 
     unfoldable pub re_names : ForTarget → ForTarget
     unfolding re re_declarator
-    re_names (in_target t) = in_target (re_target t)
-    re_names (in_declared d) = in_declared (re_declarator d)
+    re_names (in_target u) = in_target (re_target u)
+    re_names (in_declared d) = in_declared (trim_in (re_declarator d))
 
-    unfoldable mutual
-      unfolding re re_option re_vars re_init re_names
+    -- `cut` leaves what is left of a statement before the rest of its list
+    module _ (cut : Stmt → Stmts → Stmts) where
+      unfoldable mutual
+        unfolding re_value re_option re_declarators re_init re_names
 
-      -- a statement with its parts rewritten
-      pub re_stmt : Stmt → Stmt
-      re_stmt (simple i e) = simple i (re as_value e)
-      re_stmt (vars i ds) = vars i (re_vars ds)
-      re_stmt (fun_decl i r f) = fun_decl i r f
-      re_stmt (if i t a b) = if i (re as_value t) (re_stmts a) (re_stmts b)
-      re_stmt (while i t b) = while i (re as_value t) (re_stmts b)
-      re_stmt (do_while i b t) = do_while i (re_stmts b) (re as_value t)
-      re_stmt (for i h t e b) = for i (re_init h) (re_option t) (re_option e) (re_stmts b)
-      re_stmt (for_in i t e b) = for_in i (re_names t) (re as_value e) (re_stmts b)
-      re_stmt (return i e) = return i (re_option e)
-      re_stmt (throw i e) = throw i (re as_value e)
-      re_stmt (break i l) = break i l
-      re_stmt (continue i l) = continue i l
-      re_stmt (label i l b) = label i l (re_stmts b)
-      re_stmt (switch i e cs) = switch i (re as_value e) (re_cases cs)
-      re_stmt (try i b k f) = try i (re_stmts b) (re_maybe k) (re_maybe f)
-      re_stmt (pay_stmt i p) = pay_stmt i p
+        pub re_stmt : Stmt → Stmt
+        re_stmt (simple i e) = simple i (re_value e)
+        re_stmt (vars i ds) = vars i (re_declarators ds)
+        re_stmt (fun_decl i r f) = fun_decl i r f
+        re_stmt (if i e a b) = if i (re_value e) (re_stmts a) (re_stmts b)
+        re_stmt (while i e b) = while i (re_value e) (re_stmts b)
+        re_stmt (do_while i b e) = do_while i (re_stmts b) (re_value e)
+        re_stmt (for i h e o b) = for i (re_init h) (re_option e) (re_option o) (re_stmts b)
+        re_stmt (for_in i u e b) = for_in i (re_names u) (re_value e) (re_stmts b)
+        re_stmt (return i o) = return i (re_option o)
+        re_stmt (throw i e) = throw i (re_value e)
+        re_stmt (break i l) = break i l
+        re_stmt (continue i l) = continue i l
+        re_stmt (label i l b) = label i l (re_stmts b)
+        re_stmt (switch i e cs) = switch i (re_value e) (re_cases cs)
+        re_stmt (try i b k f) = try i (re_stmts b) (re_maybe k) (re_maybe f)
+        re_stmt (pay_stmt i n) = pay_stmt i n
 
-      pub re_stmts : Stmts → Stmts
-      re_stmts no_stmts = no_stmts
-      re_stmts (more_stmts s ss) = cut (re_stmt s) (re_stmts ss)
+        pub re_stmts : Stmts → Stmts
+        re_stmts no_stmts = no_stmts
+        re_stmts (more_stmts s ss) = cut (re_stmt s) (re_stmts ss)
 
-      pub re_maybe : MaybeStmts → MaybeStmts
-      re_maybe absent = absent
-      re_maybe (present b) = present (re_stmts b)
+        pub re_maybe : MaybeStmts → MaybeStmts
+        re_maybe absent = absent
+        re_maybe (present b) = present (re_stmts b)
 
-      pub re_cases : Cases → Cases
-      re_cases no_cases = no_cases
-      re_cases (more_cases t b cs) = more_cases (re_option t) (re_stmts b) (re_cases cs)
+        pub re_cases : Cases → Cases
+        re_cases no_cases = no_cases
+        re_cases (more_cases o b cs) = more_cases (re_option o) (re_stmts b) (re_cases cs)
