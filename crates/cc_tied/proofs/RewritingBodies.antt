@@ -2,8 +2,9 @@
 use Rattle.std.proofs.Common.{refl, ℕ, Bool, false, List, [], ◌∷◌, ◌++◌}
 use Rattle.cc_ast.specs.Syntax.{Prim, Expr, Exprs, Declarator, ForInit, no_init, init_value, init_vars, ForTarget, in_target, in_declared, Stmt, simple, vars, fun_decl, if, while, do_while, for, for_in, return, throw, break, continue, label, switch, try, pay_stmt, Stmts, no_stmts, more_stmts, MaybeStmts, absent, present, Cases, no_cases, more_cases}
 use Rattle.cc_ast.specs.declared.tree.Ref.{Ref}
+use Rattle.cc_meaning.specs.Shapes.{declared_by}
 use Rattle.cc_meaning.specs.Meaning as M
-use Rattle.cc_tied.specs.Rewrites.{init_of, re_declarators, re_init, re_names, re_stmt, re_stmts, re_maybe, re_cases}
+use Rattle.cc_tied.specs.Rewrites.{init_of, re_declarator, re_declarators, re_init, re_names, re_stmt, re_stmts, re_maybe, re_cases}
 use Rattle.cc_tied.specs.Fine.{FineDeclarator, FineDeclarators, FineInit, FineNames, FineStmt, FineStmts, FineMaybe, FineCases}
 use Rattle.cc_tied.proofs.Kit.{Kit}
 use Rattle.cc_tied.proofs.Parts.{Below}
@@ -113,3 +114,23 @@ module _ (K : Kit) (X : Below K) (built : Ref → Bool) (Here : K.Ctx → Type 0
     unfolding re_stmt FineStmt
     re_like_chunk n here no_stmts o = T.follows_no_chunk K X
     re_like_chunk n here (more_stmts s ss) o = rules.chunks n here s ss _ o.0 o.1 (re_like_stmt (K.outer n) here [] s o.1) (re_like_chunk n here ss o.2)
+
+-- ---- a pass that leaves statements and declarators whole
+
+abbrev pub whole : Declarator → List Declarator
+whole d = d ∷ []
+
+abbrev pub whole_in : Declarator → Declarator
+whole_in d = d
+
+module _ (K : Kit) (X : Below K) (built : Ref → Bool) (Here : K.Ctx → Type 0) (Stands : K.Ctx → List (List ℕ) → Stmt → Type 0) (step : Expr → Expr) (step_call : ℕ → Expr → Exprs → Expr) where
+  -- statements of chunks declare the prototypes that they declared before
+  pub whole_rules : N.SameTables K X built → ((n : ℕ) (s : Stmt) → Stands (K.outer n) [] s → K.DeclaresT (declared_by K.tables s) (declared_by K.tables' (re_stmt built step step_call whole whole_in more_stmts s))) → Rules K X built Here Stands step step_call whole whole_in more_stmts
+  unfolding FineDeclarator re_declarator
+  whole_rules same declares = record {
+    trims = λ c h d ds ds' o hd hs. S.follows_more_decls K X c hd hs;
+    trim_ins = λ c h d o hd. S.follows_in_declared K X c (same.sites d.site) o.0 hd;
+    cuts = λ c h ls s ss ss' st o hs hss. S.follows_more_stmts K X c hs hss;
+    hoists = λ c h s ss ss' st o hs hss. S.hoist_more K X c hs hss;
+    chunks = λ n h s ss ss' st o hs hss. T.follows_more_chunk K X (declares n s st) hs hss;
+  }

@@ -178,3 +178,11 @@ module _ (K : Kit) (X : Below K) (built : Ref → Bool) where
           rw (reach_by J i g r, reach_by J' i' g' r', tables_value (λ T. reach_built J i g r (built_of T r)))
           (rel_tables _ _ (read_alone s t rd (built_of tables r) (built_of tables' r') (read_built rd) n));
     }
+
+    -- ---- a step by an equation of runs of the right program
+
+    pub valued_equal : {e e' e'' : Expr} → FollowsValue c e e' → accesses e'' ≡ false → variable e'' ≡ false → SiteT K (site_of e) (site_of e'') → ((g : Env) (p : Option Path) → value J' B' (ev J' B' g p e') ≡ value J' B' (ev J' B' g p e'')) → FollowsValue c e e''
+    valued_equal {e = e} {e' = e'} {e'' = e''} h a b s q = record { site = s; values = values; plain = λ r. plain_of_values a b (values None None) }
+      where
+        values : (p p' : Option Path) → FollowsAs K X (V K) c p p' e e''
+        values p p' = record { by = λ v l g g' t. subst (λ z. Rel (V K) v (value J B (ev J B g p e)) z) (q g' p') ((h.values p p').by v l g g' t) }
