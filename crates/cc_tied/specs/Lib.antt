@@ -2,3 +2,4 @@ pub mod Tied
 pub mod Placed
 pub mod Rewrites
 pub mod Fine
+pub mod FoldExample
