@@ -1,0 +1,42 @@
+-- A small phase: sums of literals become literals, and `&&` with a literal on the left the operand that it chooses.
+use Rattle.std.specs.Prelude.{ℕ, Option, Some, None}
+use Rattle.cc_ast.specs.Syntax.{Prim, Expr, lit, binary, and}
+use Rattle.cc_ast.specs.declared.operator.BinOp.{BinOp}
+use Rattle.cc_ast.specs.declared.operator.BinOp.TheVariants.{Add}
+use Rattle.cc_meaning.specs.Values.{prim}
+use Rattle.cc_meaning.specs.Operators.{Outcome, gives, binary_of, truthy}
+use Rattle.cc_meaning.specs.Monad.{pick}
+
+unfoldable pub literal : Expr → Option Prim
+literal (lit i p) = Some p
+literal _ = None
+
+unfoldable pub given : Outcome → Option Prim
+given (gives (prim p)) = Some p
+given _ = None
+
+-- the sum where the operator table gives one
+unfoldable pub sum_of : Option Prim → Option Prim → Option Prim
+unfolding given binary_of
+sum_of (Some p) (Some q) = given (binary_of Add (prim p) (prim q))
+sum_of _ _ = None
+
+unfoldable pub literal_or : ℕ → Option Prim → Expr → Expr
+literal_or i (Some p) e = lit i p
+literal_or i None e = e
+
+unfoldable pub chosen : Option Prim → (left right otherwise : Expr) → Expr
+unfolding truthy
+chosen (Some p) a b e = pick (truthy (prim p)) b a
+chosen None a b e = e
+
+unfoldable pub fold_binary : ℕ → BinOp → Expr → Expr → Expr
+unfolding literal_or sum_of literal
+fold_binary i Add a b = literal_or i (sum_of (literal a) (literal b)) (binary i Add a b)
+fold_binary i op a b = binary i op a b
+
+unfoldable pub fold : Expr → Expr
+unfolding fold_binary chosen literal
+fold (binary i op a b) = fold_binary i op a b
+fold (and i a b) = chosen (literal a) a b (and i a b)
+fold e = e
