@@ -1,0 +1,6 @@
+pub mod Symbols
+pub mod RawTree
+pub mod Signs
+pub mod Grammar
+pub mod Fronts
+pub mod Reading
