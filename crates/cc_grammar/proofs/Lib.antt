@@ -1,0 +1,8 @@
+mod Pieces
+mod InsertionRows
+mod SyntaxRows
+mod RefusedRows
+mod TreeRows
+mod DepthRows
+mod FrontRows
+mod ProgramRows

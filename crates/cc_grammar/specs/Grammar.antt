@@ -157,7 +157,8 @@ mutual
     prefix : {d h l : ℕ} {n : Bool} {x : Kind} {o : Prefix} {e f : RawExpr} {xs ys zs : Symbols} → l ≤ 13 → h < d
         → At x xs ys → prefix_of x ≡ Some o → E h n 13 ys e zs → prefix_tree o (at xs) e ≡ Some f → E d n l xs f zs
     wrong_prefix : {d h l : ℕ} {n : Bool} {x : Kind} {o : Prefix} {e : RawExpr} {xs ys zs ws : Symbols} → l ≤ 13 → h < d
-        → At x xs ys → prefix_of x ≡ Some o → E h n 13 ys e zs → prefix_tree o (at xs) e ≡ None → At (k.due k.remedy) zs ws → E d n l xs e ws
+        → At x xs ys → prefix_of x ≡ Some o → E h n 13 ys e zs → prefix_tree o (at xs) e ≡ None → At (k.due k.remedy) zs ws
+        → E d n l xs (raw.lit (at xs) undefined) ws
     -- 11.5 to 11.11 binary operators: the left operand is of the operator's level
     binary : {d h i l : ℕ} {n : Bool} {x : Kind} {o : Infix} {e f : RawExpr} {xs ys zs ws : Symbols} → l ≤ level o → h < d → i < d
         → E h n (level o) xs e ys → At x ys zs → infix_of n x ≡ Some o → E i n (level o + 1) zs f ws → E d n l xs (infix_tree o (at ys) e f) ws
@@ -177,6 +178,7 @@ mutual
     last_element : {h : ℕ} {e : RawExpr} {xs ys zs : Symbols} → E h true 1 xs e ys → Sign mark.CloseBracket ys zs → Elements h xs (e ∷ []) zs
     more_elements : {h : ℕ} {e : RawExpr} {es : List RawExpr} {xs ys zs ws : Symbols} → E h true 1 xs e ys → Sign mark.Comma ys zs → Elements h zs es ws
         → Elements h xs (e ∷ es) ws
+    any_element : {h : ℕ} {xs ys zs : Symbols} → At (k.due k.element) xs ys → Sign mark.CloseBracket ys zs → Elements h xs [] zs
 
   -- 11.1.5 the properties of an object literal, up to the brace that closes it
   pub data Field : ℕ → Symbols → RawField → Symbols → Type 0 where

@@ -4,3 +4,5 @@ pub mod Signs
 pub mod Grammar
 pub mod Fronts
 pub mod Reading
+pub mod Faults
+pub mod Laws

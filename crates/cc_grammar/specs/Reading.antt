@@ -108,6 +108,10 @@ suffix_of calls (k.mark mark.OpenBracket) = by_bracket
 suffix_of true (k.mark mark.OpenParen) = by_call
 suffix_of calls _ = no_suffix
 
+abbrev pub is_element : Kind → Bool
+is_element (k.due k.element) = true
+is_element _ = false
+
 abbrev pub is_remedy : Kind → Bool
 is_remedy (k.due k.remedy) = true
 is_remedy _ = false
@@ -255,11 +259,11 @@ module _ (S : Type 0) (see : S → Lexeme) (go : S → S) (semicolon : S → Out
     if is_mark mark.CloseParen t.kind then take >> closed m else pure false
 
   unfoldable pub opened : ℕ → ℕ → Parser Bool
-  opened zero open = stops spent
-  opened (suc m) open = do
+  opened zero count = stops spent
+  opened (suc m) count = do
     t ← peek
-    if is_mark mark.OpenParen t.kind then take >> opened m (suc open)
-      else (if is_some (variable_of t.kind) then take >> closed open else pure false)
+    if is_mark mark.OpenParen t.kind then take >> opened m (suc count)
+      else (if is_some (variable_of t.kind) then take >> closed count else pure false)
 
   abbrev pub unless_deleted : {A : Type 0} → Outcome S Bool → Place → Outcome S A → Outcome S A
   unless_deleted (Ok p) q o = if p.0 then Err (record { cause = refused construct.DeleteName; place = q }, p.1) else o
@@ -286,11 +290,12 @@ module _ (S : Type 0) (see : S → Lexeme) (go : S → S) (semicolon : S → Out
     elements (suc m) found h = do
       t ← peek
       if is_mark mark.CloseBracket t.kind then take >> pure (found, h)
+        else (if is_element t.kind then take >> expect mark.CloseBracket >> pure (found, h)
         else (if is_mark mark.Comma t.kind then stops (refused construct.Hole) else (do
           x ← inner.expr true 1
           u ← peek
           if is_mark mark.Comma u.kind then take >> elements m (found ++ x.0 ∷ []) (max h x.1)
-            else (expect mark.CloseBracket >> pure (found ++ x.0 ∷ [], max h x.1))))
+            else (expect mark.CloseBracket >> pure (found ++ x.0 ∷ [], max h x.1)))))
 
     -- `get` or `set` before another key is refused
     abbrev pub key_by : Option RawKey → Parser (Place × RawKey)
@@ -470,7 +475,7 @@ module _ (S : Type 0) (see : S → Lexeme) (go : S → S) (semicolon : S → Out
     prefix_by o p a (Some e) = pure (e, a.1 + 1)
     prefix_by o p a None = do
       t ← peek
-      if is_remedy t.kind then take >> pure (a.0, a.1 + 1) else wrong_prefix o p
+      if is_remedy t.kind then take >> pure (raw.lit p undefined, a.1 + 1) else wrong_prefix o p
 
     unfoldable pub prefix_expr : Bool → Prefix → Parser (Sized RawExpr)
     prefix_expr n o = do

@@ -71,7 +71,7 @@ word_of = spelled_in words
 -- A part of a program that is due at a place. No text has it as a token: a list that goes on with it is a list
 -- that may go on with any such part. `remedy` stands for what makes a part right that is wrong without it.
 pub data Part : Type 0 where
-  operand variable key statement remedy : Part
+  operand element variable key statement remedy : Part
 
 -- What a token is. Nothing begins at `stop`, where perhaps a construct is refused.
 pub data Kind : Type 0 where
