@@ -21,16 +21,22 @@ fronts =
     (mark m.PlusPlus ∷ mark m.Minus ∷ stopped ∷ [], Some (syntax, 2)) ∷
     -- ++ - a
     (mark m.PlusPlus ∷ mark m.Minus ∷ name "a" ∷ stopped ∷ [], Some (syntax, 3)) ∷
+    -- ++ - a ;
+    (mark m.PlusPlus ∷ mark m.Minus ∷ name "a" ∷ mark m.Semicolon ∷ stopped ∷ [], Some (syntax, 3)) ∷
     -- delete ( a
     (word w.Delete ∷ mark m.OpenParen ∷ name "a" ∷ stopped ∷ [], Some (syntax, 3)) ∷
     -- if ( a ) b ;
     (word w.If ∷ mark m.OpenParen ∷ name "a" ∷ mark m.CloseParen ∷ name "b" ∷ mark m.Semicolon ∷ stopped ∷ [], Some (syntax, 6)) ∷
     -- for ( a in
     (word w.For ∷ mark m.OpenParen ∷ name "a" ∷ word w.In ∷ stopped ∷ [], Some (syntax, 4)) ∷
+    -- for ( f ( ) in
+    (word w.For ∷ mark m.OpenParen ∷ name "f" ∷ mark m.OpenParen ∷ mark m.CloseParen ∷ word w.In ∷ stopped ∷ [], Some (syntax, 5)) ∷
     -- for ( var a , b
     (word w.For ∷ mark m.OpenParen ∷ word w.Var ∷ name "a" ∷ mark m.Comma ∷ name "b" ∷ stopped ∷ [], Some (syntax, 6)) ∷
     -- eval :
     (name "eval" ∷ mark m.Colon ∷ stopped ∷ [], Some (syntax, 2)) ∷
+    -- eval ;
+    (name "eval" ∷ mark m.Semicolon ∷ stopped ∷ [], Some (refused construct.EvalName, 0)) ∷
     -- ( { get
     (mark m.OpenParen ∷ mark m.OpenBrace ∷ name "get" ∷ stopped ∷ [], Some (syntax, 3)) ∷
     -- ( { class

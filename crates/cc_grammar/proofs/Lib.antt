@@ -6,3 +6,5 @@ mod TreeRows
 mod DepthRows
 mod FrontRows
 mod ProgramRows
+pub mod Meets
+pub mod Views

@@ -3,7 +3,8 @@ use Rattle.std.specs.Prelude.{◌≡◌, ℕ, ◌<◌, ◌≤◌, ◌+◌, ◌*�
 use Rattle.cc_ast.specs.declared.reading.Construct.{Construct}
 use Rattle.cc_grammar.specs.Symbols.{Kind, Lexeme}
 use Rattle.cc_grammar.specs.Symbols as k
-use Rattle.cc_grammar.specs.RawTree.{RawStmt}
+use Rattle.cc_grammar.specs.RawTree.{RawStmt, stmts}
+use Rattle.cc_grammar.specs.Sizes.{of_stmts}
 use Rattle.cc_grammar.specs.Fronts.{ReadsWithin}
 use Rattle.cc_grammar.specs.Faults.{Splits, FirstFault, FaultAt}
 use Rattle.cc_grammar.specs.Reading.{Cause, Fault, refused, read_tokens}
@@ -59,3 +60,7 @@ IsFirstFault = (turns d : ℕ) (ts us : List Lexeme) (f : Fault) → IsText ts �
 -- What is read has no fault.
 abbrev pub HasNoFault : Type 0
 HasNoFault = (d h n : ℕ) (ts : List Lexeme) (b : List RawStmt) (c : Cause) → IsText ts → ReadsWithin h ts b → h ≤ d → ¬ (FaultAt d ts n c)
+
+-- A tree has at most four expressions, statements and declarators a token.
+abbrev pub IsSmall : Type 0
+IsSmall = (h : ℕ) (ts : List Lexeme) (b : List RawStmt) → ReadsWithin h ts b → of_stmts (stmts b) ≤ 4 * length ts

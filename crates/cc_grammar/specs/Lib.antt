@@ -5,4 +5,5 @@ pub mod Grammar
 pub mod Fronts
 pub mod Reading
 pub mod Faults
+pub mod Sizes
 pub mod Laws
