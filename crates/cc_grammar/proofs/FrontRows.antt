@@ -11,7 +11,7 @@ use Rattle.cc_grammar.proofs.Pieces.{Piece, name, word, mark, number, text, end,
 -- the cause, and how many tokens stand before the place
 abbrev fronts : List (List Piece × Option (Cause × ℕ))
 fronts =
-    -- 
+    --
     (stopped ∷ [], Some (syntax, 0)) ∷
     -- (
     (mark m.OpenParen ∷ stopped ∷ [], Some (syntax, 1)) ∷

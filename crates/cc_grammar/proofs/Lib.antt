@@ -8,3 +8,7 @@ mod FrontRows
 mod ProgramRows
 pub mod Meets
 pub mod Views
+pub mod Marked
+pub mod Mono
+pub mod Shrinks
+pub mod Steps

@@ -108,6 +108,10 @@ suffix_of calls (k.mark mark.OpenBracket) = by_bracket
 suffix_of true (k.mark mark.OpenParen) = by_call
 suffix_of calls _ = no_suffix
 
+abbrev pub is_ending : Kind → Bool
+is_ending (k.due k.ending) = true
+is_ending _ = false
+
 abbrev pub is_element : Kind → Bool
 is_element (k.due k.element) = true
 is_element _ = false
@@ -126,7 +130,7 @@ goes_on t = is_mark mark.Dot t.kind || is_mark mark.OpenBracket t.kind || is_mar
 
 -- it ends a `return` without a value
 abbrev pub ends_return : Lexeme → Bool
-ends_return t = t.after_line || is_mark mark.Semicolon t.kind || is_mark mark.CloseBrace t.kind || is_end t.kind
+ends_return t = t.after_line || is_mark mark.Semicolon t.kind || is_ending t.kind || is_mark mark.CloseBrace t.kind || is_end t.kind
 
 -- the label of a jump, on the same line
 abbrev pub label_by : Kind → Bool → Option (List ℕ)
@@ -263,7 +267,7 @@ module _ (S : Type 0) (see : S → Lexeme) (go : S → S) (semicolon : S → Out
   opened (suc m) count = do
     t ← peek
     if is_mark mark.OpenParen t.kind then take >> opened m (suc count)
-      else (if is_some (variable_of t.kind) then take >> closed count else pure false)
+        else (if is_some (variable_of t.kind) then take >> closed count else pure false)
 
   abbrev pub unless_deleted : {A : Type 0} → Outcome S Bool → Place → Outcome S A → Outcome S A
   unless_deleted (Ok p) q o = if p.0 then Err (record { cause = refused construct.DeleteName; place = q }, p.1) else o
@@ -290,12 +294,12 @@ module _ (S : Type 0) (see : S → Lexeme) (go : S → S) (semicolon : S → Out
     elements (suc m) found h = do
       t ← peek
       if is_mark mark.CloseBracket t.kind then take >> pure (found, h)
-        else (if is_element t.kind then take >> expect mark.CloseBracket >> pure (found, h)
-        else (if is_mark mark.Comma t.kind then stops (refused construct.Hole) else (do
-          x ← inner.expr true 1
-          u ← peek
-          if is_mark mark.Comma u.kind then take >> elements m (found ++ x.0 ∷ []) (max h x.1)
-            else (expect mark.CloseBracket >> pure (found ++ x.0 ∷ [], max h x.1)))))
+          else (if is_element t.kind then take >> expect mark.CloseBracket >> pure (found, h)
+          else (if is_mark mark.Comma t.kind then stops (refused construct.Hole) else (do
+            x ← inner.expr true 1
+            u ← peek
+            if is_mark mark.Comma u.kind then take >> elements m (found ++ x.0 ∷ []) (max h x.1)
+                else (expect mark.CloseBracket >> pure (found ++ x.0 ∷ [], max h x.1)))))
 
     -- `get` or `set` before another key is refused
     abbrev pub key_by : Option RawKey → Parser (Place × RawKey)
@@ -321,7 +325,7 @@ module _ (S : Type 0) (see : S → Lexeme) (go : S → S) (semicolon : S → Out
         x ← field
         u ← peek
         if is_mark mark.Comma u.kind then take >> object_fields m (found ++ x.0 ∷ []) (max h x.1)
-          else (expect mark.CloseBrace >> pure (found ++ x.0 ∷ [], max h x.1)))
+            else (expect mark.CloseBrace >> pure (found ++ x.0 ∷ [], max h x.1)))
 
     unfoldable pub arguments : ℕ → List RawExpr → ℕ → Parser (Sized (List RawExpr))
     arguments zero found h = stops spent
@@ -329,7 +333,7 @@ module _ (S : Type 0) (see : S → Lexeme) (go : S → S) (semicolon : S → Out
       x ← inner.expr true 1
       t ← peek
       if is_mark mark.Comma t.kind then take >> arguments m (found ++ x.0 ∷ []) (max h x.1)
-        else (expect mark.CloseParen >> pure (found ++ x.0 ∷ [], max h x.1))
+          else (expect mark.CloseParen >> pure (found ++ x.0 ∷ [], max h x.1))
 
     unfoldable pub arguments_of : Parser (Sized (List RawExpr))
     arguments_of = do
@@ -394,10 +398,10 @@ module _ (S : Type 0) (see : S → Lexeme) (go : S → S) (semicolon : S → Out
       f ← inner.expr n 17
       u ← peek
       if is_mark mark.OpenParen u.kind then (do
-          take
-          x ← arguments_of
-          pure (raw.new t.place f.0 (exprs x.0), max f.1 x.1 + 1))
-        else pure (raw.new t.place f.0 raw.no_exprs, f.1 + 1)
+        take
+        x ← arguments_of
+        pure (raw.new t.place f.0 (exprs x.0), max f.1 x.1 + 1))
+          else pure (raw.new t.place f.0 raw.no_exprs, f.1 + 1)
 
     abbrev pub primary_by : Bool → Head → Parser (Sized RawExpr)
     primary_by n no_head = fail an_operand
@@ -485,8 +489,8 @@ module _ (S : Type 0) (see : S → Lexeme) (go : S → S) (semicolon : S → Out
 
     unfoldable pub prefixed : Bool → Prefix → Parser (Sized RawExpr)
     prefixed n o = if is_delete o
-      then (λ i. unless_deleted ((take >> opened turns 0) i) (see i).place (deeper 0 (prefix_expr n o) i))
-      else deeper 0 (prefix_expr n o)
+        then (λ i. unless_deleted ((take >> opened turns 0) i) (see i).place (deeper 0 (prefix_expr n o) i))
+        else deeper 0 (prefix_expr n o)
 
     -- ---- binary operators and what binds less
 
@@ -509,12 +513,12 @@ module _ (S : Type 0) (see : S → Lexeme) (go : S → S) (semicolon : S → Out
     conditional n a = do
       t ← peek
       if is_mark mark.Question t.kind then deeper a.1 (do
-          take
-          x ← inner.expr true 1
-          expect mark.Colon
-          y ← inner.expr n 1
-          pure (raw.cond t.place a.0 x.0 y.0, max a.1 (max x.1 y.1) + 1))
-        else pure a
+        take
+        x ← inner.expr true 1
+        expect mark.Colon
+        y ← inner.expr n 1
+        pure (raw.cond t.place a.0 x.0 y.0, max a.1 (max x.1 y.1) + 1))
+          else pure a
 
     abbrev pub assign_by : Bool → Sized RawExpr → Option (Option BinOp) → Option RawTarget → Parser (Sized RawExpr)
     assign_by n a (Some o) (Some g) = deeper a.1 (do
@@ -573,10 +577,10 @@ module _ (S : Type 0) (see : S → Lexeme) (go : S → S) (semicolon : S → Out
       v ← variable
       t ← peek
       if is_mark mark.Equal t.kind then (do
-          take
-          x ← expr n 1
-          pure (record { variable = v; value = raw.one_expr x.0 }, x.1))
-        else pure (record { variable = v; value = raw.no_expr }, 0)
+        take
+        x ← expr n 1
+        pure (record { variable = v; value = raw.one_expr x.0 }, x.1))
+          else pure (record { variable = v; value = raw.no_expr }, 0)
 
     unfoldable pub declarators : (Bool → ℕ → Parser (Sized RawExpr)) → Bool → ℕ → List RawDeclarator → ℕ → Parser (Sized (List RawDeclarator))
     declarators expr n zero found h = stops spent
@@ -619,10 +623,10 @@ module _ (S : Type 0) (see : S → Lexeme) (go : S → S) (semicolon : S → Out
     otherwise c p e a = do
       t ← peek
       if is_word word.Else t.kind then (do
-          take
-          b ← inner.stmt (inside c)
-          pure (raw.if p e.0 (stmts a.0) (stmts b.0) ∷ [], max e.1 (max a.1 b.1) + 1))
-        else pure (raw.if p e.0 (stmts a.0) raw.no_stmts ∷ [], max e.1 a.1 + 1)
+        take
+        b ← inner.stmt (inside c)
+        pure (raw.if p e.0 (stmts a.0) (stmts b.0) ∷ [], max e.1 (max a.1 b.1) + 1))
+          else pure (raw.if p e.0 (stmts a.0) raw.no_stmts ∷ [], max e.1 a.1 + 1)
 
     unfoldable pub choice : Context → Parser (Sized (List RawStmt))
     choice c = do
@@ -687,14 +691,14 @@ module _ (S : Type 0) (see : S → Lexeme) (go : S → S) (semicolon : S → Out
       expect mark.OpenParen
       u ← peek
       if is_word word.Var u.kind then (do
-          take
-          vs ← declarators inner.expr false turns [] 0
-          v ← peek
-          for_vars_by c t.place vs.0 vs.1 (is_word word.In v.kind))
-        else (if is_mark mark.Semicolon u.kind then for_rest c t.place (raw.no_init, 0) else (do
-          x ← inner.expr false 0
-          v ← peek
-          for_value_by c t.place x (target_of x.0) (is_word word.In v.kind)))
+        take
+        vs ← declarators inner.expr false turns [] 0
+        v ← peek
+        for_vars_by c t.place vs.0 vs.1 (is_word word.In v.kind))
+          else (if is_mark mark.Semicolon u.kind then for_rest c t.place (raw.no_init, 0) else (do
+            x ← inner.expr false 0
+            v ← peek
+            for_value_by c t.place x (target_of x.0) (is_word word.In v.kind)))
 
     abbrev pub jump_by : (Option (List ℕ) → RawStmt) → (alone : Bool) → Labels → Option (List ℕ) → Parser (Sized (List RawStmt))
     jump_by make alone ls None = if alone then semicolon >> pure (make None ∷ [], 0) else fail a_token
@@ -702,27 +706,27 @@ module _ (S : Type 0) (see : S → Lexeme) (go : S → S) (semicolon : S → Out
 
     unfoldable pub continue : Context → Parser (Sized (List RawStmt))
     continue c = if c.continues then (do
-        t ← take
-        u ← peek
-        jump_by (raw.continue t.place) true c.loops (label_of u))
-      else fail a_token
+      t ← take
+      u ← peek
+      jump_by (raw.continue t.place) true c.loops (label_of u))
+        else fail a_token
 
     unfoldable pub break : Context → Parser (Sized (List RawStmt))
     break c = if c.breaks || is_some_label c.labels then (do
-        t ← take
-        u ← peek
-        jump_by (raw.break t.place) c.breaks c.labels (label_of u))
-      else fail a_token
+      t ← take
+      u ← peek
+      jump_by (raw.break t.place) c.breaks c.labels (label_of u))
+        else fail a_token
 
     unfoldable pub return : Context → Parser (Sized (List RawStmt))
     return c = if c.returns then (do
-        t ← take
-        u ← peek
-        if ends_return u then semicolon >> pure (raw.return t.place raw.no_expr ∷ [], 0) else (do
-          x ← expr_of true 0
-          semicolon
-          pure (raw.return t.place (raw.one_expr x.0) ∷ [], x.1)))
-      else fail a_token
+      t ← take
+      u ← peek
+      if ends_return u then semicolon >> pure (raw.return t.place raw.no_expr ∷ [], 0) else (do
+        x ← expr_of true 0
+        semicolon
+        pure (raw.return t.place (raw.one_expr x.0) ∷ [], x.1)))
+        else fail a_token
 
     unfoldable pub throw : Parser (Sized (List RawStmt))
     throw = do
@@ -805,9 +809,9 @@ module _ (S : Type 0) (see : S → Lexeme) (go : S → S) (semicolon : S → Out
     after_catch c p b f = do
       t ← peek
       if is_word word.Finally t.kind then (do
-          g ← finally c
-          pure (raw.try p (stmts b.0) f.0 g.0 ∷ [], max b.1 (max f.1 g.1) + 1))
-        else pure (raw.try p (stmts b.0) f.0 raw.no_finally ∷ [], max b.1 f.1 + 1)
+        g ← finally c
+        pure (raw.try p (stmts b.0) f.0 g.0 ∷ [], max b.1 (max f.1 g.1) + 1))
+          else pure (raw.try p (stmts b.0) f.0 raw.no_finally ∷ [], max b.1 f.1 + 1)
 
     unfoldable pub try : Context → Parser (Sized (List RawStmt))
     try c = do
@@ -815,12 +819,12 @@ module _ (S : Type 0) (see : S → Lexeme) (go : S → S) (semicolon : S → Out
       b ← block_in c
       u ← peek
       if is_word word.Catch u.kind then (do
-          f ← catch c
-          after_catch c t.place b f)
-        else (if is_word word.Finally u.kind then (do
-          g ← finally c
-          pure (raw.try t.place (stmts b.0) raw.no_catch g.0 ∷ [], max b.1 g.1 + 1))
-        else fail a_token)
+        f ← catch c
+        after_catch c t.place b f)
+          else (if is_word word.Finally u.kind then (do
+            g ← finally c
+            pure (raw.try t.place (stmts b.0) raw.no_catch g.0 ∷ [], max b.1 g.1 + 1))
+          else fail a_token)
 
     unfoldable pub declaration : Parser (Sized (List RawStmt))
     declaration = do
@@ -871,7 +875,9 @@ module _ (S : Type 0) (see : S → Lexeme) (go : S → S) (semicolon : S → Out
 -- ---- a list of symbols: each semicolon stands there, written or inserted
 
 abbrev pub semicolon_symbol : Symbols → Outcome Symbols (Unit {0})
-semicolon_symbol xs = if is_mark mark.Semicolon (look xs).kind then Ok (tt, rest xs) else Err (fault a_token (look xs), xs)
+semicolon_symbol (k.inserted ∷ xs) = Ok (tt, xs)
+semicolon_symbol (k.real t ∷ xs) = if is_mark mark.Semicolon t.kind then Ok (tt, xs) else Err (fault a_token t, k.real t ∷ xs)
+semicolon_symbol [] = Err (fault a_token nothing, [])
 
 unfoldable pub read_symbols : ℕ → ℕ → Symbols → Outcome Symbols (Sized (List RawStmt))
 read_symbols = program Symbols look rest semicolon_symbol

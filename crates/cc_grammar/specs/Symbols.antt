@@ -69,9 +69,9 @@ unfoldable pub word_of : List ℕ → Option Word
 word_of = spelled_in words
 
 -- A part of a program that is due at a place. No text has it as a token: a list that goes on with it is a list
--- that may go on with any such part. `remedy` stands for what makes a part right that is wrong without it.
+-- that may go on with any such part. `remedy` stands for what makes a part right that is wrong without it, and `ending` is what an inserted semicolon shows.
 pub data Part : Type 0 where
-  operand element variable key statement remedy : Part
+  operand element variable key statement ending remedy : Part
 
 -- What a token is. Nothing begins at `stop`, where perhaps a construct is refused.
 pub data Kind : Type 0 where
@@ -106,9 +106,9 @@ lexemes_of (inserted ∷ xs) = lexemes_of xs
 abbrev pub nowhere : Place
 nowhere = record { file = 0; offset = 0; line = 0; column = 0 }
 
--- an inserted semicolon is like one that is written
+-- An inserted semicolon isn't like one that is written, since it stands at the end of a statement alone.
 abbrev pub semicolon : Lexeme
-semicolon = record { kind = mark m.Semicolon; place = nowhere; after_line = false; noted = false }
+semicolon = record { kind = due ending; place = nowhere; after_line = false; noted = false }
 
 -- past the last symbol nothing begins
 abbrev pub nothing : Lexeme
