@@ -1,0 +1,14 @@
+mod Pieces
+mod InsertionRows
+mod SyntaxRows
+mod RefusedRows
+mod TreeRows
+mod DepthRows
+mod FrontRows
+mod ProgramRows
+pub mod Meets
+pub mod Views
+pub mod Marked
+pub mod Mono
+pub mod Shrinks
+pub mod Steps

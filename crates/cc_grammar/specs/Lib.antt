@@ -1,0 +1,9 @@
+pub mod Symbols
+pub mod RawTree
+pub mod Signs
+pub mod Grammar
+pub mod Fronts
+pub mod Reading
+pub mod Faults
+pub mod Sizes
+pub mod Laws
