@@ -99,3 +99,18 @@ fn one_worker(rt: HostRuntime) -> Result<(), Fail> {
     assert!(rt; matches!(shop.close(), Err(CloseFault::Undone { count: 2 })));
     Ok(())
 }
+
+#[test]
+fn what_workers_share(rt: HostRuntime) -> Result<(), Fail> {
+    let mut shop = a_shop(rt.alloc())?;
+    let slots = shop.pending_slots()?;
+    assert_eq!(rt; slots.as_slice(), [0, 1].as_slice());
+    let bench = shop.bench()?;
+    let claim = Claim::drawn(0, 1, 1);
+    let made = bench.make(&claim);
+    shop.give_back(claim);
+    let scope = made?;
+    assert_eq!(rt; scope.doc, 0);
+    assert!(rt; scope.body.is_empty());
+    Ok(())
+}
