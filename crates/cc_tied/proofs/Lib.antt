@@ -17,3 +17,4 @@ pub mod Equal
 pub mod EqualUpkeep
 pub mod EqualModes
 pub mod Reflexive
+pub mod EqualRuns
