@@ -18,3 +18,4 @@ pub mod EqualUpkeep
 pub mod EqualModes
 pub mod Reflexive
 pub mod EqualRuns
+pub mod Erase
