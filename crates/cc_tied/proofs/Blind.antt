@@ -1,5 +1,5 @@
 -- What is judged of an act doesn't depend on the budget.
-use Rattle.std.proofs.Common.{◌≡◌, refl, ℕ, Option}
+use Rattle.std.proofs.Common.{◌≡◌, refl, ℕ}
 use Rattle.cc_meaning.specs.State.{State, Tables}
 use Rattle.cc_meaning.specs.Built.{outcome_of, rule_in}
 use Rattle.cc_meaning.specs.SlotRules.{field_rule, object_read, read_rule, declares_well, code_rule, prototype_rule, object_write, write_rule, object_remove, remove_rule, probe_rule, walk_rule}

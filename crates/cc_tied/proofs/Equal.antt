@@ -1,13 +1,13 @@
 -- Runs from equal states, perhaps judged in two ways, with budgets that may differ.
-use Rattle.std.proofs.Common.{◌≡◌, ℕ, suc, ◌+◌, ◌≤◌, Bool, true, false, List, [], ◌∷◌, ◌++◌, Option, Some, None, refl, sym, ap, subst, arith, ◌∙◌}
+use Rattle.std.proofs.Common.{◌≡◌, ℕ, ◌+◌, ◌≤◌, Bool, true, false, List, [], ◌∷◌, Option, Some, None, refl, sym, ap, subst, arith, ◌∙◌}
 use Rattle.std.specs.Prelude.{nat_eq}
 use Rattle.cc_meaning.specs.Values.{Val, prim, obj, out, Spot}
-use Rattle.cc_meaning.specs.State.{Code, Env, Reply, State, Tables}
-use Rattle.cc_meaning.specs.Monad.{seen, marks, End, spent, waits, broken, Res, ok, threw, over, paid, M, stop, ◌>>=◌, Mode}
+use Rattle.cc_meaning.specs.State.{State, Tables}
+use Rattle.cc_meaning.specs.Monad.{marks, End, spent, waits, Res, ok, threw, over, paid, M, stop, ◌>>=◌, Mode}
 use Rattle.cc_meaning.specs.Judge.{Act, least_broken}
 use Rattle.cc_meaning.specs.Acts.{judged, allowed, refused, is_fatal}
 use Rattle.cc_tied.specs.Tied.{ListT, nil_t, cons_t, OptT, none_t, some_t, ValT, prim_t, out_t, obj_t}
-use Rattle.cc_tied.proofs.Sim.{Tie, World, Later, now, ResT, ok_t, Sim, sim_bind, sim_fault, PayT, both_pay, neither, left_short, right_short, FaultT}
+use Rattle.cc_tied.proofs.Sim.{Tie, World, now, ResT, ok_t, Sim, sim_fault, PayT, both_pay, neither, left_short, right_short, FaultT}
 use Rattle.cc_tied.proofs.Blind.{blind_rule}
 
 -- the state's budget and its tables stay, and nothing is said

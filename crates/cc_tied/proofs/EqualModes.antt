@@ -1,10 +1,10 @@
 -- Ways to tie the budgets of equal states: equal ones, more on the right, and those of erasure.
-use Rattle.std.proofs.Common.{◌≡◌, ℕ, zero, suc, ◌+◌, ◌≤◌, List, [], ◌∷◌, Option, Some, None, refl, ap, subst, sym, arith, ◌-◌, ◌⊎◌, inl, inr}
+use Rattle.std.proofs.Common.{◌≡◌, ℕ, zero, suc, ◌+◌, ◌≤◌, [], ◌∷◌, Option, Some, None, refl, ap, subst, sym, arith, ◌-◌, ◌⊎◌, inl, inr}
 use Rattle.cc_meaning.specs.Values.{Spot}
 use Rattle.cc_meaning.specs.State.{State, Tables}
-use Rattle.cc_meaning.specs.Monad.{Said, passed, seen, marks, End, spent, waits, broken, strayed, Mode, Res, ok, over, paid, pay, pay_from, say, stop, ret, skip, said, after, M, ◌>>=◌}
+use Rattle.cc_meaning.specs.Monad.{passed, seen, marks, End, spent, waits, broken, Mode, ok, paid, pay, pay_from, say, stop, ret, skip, said, after, M, ◌>>=◌}
 use Rattle.cc_meaning.specs.Script.{checked, plain}
-use Rattle.cc_tied.proofs.Sim.{Sim, ResT, ok_t, broken_t, short_t, over_t, World, now, said_none, log, FaultT, excuse, both_fault}
+use Rattle.cc_tied.proofs.Sim.{Sim, ResT, ok_t, broken_t, short_t, over_t, World, now, said_none, log, excuse, both_fault}
 use Rattle.cc_tied.proofs.Equal.{Budgets, Passes, PayB, both_b, neither_b, short_b, ahead_b, Same, equal, steps_zero}
 
 -- the same end

@@ -1,8 +1,7 @@
 -- Runs of one program from equal states.
-use Rattle.std.proofs.Common.{◌≡◌, refl, sym, ap, subst, ◌∙◌, ℕ, ◌≤◌, List, [], ◌∷◌, Option, Some, None, arith}
+use Rattle.std.proofs.Common.{◌≡◌, refl, subst, ℕ, ◌≤◌, List, [], ◌∷◌, arith}
 use Rattle.cc_ast.specs.Syntax.{Stmts, no_stmts, more_stmts, Program}
-use Rattle.cc_meaning.specs.State.{Tables, State}
-use Rattle.cc_meaning.specs.Monad.{Mode}
+use Rattle.cc_meaning.specs.State.{Tables}
 use Rattle.cc_meaning.specs.Shapes.{body_of}
 use Rattle.cc_meaning.specs.Meaning.{bodies}
 use Rattle.cc_meaning.specs.Script.{Script, Turn, load, call, get, set, turns_from, start}
@@ -11,8 +10,8 @@ use Rattle.cc_tied.proofs.Kit.{Kit}
 use Rattle.cc_tied.proofs.Parts.{Below}
 use Rattle.cc_tied.proofs.Statements.{FollowsBody}
 use Rattle.cc_tied.proofs.Turns.{ProgramT, FollowsChunk, follows_no_chunk, follows_more_chunk, ChunksT, rel_run}
-use Rattle.cc_tied.proofs.Sim.{World, ResT}
-use Rattle.cc_tied.proofs.Equal.{Budgets, Passes, equal, Same, refl_opt}
+use Rattle.cc_tied.proofs.Sim.{ResT}
+use Rattle.cc_tied.proofs.Equal.{Budgets, Passes, equal, refl_opt}
 use Rattle.cc_tied.proofs.EqualUpkeep.{equal_kit}
 use Rattle.cc_tied.proofs.Reflexive.{LikeT, like_hoist, like_stmts, like_stmt}
 

@@ -1,31 +1,30 @@
 -- Equal states stay equal: each operation of the store, judged in two ways.
-use Rattle.std.proofs.Common.{◌≡◌, ℕ, suc, Bool, true, false, is_some, List, [], ◌∷◌, ◌++◌, Option, Some, None, refl, sym, ap, subst, ◌∙◌, append-nil}
+use Rattle.std.proofs.Common.{◌≡◌, ℕ, Bool, true, false, is_some, List, [], ◌∷◌, ◌++◌, Option, Some, None, refl, sym, ap, subst, ◌∙◌, append-nil}
 use Rattle.std.specs.Prelude.{slice_get}
-use Rattle.cc_ast.specs.Syntax.{Prim, undefined, null, truth, whole, text}
+use Rattle.cc_ast.specs.Syntax.{Prim, undefined}
 use Rattle.cc_ast.specs.declared.operator.BinOp.TheVariants.{Instance}
 use Rattle.cc_ast.specs.declared.operator.UnOp.TheVariants.{Typeof}
 use Rattle.cc_ast.specs.declared.tables.TypeSet.{TypeSet}
 use Rattle.cc_ast.specs.declared.tables.Element.{Element}
 use Rattle.cc_ast.specs.declared.tree.Ref.{Ref}
-use Rattle.cc_meaning.specs.Values.{Val, prim, obj, out, View, Spot, at_site}
+use Rattle.cc_meaning.specs.Values.{Val, prim, obj, out, Spot, at_site}
 use Rattle.cc_meaning.specs.Builtins.{ArrayAnswer, answers, answers_array, or_undefined}
 use Rattle.cc_meaning.specs.State.{Kind, keyed_kind, Code, Obj, FrameKind, of_call, of_catch, of_own_name, Frame, Env, State, Tables}
 use Rattle.cc_meaning.specs.Monad.{M, ret, skip, ◌>>=◌, attempt, with_tables, after, said, Mode}
-use Rattle.cc_meaning.specs.Store.{Access, runtime, quoted, name_of, kind_by, kind_for, Global, extern, built_in, of_chunk, global_kind, Use, value_found, look_up, own_value, put_own, change, frame_up, frame_at}
-use Rattle.cc_meaning.specs.Typed.{Variable, global, local, flat, variable_type, value_in, doc_at, params_in, result_in, function_doc, entered_in}
+use Rattle.cc_meaning.specs.Store.{Access, runtime, quoted, name_of, kind_by, Global, extern, built_in, of_chunk, global_kind, Use, own_value, change, frame_up, frame_at}
+use Rattle.cc_meaning.specs.Typed.{Variable, global, local, flat, variable_type, value_in, doc_at, params_in, result_in, function_doc}
 use Rattle.cc_meaning.specs.SlotRules.{fields_reached, write_rule}
-use Rattle.cc_meaning.specs.Rules.{Op, unary_op, binary_op, built_op, prototype_at}
-use Rattle.cc_meaning.specs.Judge.{Act, operates, reads, writes, removes, probes, walks, calls, enters, leaves, takes, keeps, casts, hosts, least_broken}
+use Rattle.cc_meaning.specs.Rules.{unary_op, binary_op, built_op, prototype_at}
+use Rattle.cc_meaning.specs.Judge.{operates, reads, writes, removes, probes, walks, enters, leaves, takes, keeps, casts, hosts, least_broken}
 use Rattle.cc_meaning.specs.Built.{BuiltOutcome, built_value, built_change, built_object, built_question, built_call, built_breaks, outcome_of}
-use Rattle.cc_meaning.specs.Acts.{judged, is_fatal, reading, changing, enter_element, receive, receive_all, receive_each, add_obj, make_object, make_array, make_from, chain_from, make_instance, add_function, add_function_by, has_own_name, make_function, push_frame, place_in, read_by_kind, read_place, is_loaded, global_value, read_global, read_var, frames_with, set_place, set_global, keep, write_by_kind, write_place, write_var, read_slot, write_slot, drop_own, dropped_from, remove, is_there, probe, names_of, walk, instance_value, operate, object_type, operate_one, cast_to, handle_of, shown, show}
-use Rattle.cc_meaning.specs.Calls.{Bodies, code_at, method_on, prim_member, declares_on, call_object, take_path, keep_path, array_answer, perform, use_built}
+use Rattle.cc_meaning.specs.Acts.{judged, is_fatal, reading, changing, enter_element, receive, receive_all, receive_each, add_obj, make_object, make_array, make_from, chain_from, make_instance, add_function, add_function_by, has_own_name, make_function, push_frame, place_in, read_by_kind, read_place, is_loaded, global_value, read_global, read_var, set_place, set_global, keep, write_by_kind, write_place, write_var, read_slot, write_slot, dropped_from, remove, is_there, probe, names_of, walk, instance_value, operate, operate_one, cast_to, handle_of, shown, show}
+use Rattle.cc_meaning.specs.Calls.{Bodies, code_at, method_on, declares_on, call_object, take_path, keep_path, array_answer, perform, use_built}
 use Rattle.cc_meaning.specs.Meaning.{call_frame}
 use Rattle.cc_meaning.specs.Script.{dependency_failed, note_load}
 use Rattle.cc_tied.specs.Tied.{ListT, OptT, ValT, WayT, CodeT, entering, leaving, loading}
 use Rattle.cc_tied.proofs.Kit.{Kit}
-use Rattle.cc_tied.proofs.Sim.{Tie, World, Later, now, ResT, Sim, sim_as, sim_bind, sim_ret, sim_attempt, sim_tables}
+use Rattle.cc_tied.proofs.Sim.{Tie, World, ResT, Sim, sim_as, sim_bind, sim_ret, sim_attempt, sim_tables}
 use Rattle.cc_tied.proofs.Upkeep.{Upkeep, kit}
-use Rattle.cc_tied.proofs.Blind.{blind_rule}
 use Rattle.cc_tied.proofs.Equal.{Budgets, Passes, equal, Same, Quiet, QuietR, at_budget, Eq, refl_val, refl_opt, same_val, same_opt, same_list, quiet, read_t, fault_t, judged_t, judged_two}
 
 -- ---- parts that neither change nor see the budget

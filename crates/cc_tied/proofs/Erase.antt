@@ -1,18 +1,18 @@
 -- A program's checked run and its plain run; a lesser depth, and a larger budget.
-use Rattle.std.proofs.Common.{◌≡◌, ◌⊎◌, inl, inr, ℕ, suc, ◌+◌, ◌≤◌, List, [], ◌∷◌, ◌++◌, Option, Some, None, refl, sym, ap, subst, arith, ◌∙◌, append-nil, map, IsTrue}
+use Rattle.std.proofs.Common.{◌≡◌, ◌⊎◌, inl, inr, ℕ, suc, ◌+◌, List, [], ◌∷◌, ◌++◌, refl, sym, ap, subst, arith, ◌∙◌, append-nil, map, IsTrue}
 use Rattle.cc_ast.specs.Syntax.{Program}
 use Rattle.cc_ast.specs.declared.tables.GlobalInfo.{GlobalInfo}
 use Rattle.cc_meaning.specs.Values.{Event}
 use Rattle.cc_meaning.specs.State.{Tables}
-use Rattle.cc_meaning.specs.Monad.{Said, seen, marks, End, spent, waits, Res, ok, threw, over, said, Mode}
+use Rattle.cc_meaning.specs.Monad.{Said, seen, marks, spent, waits, Res, ok, threw, over, said, Mode}
 use Rattle.cc_meaning.specs.Shapes.{tables_of, without_paths, plain_tables}
-use Rattle.cc_meaning.specs.Script.{Script, IsFollowing, follows, graph_of, Finish, finished, stopped, finish, raw, run, checked, plain}
-use Rattle.cc_meaning.specs.Same.{IsBroken, is_broken, IsStrayed, IsSettled, is_done, is_waiting, Prefix, IsFollowedBy, Same, Agrees}
+use Rattle.cc_meaning.specs.Script.{Script, IsFollowing, follows, Finish, finished, stopped, finish, raw, run, checked, plain}
+use Rattle.cc_meaning.specs.Same.{IsBroken, is_broken, IsStrayed, IsSettled, Prefix, IsFollowedBy, Same, Agrees}
 use Rattle.cc_tied.specs.Tied.{In, here, there}
 use Rattle.cc_tied.specs.Promises.{run_to, DepthIsEnough, IsExtendedBy, goes_on, does_the_same, BudgetExtends, HasNoPaths, Erasure, AgreementFollowsSame}
 use Rattle.cc_tied.proofs.Sim.{ResT, ok_t, threw_t, broken_t, short_t, ahead_t, over_t, World, log, log_said, seen_on}
-use Rattle.cc_tied.proofs.Equal.{Budgets, Passes, equal}
-use Rattle.cc_tied.proofs.EqualModes.{level, longer, erasing, purse, level_checked, level_plain, longer_checked, longer_plain, erasing_passes, purse_passes, SameEnd, same_end, Settles, both_spent, both_wait, in_hand}
+use Rattle.cc_tied.proofs.Equal.{Passes, equal}
+use Rattle.cc_tied.proofs.EqualModes.{level, longer, erasing, purse, level_checked, level_plain, longer_checked, longer_plain, erasing_passes, purse_passes, same_end, both_spent, both_wait, in_hand}
 use Rattle.cc_tied.proofs.EqualRuns.{runs_alike}
 
 abbrev Done : Type 0

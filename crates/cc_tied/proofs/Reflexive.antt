@@ -1,6 +1,6 @@
 -- A program is like itself, wherever a kit ties each part to itself.
 use Rattle.std.proofs.Common.{◌≡◌, refl, ap, ℕ, List, [], ◌∷◌, Option, Some, None}
-use Rattle.cc_ast.specs.Syntax.{Prim, undefined, null, truth, whole, text, Expr, lit, var, this, fun, list, object, unary, binary, and, or, cond, assign, step, member, index, call, new, comma, cast, tick, Target, to_var, to_member, to_index, Exprs, no_exprs, more_exprs, Fields, no_fields, more_fields, Declarator, ForInit, no_init, init_value, init_vars, ForTarget, in_target, in_declared, Stmt, simple, vars, fun_decl, if, while, do_while, for, for_in, return, throw, break, continue, label, switch, try, pay_stmt, Stmts, no_stmts, more_stmts, MaybeStmts, absent, present, Cases, no_cases, more_cases, Program}
+use Rattle.cc_ast.specs.Syntax.{Prim, text, Expr, lit, var, this, fun, list, object, unary, binary, and, or, cond, assign, step, member, index, call, new, comma, cast, tick, Target, to_var, to_member, to_index, Exprs, no_exprs, more_exprs, Fields, no_fields, more_fields, Declarator, ForInit, no_init, init_value, init_vars, ForTarget, in_target, in_declared, Stmt, simple, vars, fun_decl, if, while, do_while, for, for_in, return, throw, break, continue, label, switch, try, pay_stmt, Stmts, no_stmts, more_stmts, MaybeStmts, absent, present, Cases, no_cases, more_cases}
 use Rattle.cc_ast.specs.declared.operator.BinOp.{BinOp}
 use Rattle.cc_ast.specs.declared.operator.UnOp.{UnOp}
 use Rattle.cc_ast.specs.declared.operator.UnOp.TheVariants.{Delete}
@@ -10,11 +10,11 @@ use Rattle.cc_meaning.specs.Values.{Val}
 use Rattle.cc_meaning.specs.State.{Path}
 use Rattle.cc_meaning.specs.Store.{dotted, name_of}
 use Rattle.cc_meaning.specs.Calls.{member_use}
-use Rattle.cc_meaning.specs.Shapes.{longer, path_of, path_of_ref, path_of_target, path_of_key, literal_text, literal_key, site_of, declared_by, body_of}
+use Rattle.cc_meaning.specs.Shapes.{longer, path_of, path_of_ref, path_of_target, path_of_key, literal_text, literal_key, site_of, declared_by}
 use Rattle.cc_tied.proofs.Kit.{Kit}
 use Rattle.cc_meaning.specs.Meaning.{Place}
 use Rattle.cc_tied.specs.Tied.{variable_t, slot_t}
-use Rattle.cc_tied.proofs.Parts.{V, SiteT, PathT, PlaceV, Below}
+use Rattle.cc_tied.proofs.Parts.{SiteT, PathT, PlaceV, Below}
 use Rattle.cc_tied.proofs.Expressions as E
 use Rattle.cc_tied.proofs.Statements as S
 

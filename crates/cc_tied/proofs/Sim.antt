@@ -1,17 +1,17 @@
 -- Two runs from tied states.
-use Rattle.std.proofs.Common.{◌≡◌, ℕ, zero, suc, ◌+◌, ◌≤◌, Bool, true, false, List, [], ◌∷◌, ◌++◌, length, append_assoc, Option, Some, None, refl, sym, ap, subst, arith, ◌∙◌}
-use Rattle.std.specs.Prelude.{slice_get, nat_eq, nat_lt, ◌&&◌}
-use Rattle.cc_ast.specs.Syntax.{Prim, undefined}
+use Rattle.std.proofs.Common.{◌≡◌, ℕ, zero, suc, ◌+◌, ◌≤◌, Bool, List, [], ◌∷◌, ◌++◌, length, append_assoc, Option, Some, None, refl, sym, ap, subst, arith, ◌∙◌}
+use Rattle.std.specs.Prelude.{slice_get, nat_eq, nat_lt}
+use Rattle.cc_ast.specs.Syntax.{Prim}
 use Rattle.cc_ast.specs.declared.tree.Ref.{Ref}
-use Rattle.cc_meaning.specs.Values.{Val, prim, obj, out, View, shown_prim, shown_out, handle, Event, Spot, at_site, at_turn}
+use Rattle.cc_meaning.specs.Values.{Val, View, shown_prim, shown_out, handle, Event, Spot, at_turn}
 use Rattle.cc_meaning.specs.Operators.{strict_equal}
 use Rattle.cc_meaning.specs.State.{Code, Env, Reply, State, Tables}
-use Rattle.cc_meaning.specs.Monad.{Said, told, passed, seen, marks, End, spent, waits, broken, Res, ok, threw, over, said, M, ret, raise, stop, after, ◌>>=◌, Way, attempted, attempt, paid, pay_from, pay, say, with_budget, with_tables, Mode}
+use Rattle.cc_meaning.specs.Monad.{Said, told, passed, seen, marks, End, spent, waits, broken, Res, ok, threw, over, said, M, ret, raise, stop, after, ◌>>=◌, attempted, attempt, paid, pay_from, pay, say, with_budget, with_tables, Mode}
 use Rattle.cc_meaning.specs.Store.{Access, quoted, runtime}
 use Rattle.cc_meaning.specs.Acts.{next_reply_of, next_reply, was_given, all_given, object_at, viewed}
 use Rattle.cc_meaning.specs.Calls.{views}
 use Rattle.cc_meaning.specs.Script.{top}
-use Rattle.cc_tied.specs.Tied.{ListT, nil_t, cons_t, OptT, ValT, prim_t, out_t, obj_t, WayT, went_t, thrown_t, Sited, CodeT, built_of}
+use Rattle.cc_tied.specs.Tied.{ListT, nil_t, cons_t, OptT, ValT, prim_t, out_t, obj_t, WayT, went_t, thrown_t, CodeT, built_of}
 
 -- both can pay, neither can, or one alone cannot
 pub data PayT (Tied : State → State → Type 0) (Short Ahead : Type 0) (s t : State) : Option ℕ → Option ℕ → Type 0 where
@@ -36,7 +36,6 @@ pub record Tie : Type 1 where
   pub Ext : W → W → Type 0
   pub same : (w : W) → Ext w w
   pub ext : {u v w : W} → Ext u v → Ext v w → Ext u w
-
   -- ---- ends
 
   -- whether a broken run excuses what the other run does
@@ -53,7 +52,6 @@ pub record Tie : Type 1 where
   pub EndT : End → End → Type 0
   pub end_spent : EndT spent spent
   pub end_waits : EndT waits waits
-
   -- ---- what is tied by its place in the two programs alone
 
   pub Ctx : Type 0
@@ -75,7 +73,6 @@ pub record Tie : Type 1 where
   pub WrittenT : List ℕ → Type 0
   pub read_built : {c : Ctx} {r r' : Ref} → ReadT c r r' → built_of tables r ≡ built_of tables' r'
   pub declares_none : DeclaresT None None
-
   -- ---- what is tied in a world
 
   pub O : W → ℕ → ℕ → Type 0
@@ -99,7 +96,6 @@ pub record Tie : Type 1 where
   pub env_top : {w : W} {c : ℕ} {d d' : Option ℕ} → LoadedT w c → DeclaresT d d' → EnvT (outer c) w (record top { declares = d }) (record top { declares = d' })
   pub env_this : {c : Ctx} {w : W} {g h : Env} → ThisT c → EnvT c w g h → OptT (ValT (O w)) g.this h.this
   pub env_declares : {c : Ctx} {w : W} {g h : Env} → EnvT c w g h → DeclaresT g.declares h.declares
-
   -- ---- states
 
   pub Tied : W → State → State → Type 0

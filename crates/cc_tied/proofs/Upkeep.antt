@@ -1,13 +1,13 @@
 -- What a tie owes for each operation of the store, and the kit that it gives then.
-use Rattle.std.proofs.Common.{◌≡◌, ◌∙◌, ℕ, suc, ◌≤◌, Bool, true, false, is_some, List, [], ◌∷◌, ◌++◌, Option, Some, None, refl, sym, ap, subst}
+use Rattle.std.proofs.Common.{◌≡◌, ◌∙◌, ℕ, Bool, true, false, List, [], ◌∷◌, ◌++◌, Option, Some, None, refl, sym, ap, subst}
 use Rattle.std.specs.Prelude.{slice_get}
 use Rattle.cc_ast.specs.Syntax.{Prim, undefined}
 use Rattle.cc_ast.specs.declared.operator.BinOp.TheVariants.{Instance}
 use Rattle.cc_ast.specs.declared.operator.UnOp.TheVariants.{Typeof}
 use Rattle.cc_ast.specs.declared.tree.Ref.{Ref}
-use Rattle.cc_meaning.specs.Values.{Val, prim, obj, out, Spot, at_site}
+use Rattle.cc_meaning.specs.Values.{Val, prim, obj, out, Spot}
 use Rattle.cc_meaning.specs.State.{keyed_kind, of_catch, Code, Obj, Env, State}
-use Rattle.cc_meaning.specs.Monad.{M, Res, ok, threw, over, ret, skip, stop, after, ◌>>=◌, Way, went, thrown, attempt, with_tables, Mode}
+use Rattle.cc_meaning.specs.Monad.{M, Res, ok, threw, over, ret, skip, stop, after, ◌>>=◌, Way, attempt, with_tables, Mode}
 use Rattle.cc_meaning.specs.Store.{Access, quoted, name_of, kind_by, Use}
 use Rattle.cc_meaning.specs.SlotRules.{rule_unless}
 use Rattle.cc_meaning.specs.Rules.{callable, callee_rule}
@@ -18,13 +18,12 @@ use Rattle.cc_meaning.specs.Meaning.{call_frame}
 use Rattle.cc_meaning.specs.Script.{note_end}
 use Rattle.cc_tied.specs.Tied.{ListT, OptT, none_t, some_t, ValT, WayT, went_t, thrown_t, Sited, CodeT, entering, leaving, loading}
 use Rattle.cc_tied.proofs.Kit.{Kit}
-use Rattle.cc_tied.proofs.Sim.{Tie, World, Later, now, later, ResT, Sim, fine, faulty, sim_as, sim_ret, sim_bind, sim_raise, sim_attempt, sim_say, sim_fault, sim_pay_less, sim_budget, sim_tables, sim_given, sim_equal, sim_next_reply, sim_view, sim_views, said_after, said_none}
+use Rattle.cc_tied.proofs.Sim.{Tie, World, Later, now, later, ResT, Sim, fine, sim_as, sim_ret, sim_bind, sim_raise, sim_attempt, sim_say, sim_fault, sim_pay_less, sim_budget, sim_tables, sim_given, sim_equal, sim_next_reply, sim_view, sim_views, said_after}
 
 pub record Upkeep (T : Tie) : Type 1 where
   -- what a price mark and a breach do
   pub up_mark : {w : World T} (p : ℕ) → Sim T (λ v a b. Unit {0}) w (T.J.mark p) (T.J'.mark p)
   pub up_breach : {w : World T} {i i' : Spot} → T.SpotT i i' → (r : ℕ) → Sim T (λ v a b. Unit {0}) w (T.J.breach r i) (T.J'.breach r i')
-
   -- ---- objects
 
   pub up_object : {w : World T} → Sim T (λ v. T.NewT v.w) w make_object make_object
@@ -43,14 +42,12 @@ pub record Upkeep (T : Tie) : Type 1 where
   pub up_method_read : {w : World T} {x y : Val} {a b : Access} {i i' : Spot} → T.SpotT i i' → ValT (T.O w.w) x y → T.KeyT w.w x a b → Sim T (λ v p q. Unit {0}) w (judged T.J i (reads x a) skip) (judged T.J' i' (reads y b) skip)
   -- a use of what is built in, which may call
   pub up_use : {w : World T} {vs vs' : List Val} {i i' : Spot} (B B' : Bodies) → T.SpotT i i' → (u : Use) → ListT (ValT (T.O w.w)) vs vs' → ((m n : ℕ) (x y : Val) (us us' : List Val) → T.O w.w m n → ValT (T.O w.w) x y → ListT (ValT (T.O w.w)) us us' → Sim T (λ v. ValT (T.O v.w)) w (call_object T.J B i m (Some x) us) (call_object T.J' B' i' n (Some y) us')) → Sim T (λ v. ValT (T.O v.w)) w (use_built T.J B i u vs) (use_built T.J' B' i' u vs')
-
   -- ---- values that are no objects of the program
 
   pub up_prim_read : {w : World T} {p : Prim} {a b : Access} {i i' : Spot} → T.SpotT i i' → T.KeyT w.w (prim p) a b → Sim T (λ v. ValT (T.O v.w)) w (judged T.J i (reads (prim p) a) (with_tables (λ T. ret (prim_member p (name_of T a))))) (judged T.J' i' (reads (prim p) b) (with_tables (λ T. ret (prim_member p (name_of T b)))))
   -- where the access breaks no rule, the outside sees one name
   pub up_out_read : {A B : Type 0} {R : World T → A → B → Type 0} {w : World T} {n : ℕ} {a b : Access} {m : M A} {m' : M B} {i i' : Spot} → T.SpotT i i' → T.KeyT w.w (out n) a b → (name_of T.tables a ≡ name_of T.tables' b → Sim T R w m m') → Sim T R w (judged T.J i (reads (out n) a) m) (judged T.J' i' (reads (out n) b) m')
   pub up_out_write : {A B : Type 0} {R : World T → A → B → Type 0} {w : World T} {n : ℕ} {a b : Access} {m : M A} {m' : M B} {i i' : Spot} (x y : Val) (d d' : Bool) → T.SpotT i i' → T.KeyT w.w (out n) a b → (name_of T.tables a ≡ name_of T.tables' b → Sim T R w m m') → Sim T R w (judged T.J i (writes (out n) a x d) m) (judged T.J' i' (writes (out n) b y d') m')
-
   -- ---- variables, frames, flat paths, casts
 
   pub up_read_var : {c : T.Ctx} {w : World T} {g h : Env} {r r' : Ref} {i i' : Spot} → T.SpotT i i' → T.EnvT c w.w g h → T.ReadT c r r' → Sim T (λ v. ValT (T.O v.w)) w (read_var T.J i g r) (read_var T.J' i' h r')
@@ -60,14 +57,12 @@ pub record Upkeep (T : Tie) : Type 1 where
   pub up_take_path : {w : World T} {p p' : ℕ × ℕ} {x y : Val} {a b : Access} {i i' : Spot} → T.SpotT i i' → T.FlatT p p' → ValT (T.O w.w) x y → T.KeyT w.w x a b → Sim T (λ v m n. Unit {0}) w (take_path T.J i (Some p) x a) (take_path T.J' i' (Some p') y b)
   pub up_keep_path : {w : World T} {p p' : ℕ × ℕ} {x y : Val} {i i' : Spot} → T.SpotT i i' → T.FlatT p p' → ValT (T.O w.w) x y → Sim T (λ v m n. Unit {0}) w (keep_path T.J i (Some p) x) (keep_path T.J' i' (Some p') y)
   pub up_cast : {w : World T} {d d' : ℕ} {x y : Val} {i i' : Spot} → T.SpotT i i' → T.DocT d d' → ValT (T.O w.w) x y → Sim T (λ v m n. Unit {0}) w (cast_to T.J i d x) (cast_to T.J' i' d' y)
-
   -- ---- calls
 
   -- tied objects are both functions, or neither is
   pub up_code : {w : T.W} {s t : State} {m n : ℕ} → T.Tied w s t → T.O w m n → OptT (T.RunsT w m n) (code_at s m) (code_at t n)
   pub up_enters : {w : World T} {a b : Code} {t t' : Option Val} {vs vs' : List Val} {i i' : Spot} → T.SpotT i i' → CodeT T.SpotT T.FunT (T.UpT w.w) a b → OptT (ValT (T.O w.w)) t t' → ListT (ValT (T.O w.w)) vs vs' → Sim T (λ v m n. Unit {0}) w (entering T.J i a.function t vs) (entering T.J' i' b.function t' vs')
   pub up_leaves : {w : World T} {f f' : ℕ} {x y : Val} {i i' : Spot} → T.SpotT i i' → T.FunT f f' → (built : Bool) → ValT (T.O w.w) x y → Sim T (λ v m n. Unit {0}) w (leaving T.J i f built x) (leaving T.J' i' f' built y)
-
   -- ---- the outside
 
   pub up_show : {w : World T} {x y : Val} → ValT (T.O w.w) x y → Sim T (λ v p q. p ≡ q) w (show x) (show y)

@@ -1,11 +1,11 @@
 -- Laws of runs: what a lesser depth of calls, a larger budget, price marks and checks change.
-use Rattle.std.specs.Prelude.{◌≡◌, ◌⊎◌, ℕ, ◌≤◌, List, [], Option, Some, slice_get}
+use Rattle.std.specs.Prelude.{◌≡◌, ℕ, ◌≤◌, List, []}
 use Rattle.cc_ast.specs.Syntax.{Program}
 use Rattle.cc_ast.specs.declared.tables.GlobalInfo.{GlobalInfo}
 use Rattle.cc_meaning.specs.Values.{Event}
 use Rattle.cc_meaning.specs.Monad.{spent, Mode}
 use Rattle.cc_meaning.specs.Meaning.{bodies}
-use Rattle.cc_meaning.specs.Script.{Script, IsFollowing, graph_of, Finish, stopped, finish, turns_from, start, run, checked, plain}
+use Rattle.cc_meaning.specs.Script.{Script, Finish, stopped, finish, turns_from, start, run}
 use Rattle.cc_meaning.specs.Same.{Prefix, Same, Agrees}
 use Rattle.cc_meaning.specs.Alike.{In}
 
