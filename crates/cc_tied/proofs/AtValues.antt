@@ -1,11 +1,10 @@
 -- Expressions whose values alone are tied, below a cast, a price mark and a dot.
-use Rattle.std.proofs.Common.{◌≡◌, refl, sym, ap, ◌∙◌, ℕ, Bool, true, false, List, [], ◌∷◌, ◌++◌, Option, Some, None, subst}
-use Rattle.cc_ast.specs.Syntax.{Prim, undefined, Expr, lit, var, this, fun, list, object, unary, binary, and, or, cond, assign, step, member, index, call, new, comma, cast, tick}
-use Rattle.cc_ast.specs.declared.tree.Ref.{Ref}
-use Rattle.cc_meaning.specs.Values.{Val, Spot, at_site}
+use Rattle.std.proofs.Common.{◌≡◌, refl, sym, ◌∙◌, ℕ, Bool, true, false, List, [], ◌∷◌, ◌++◌, Option, None}
+use Rattle.cc_ast.specs.Syntax.{Prim, Expr, lit, var, this, fun, list, object, unary, binary, and, or, cond, assign, step, member, index, call, new, comma, cast, tick}
+use Rattle.cc_meaning.specs.Values.{Val, at_site}
 use Rattle.cc_meaning.specs.State.{Env, Path, Tables}
-use Rattle.cc_meaning.specs.Monad.{M, ret, skip, stop, ◌>>=◌, with_tables, Mode}
-use Rattle.cc_meaning.specs.Store.{Built, dotted, name_of}
+use Rattle.cc_meaning.specs.Monad.{M, ret, ◌>>=◌, with_tables, Mode}
+use Rattle.cc_meaning.specs.Store.{Built, dotted}
 use Rattle.cc_meaning.specs.Acts.{cast_to}
 use Rattle.cc_meaning.specs.Calls.{Reference, Reach, plain, access, built_global, built_member, cast_all, get, value_of, value, cast_reach, Bodies}
 use Rattle.cc_meaning.specs.Meaning.{reach_member, reference, ev}
@@ -78,13 +77,15 @@ reach_none J B i w p (built_member j b n) = after_none _ _ (λ v. access_none _)
 
 cast_none : (J : Mode) (i d : ℕ) (m : M Reach) → NoGlobal m → NoGlobal (m >>= λ r. cast_reach J i d r)
 unfolding cast_reach
-cast_none J i d m n = record { by = λ k h p a b.
-    bind_assoc m (λ r. cast_reach J i d r) k
-    ∙ n.by (λ r. cast_reach J i d r >>= k) (λ r. cast_reach J i d r >>= h)
-        (λ v. (after_none (cast_to J (at_site i) d v) (λ _. ret (plain v)) (λ u. one_none v)).by k h p a b)
-        (λ r. ret_bind _ k ∙ a _ ∙ sym (ret_bind _ h))
-        (λ j c t. ret_bind _ k ∙ b j c t ∙ sym (ret_bind _ h))
-    ∙ sym (bind_assoc m (λ r. cast_reach J i d r) h) }
+cast_none J i d m n = record {
+  by = λ k h p a b.
+      bind_assoc m (λ r. cast_reach J i d r) k
+      ∙ n.by (λ r. cast_reach J i d r >>= k) (λ r. cast_reach J i d r >>= h)
+      (λ v. (after_none (cast_to J (at_site i) d v) (λ _. ret (plain v)) (λ u. one_none v)).by k h p a b)
+      (λ r. ret_bind _ k ∙ a _ ∙ sym (ret_bind _ h))
+      (λ j c t. ret_bind _ k ∙ b j c t ∙ sym (ret_bind _ h))
+      ∙ sym (bind_assoc m (λ r. cast_reach J i d r) h);
+}
 
 no_global : (J : Mode) (B : Bodies) (g : Env) (p : Option Path) (e : Expr) → may_be_built e ≡ false → NoGlobal (ev J B g p e)
 unfolding ev may_be_built
@@ -120,14 +121,20 @@ module _ (K : Kit) (X : Below K) (c : K.Ctx) where
   open X use {B, B', w}
 
   pub cast_at_value : {i i' : ℕ} → SpotT (at_site i) (at_site i') → {d d' : ℕ} → DocT d d' → {e e' : Expr} → Follows K X c e e' → {p p' : Option Path} → FollowsAs K X (V K) c p p' (cast i d e) (cast i' d' e')
-  cast_at_value {i = i} {i' = i'} s {d = d} {d' = d'} dt {e = e} {e' = e'} h {p = p} {p' = p'} = record { by = λ v l g g' t. rw (cast_value J B g p i d e, cast_value J' B' g' p' i' d' e')
-      (rel_bind (h.by v l g g' t) (λ v2 l2 x y q. rel_bind (rel_cast s dt q) (λ v3 l3 _ _ _. rel_ret x y (val_later K l3 q)))) }
+  cast_at_value {i = i} {i' = i'} s {d = d} {d' = d'} dt {e = e} {e' = e'} h {p = p} {p' = p'} = record {
+    by = λ v l g g' t. rw (cast_value J B g p i d e, cast_value J' B' g' p' i' d' e')
+        (rel_bind (h.by v l g g' t) (λ v2 l2 x y q. rel_bind (rel_cast s dt q) (λ v3 l3 _ _ _. rel_ret x y (val_later K l3 q))));
+  }
 
   pub tick_at_value : (n : ℕ) {i i' : ℕ} {R : World → Val → Val → Type 0} {e e' : Expr} → FollowsAs K X R c None None e e' → {p p' : Option Path} → FollowsAs K X R c p p' (tick i n e) (tick i' n e')
-  tick_at_value n {i = i} {i' = i'} {e = e} {e' = e'} h {p = p} {p' = p'} = record { by = λ v l g g' t. rw (tick_value J B g p i n e, tick_value J' B' g' p' i' n e')
-      (rel_bind (rel_mark n) (λ v2 l2 _ _ _. h.by v2 (later l l2) g g' (env_later l2 t))) }
+  tick_at_value n {i = i} {i' = i'} {e = e} {e' = e'} h {p = p} {p' = p'} = record {
+    by = λ v l g g' t. rw (tick_value J B g p i n e, tick_value J' B' g' p' i' n e')
+        (rel_bind (rel_mark n) (λ v2 l2 _ _ _. h.by v2 (later l l2) g g' (env_later l2 t)));
+  }
 
   -- before a dot the values suffice, where neither may stand for a built-in global
   pub on_values : {e e' : Expr} → may_be_built e ≡ false → may_be_built e' ≡ false → Follows K X c e e' → FollowsOn K X c e e'
-  on_values {e = e} {e' = e'} n n' h = record { by = λ v l g g' t {i} {i'} s {p} {p'} pt {q} {q'} kt. rw (member_value J B i p q (ev J B g None e) (no_global J B g None e n), member_value J' B' i' p' q' (ev J' B' g' None e') (no_global J' B' g' None e' n'))
-      (rel_bind (h.by v l g g' t) (λ v2 l2 x y r. rel_bind (rel_reference K X s pt r (kt.keys v2 (later l l2) x y r)) (λ v3 l3 a b k. rel_ret (access a) (access b) (access_t k)))) }
+  on_values {e = e} {e' = e'} n n' h = record {
+    by = λ v l g g' t {i} {i'} s {p} {p'} pt {q} {q'} kt. rw (member_value J B i p q (ev J B g None e) (no_global J B g None e n), member_value J' B' i' p' q' (ev J' B' g' None e') (no_global J' B' g' None e' n'))
+        (rel_bind (h.by v l g g' t) (λ v2 l2 x y r. rel_bind (rel_reference K X s pt r (kt.keys v2 (later l l2) x y r)) (λ v3 l3 a b k. rel_ret (access a) (access b) (access_t k))));
+  }

@@ -1,16 +1,16 @@
 -- Calls of functions and of the outside, and reads and writes of what was reached, keep a relation.
-use Rattle.std.proofs.Common.{◌≡◌, refl, sym, ap, ℕ, suc, ◌≤◌, Bool, true, false, List, [], ◌∷◌, ◌++◌, Option, Some, None, subst, arith}
+use Rattle.std.proofs.Common.{◌≡◌, ap, ℕ, Bool, true, false, List, [], ◌∷◌, Option, Some, None, subst, arith}
 use Rattle.cc_ast.specs.Syntax.{Prim, undefined}
-use Rattle.cc_meaning.specs.Values.{Val, prim, obj, out, View, shown_out, handle, Spot, at_site, called, constructed, got, put}
+use Rattle.cc_meaning.specs.Values.{Val, prim, out, shown_out, handle, Spot, at_site, called, constructed, got, put}
 use Rattle.cc_meaning.specs.State.{Kind, Code, Inner, Answer, gives, throws, Env}
-use Rattle.cc_meaning.specs.Monad.{told, M, ret, skip, raise, stop, say, ◌>>=◌, Way, attempt, pay, with_tables}
+use Rattle.cc_meaning.specs.Monad.{M, ret, skip, raise, ◌>>=◌}
 use Rattle.cc_meaning.specs.Store.{Access, name_of, kind_by, Use, Built, object_global, math_global, string_global}
-use Rattle.cc_meaning.specs.Acts.{judged, show, show_all, show_receiver, next_reply, read_slot, write_slot}
-use Rattle.cc_meaning.specs.Calls.{Reference, Reach, plain, access, built_global, built_member, Callee, called_value, called_use, Returned, begin, begin_at, call_object, inner_call, inner, inners, answered, ask, call_out, construct_out, get_on, put_on, take_path, keep_path, cast_all, get, put_to, value_of, value, read_method, receiver_of, receiver_by, callee_by, callee_of, member_callee, global_callee, call_value, apply, construct_by, construct, built_result, views, tell_end, declares_on}
+use Rattle.cc_meaning.specs.Acts.{judged}
+use Rattle.cc_meaning.specs.Calls.{Reference, Reach, Callee, called_value, called_use, begin, begin_at, call_object, inner_call, inner, inners, answered, ask, call_out, construct_out, get_on, put_on, take_path, keep_path, cast_all, get, put_to, value_of, value, read_method, receiver_of, receiver_by, callee_by, callee_of, member_callee, global_callee, call_value, apply, construct_by, construct, built_result, views, declares_on}
 use Rattle.cc_meaning.specs.Rules.{is_prim}
-use Rattle.cc_tied.specs.Tied.{ListT, nil_t, cons_t, OptT, none_t, some_t, ValT, prim_t, out_t, obj_t, WayT, CodeT, CastT, CalleeT, value_t, use_t, plain_t, access_t, global_t, member_t}
+use Rattle.cc_tied.specs.Tied.{nil_t, cons_t, OptT, none_t, some_t, prim_t, out_t, obj_t, value_t, use_t, plain_t, access_t, global_t, member_t}
 use Rattle.cc_tied.proofs.Kit.{Kit}
-use Rattle.cc_tied.proofs.Parts.{V, OptV, ListV, CodeV, ReturnedV, ReferenceV, ReachV, CalleeV, CastsT, Done, Equal, Below, val_later, opt_later, list_later, code_later, reference_later, rel_skip, rel_tell, rel_tell_end, rel_show_all, rel_show_receiver, list_on}
+use Rattle.cc_tied.proofs.Parts.{V, OptV, ListV, CodeV, ReferenceV, ReachV, CalleeV, CastsT, Done, Below, val_later, opt_later, list_later, code_later, reference_later, rel_skip, rel_tell, rel_tell_end, rel_show_all, rel_show_receiver, list_on}
 use Rattle.cc_tied.proofs.Judged.{rel_prim_called, rel_out_called, rel_calls_inner, rel_answers, rel_prim_write}
 
 -- the first of some values, and those after it

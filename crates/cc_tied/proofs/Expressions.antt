@@ -1,24 +1,24 @@
 -- Each expression keeps a relation between runs.
-use Rattle.std.proofs.Common.{◌≡◌, refl, sym, ap, ◌∙◌, ℕ, suc, ◌≤◌, Bool, true, false, List, [], ◌∷◌, ◌++◌, Option, Some, None, subst, arith}
-use Rattle.cc_ast.specs.Syntax.{Prim, undefined, whole, text, Expr, lit, var, this, fun, list, object, unary, binary, and, or, cond, assign, step, member, index, call, new, comma, cast, tick, Target, to_var, to_member, to_index, Exprs, no_exprs, more_exprs, Fields, no_fields, more_fields}
+use Rattle.std.proofs.Common.{◌≡◌, refl, sym, ap, ◌∙◌, ℕ, Bool, true, false, List, [], ◌∷◌, ◌++◌, Option, Some, None, subst}
+use Rattle.cc_ast.specs.Syntax.{Prim, text, Expr, lit, var, this, fun, list, object, unary, binary, and, or, cond, assign, step, member, index, call, new, comma, cast, tick, Target, to_var, to_member, to_index, Exprs, no_exprs, more_exprs, Fields, no_fields, more_fields}
 use Rattle.cc_ast.specs.declared.operator.BinOp.{BinOp}
 use Rattle.cc_ast.specs.declared.tree.Ref.{Ref}
 use Rattle.cc_ast.specs.declared.tree.Key.{Key}
 use Rattle.cc_ast.specs.declared.operator.UnOp.{UnOp}
 use Rattle.cc_ast.specs.declared.operator.UnOp.TheVariants.{Plus, Delete}
 use Rattle.cc_ast.specs.declared.operator.BinOp.TheVariants.{Add, Sub}
-use Rattle.cc_meaning.specs.Values.{Val, prim, obj, out, Spot, at_site}
+use Rattle.cc_meaning.specs.Values.{Val, prim, at_site}
 use Rattle.cc_meaning.specs.State.{Env, Path}
 use Rattle.cc_meaning.specs.Monad.{M, ret, ◌>>=◌, with_tables, pick, Mode}
 use Rattle.cc_meaning.specs.Operators.{truthy, key_text}
 use Rattle.cc_meaning.specs.Store.{Access, dotted, quoted, runtime, Built, Global, extern, built_in, of_chunk, global_kind, name_of, flat_of}
-use Rattle.cc_meaning.specs.Acts.{operate, operate_one, read_var, runtime_key, key_given}
+use Rattle.cc_meaning.specs.Acts.{operate_one, read_var, runtime_key, key_given}
 use Rattle.cc_meaning.specs.Shapes.{site_of, longer, path_of, path_of_target, path_of_key, literal_text, literal_key}
-use Rattle.cc_meaning.specs.Calls.{Reference, Reach, plain, access, built_global, built_member, value_of, value, member_use, Bodies, apply_unary, delete_at, cast_reach}
+use Rattle.cc_meaning.specs.Calls.{Reach, plain, access, built_global, built_member, value_of, value, member_use, Bodies, apply_unary, delete_at, cast_reach}
 use Rattle.cc_meaning.specs.Meaning.{Place, variable_place, slot_place, reference, reach_global, reach_var, reach_member, put_key, key_by, stepped, ev, ev_target, evs, ev_fields, updated, get_place, put_place}
-use Rattle.cc_tied.specs.Tied.{built_of, built_at, RuntimeT, runtime_t, CastT, ListT, nil_t, cons_t, OptT, none_t, some_t, ValT, prim_t, out_t, obj_t, ReferenceT, plain_t, access_t, global_t, member_t, variable_t, slot_t}
+use Rattle.cc_tied.specs.Tied.{built_of, built_at, RuntimeT, runtime_t, nil_t, cons_t, none_t, prim_t, out_t, obj_t, plain_t, access_t, global_t, member_t, variable_t, slot_t}
 use Rattle.cc_tied.proofs.Kit.{Kit}
-use Rattle.cc_tied.proofs.Parts.{list_on, rel_pick, truthy_tied, V, OptV, ListV, ReferenceV, ReachV, PlaceV, Done, Equal, PathT, SiteT, Below, val_later, opt_later, list_later, reference_later, reach_later, place_later, callee_later}
+use Rattle.cc_tied.proofs.Parts.{list_on, rel_pick, truthy_tied, V, ListV, ReferenceV, ReachV, PlaceV, Done, PathT, Below, val_later, place_later, callee_later}
 use Rattle.cc_tied.proofs.Laws.{ret_bind, bind_assoc, bind_alike}
 use Rattle.cc_tied.proofs.Judged.{rel_operate, rel_operate_one, rel_runtime_key, rel_read_this, rel_remove_on}
 use Rattle.cc_tied.proofs.Calls.{rel_get, rel_put_to, rel_put_on, rel_keep_flat, rel_value, rel_value_of, rel_callee_of, rel_apply, rel_construct}
@@ -149,15 +149,19 @@ module _ (K : Kit) (X : Below K) where
 
     pub follows_more_exprs : {e e' : Expr} {es es' : Exprs} → Follows c e e' → FollowsAll c es es' → FollowsAll c (more_exprs e es) (more_exprs e' es')
     unfolding ev
-    follows_more_exprs h k = record { by = λ v l g g' t.
-        rel_bind (h.by v l g g' t) (λ v2 l2 x y q.
-        rel_bind (k.by v2 (later l l2) g g' (env_later l2 t)) (λ v3 l3 vs vs' r. rel_ret (x ∷ vs) (y ∷ vs') (cons_t (val_later K l3 q) r))) }
+    follows_more_exprs h k = record {
+      by = λ v l g g' t.
+          rel_bind (h.by v l g g' t) (λ v2 l2 x y q.
+          rel_bind (k.by v2 (later l l2) g g' (env_later l2 t)) (λ v3 l3 vs vs' r. rel_ret (x ∷ vs) (y ∷ vs') (cons_t (val_later K l3 q) r)));
+    }
 
     pub follows_object : {i i' : ℕ} {p p' : Option Path} {fs fs' : Fields} → FollowsFields c p p' fs fs' → FollowsRef c p p' (object i fs) (object i' fs')
     unfolding ev
-    follows_object h = record { by = λ v l g g' t.
-        rel_bind rel_object (λ v2 l2 o o' q.
-        rel_bind (h.by v2 (later l l2) g g' (env_later l2 t) o o' q) (λ v3 l3 _ _ _. rel_ret (plain o) (plain o') (plain_t (val_later K l3 (new_value q))))) }
+    follows_object h = record {
+      by = λ v l g g' t.
+          rel_bind rel_object (λ v2 l2 o o' q.
+          rel_bind (h.by v2 (later l l2) g g' (env_later l2 t) o o' q) (λ v3 l3 _ _ _. rel_ret (plain o) (plain o') (plain_t (val_later K l3 (new_value q)))));
+    }
 
     pub follows_no_fields : {p p' : Option Path} → FollowsFields c p p' no_fields no_fields
     unfolding ev
@@ -169,38 +173,50 @@ module _ (K : Kit) (X : Below K) where
 
     pub follows_more_fields : {p p' : Option Path} {k k' : Key} {e e' : Expr} {fs fs' : Fields} → SpotT (at_site (site_of e)) (at_site (site_of e')) → NewKeyT k k' → PathT K (path_of_key p k) (path_of_key p' k') → FollowsAs (V K) c (path_of_key p k) (path_of_key p' k') e e' → FollowsFields c p p' fs fs' → FollowsFields c p p' (more_fields k e fs) (more_fields k' e' fs')
     unfolding ev
-    follows_more_fields s kt pt h hs = record { by = λ v l g g' t o o' q.
-        rel_bind (h.by v l g g' t) (λ v2 l2 x y r.
-        rel_bind (rel_put_key s pt (val_later K l2 (new_value q)) (kt.keys v2 (later l l2) o o' (new_later l2 q)) r) (λ v3 l3 _ _ _.
-        hs.by v3 (later l (later l2 l3)) g g' (env_later (later l2 l3) t) o o' (new_later (later l2 l3) q))) }
+    follows_more_fields s kt pt h hs = record {
+      by = λ v l g g' t o o' q.
+          rel_bind (h.by v l g g' t) (λ v2 l2 x y r.
+          rel_bind (rel_put_key s pt (val_later K l2 (new_value q)) (kt.keys v2 (later l l2) o o' (new_later l2 q)) r) (λ v3 l3 _ _ _.
+          hs.by v3 (later l (later l2 l3)) g g' (env_later (later l2 l3) t) o o' (new_later (later l2 l3) q)));
+    }
 
     -- ---- operators
 
     pub follows_binary : {i i' : ℕ} → SpotT (at_site i) (at_site i') → (op : BinOp) {a a' b b' : Expr} → Follows c a a' → Follows c b b' → {p p' : Option Path} → FollowsRef c p p' (binary i op a b) (binary i' op a' b')
     unfolding ev
-    follows_binary s op h k = record { by = λ v l g g' t.
-        rel_bind (h.by v l g g' t) (λ v2 l2 x x' q.
-        rel_bind (k.by v2 (later l l2) g g' (env_later l2 t)) (λ v3 l3 y y' r. rel_plain (rel_operate K s op (val_later K l3 q) r))) }
+    follows_binary s op h k = record {
+      by = λ v l g g' t.
+          rel_bind (h.by v l g g' t) (λ v2 l2 x x' q.
+          rel_bind (k.by v2 (later l l2) g g' (env_later l2 t)) (λ v3 l3 y y' r. rel_plain (rel_operate K s op (val_later K l3 q) r)));
+    }
 
     pub follows_and : {i i' : ℕ} {a a' b b' : Expr} → Follows c a a' → Follows c b b' → {p p' : Option Path} → FollowsRef c p p' (and i a b) (and i' a' b')
     unfolding ev
-    follows_and h k = record { by = λ v l g g' t.
-        rel_bind (h.by v l g g' t) (λ v2 l2 x y q. rel_plain (rel_pick K (truthy x) (truthy y) (truthy_tied K q) (k.by v2 (later l l2) g g' (env_later l2 t)) (rel_ret x y q))) }
+    follows_and h k = record {
+      by = λ v l g g' t.
+          rel_bind (h.by v l g g' t) (λ v2 l2 x y q. rel_plain (rel_pick K (truthy x) (truthy y) (truthy_tied K q) (k.by v2 (later l l2) g g' (env_later l2 t)) (rel_ret x y q)));
+    }
 
     pub follows_or : {i i' : ℕ} {a a' b b' : Expr} → Follows c a a' → Follows c b b' → {p p' : Option Path} → FollowsRef c p p' (or i a b) (or i' a' b')
     unfolding ev
-    follows_or h k = record { by = λ v l g g' t.
-        rel_bind (h.by v l g g' t) (λ v2 l2 x y q. rel_plain (rel_pick K (truthy x) (truthy y) (truthy_tied K q) (rel_ret x y q) (k.by v2 (later l l2) g g' (env_later l2 t)))) }
+    follows_or h k = record {
+      by = λ v l g g' t.
+          rel_bind (h.by v l g g' t) (λ v2 l2 x y q. rel_plain (rel_pick K (truthy x) (truthy y) (truthy_tied K q) (rel_ret x y q) (k.by v2 (later l l2) g g' (env_later l2 t))));
+    }
 
     pub follows_cond : {i i' : ℕ} {e e' a a' b b' : Expr} → Follows c e e' → Follows c a a' → Follows c b b' → {p p' : Option Path} → FollowsRef c p p' (cond i e a b) (cond i' e' a' b')
     unfolding ev
-    follows_cond h k m = record { by = λ v l g g' t.
-        rel_bind (h.by v l g g' t) (λ v2 l2 x y q. rel_plain (rel_pick K (truthy x) (truthy y) (truthy_tied K q) (k.by v2 (later l l2) g g' (env_later l2 t)) (m.by v2 (later l l2) g g' (env_later l2 t)))) }
+    follows_cond h k m = record {
+      by = λ v l g g' t.
+          rel_bind (h.by v l g g' t) (λ v2 l2 x y q. rel_plain (rel_pick K (truthy x) (truthy y) (truthy_tied K q) (k.by v2 (later l l2) g g' (env_later l2 t)) (m.by v2 (later l l2) g g' (env_later l2 t))));
+    }
 
     pub follows_comma : {i i' : ℕ} {a a' b b' : Expr} → Follows c a a' → Follows c b b' → {p p' : Option Path} → FollowsRef c p p' (comma i a b) (comma i' a' b')
     unfolding ev
-    follows_comma h k = record { by = λ v l g g' t.
-        rel_bind (h.by v l g g' t) (λ v2 l2 x y q. rel_plain (k.by v2 (later l l2) g g' (env_later l2 t))) }
+    follows_comma h k = record {
+      by = λ v l g g' t.
+          rel_bind (h.by v l g g' t) (λ v2 l2 x y q. rel_plain (k.by v2 (later l l2) g g' (env_later l2 t)));
+    }
 
     pub follows_tick : (n : ℕ) {i i' : ℕ} {e e' : Expr} → FollowsRef c None None e e' → {p p' : Option Path} → FollowsRef c p p' (tick i n e) (tick i' n e')
     unfolding ev
@@ -259,18 +275,22 @@ module _ (K : Kit) (X : Below K) where
 
     pub follows_index : {i i' : ℕ} → SpotT (at_site i) (at_site i') → {e e' k k' : Expr} → Follows c e e' → BracketsT k k' → Follows c k k' → {p p' : Option Path} → FollowsRef c p p' (index i e k) (index i' e' k')
     unfolding ev
-    follows_index s h bt hk = record { by = λ v l g g' t.
-        rel_bind (h.by v l g g' t) (λ v2 l2 o o' q.
-        rel_brackets (later l l2) (env_later l2 t) s bt hk (λ v3 l3 a b kt.
-        rel_bind (rel_reference s no_path (val_later K l3 q) (kt o)) (λ v4 l4 r r' rt. rel_ret (access r) (access r') (access_t rt)))) }
+    follows_index s h bt hk = record {
+      by = λ v l g g' t.
+          rel_bind (h.by v l g g' t) (λ v2 l2 o o' q.
+          rel_brackets (later l l2) (env_later l2 t) s bt hk (λ v3 l3 a b kt.
+          rel_bind (rel_reference s no_path (val_later K l3 q) (kt o)) (λ v4 l4 r r' rt. rel_ret (access r) (access r') (access_t rt))));
+    }
 
     pub follows_call : {i i' : ℕ} → SpotT (at_site i) (at_site i') → {f f' : Expr} {es es' : Exprs} → FollowsRef c None None f f' → FollowsAll c es es' → {p p' : Option Path} → FollowsRef c p p' (call i f es) (call i' f' es')
     unfolding ev
-    follows_call s h k = record { by = λ v l g g' t.
-        rel_bind (h.by v l g g' t) (λ v2 l2 r r' q.
-        rel_bind (rel_callee_of K X (later l l2) q) (λ v3 l3 f f' ft.
-        rel_bind (k.by v3 (later l (later l2 l3)) g g' (env_later (later l2 l3) t)) (λ v4 l4 vs vs' vt.
-        rel_bind (rel_apply K X (later l (later l2 (later l3 l4))) s (callee_later K l4 ft) vt) (λ v5 l5 x y r. rel_ret (plain x) (plain y) (plain_t r))))) }
+    follows_call s h k = record {
+      by = λ v l g g' t.
+          rel_bind (h.by v l g g' t) (λ v2 l2 r r' q.
+          rel_bind (rel_callee_of K X (later l l2) q) (λ v3 l3 f f' ft.
+          rel_bind (k.by v3 (later l (later l2 l3)) g g' (env_later (later l2 l3) t)) (λ v4 l4 vs vs' vt.
+          rel_bind (rel_apply K X (later l (later l2 (later l3 l4))) s (callee_later K l4 ft) vt) (λ v5 l5 x y r. rel_ret (plain x) (plain y) (plain_t r)))));
+    }
 
     -- ---- what is written to
 
@@ -303,10 +323,12 @@ module _ (K : Kit) (X : Below K) where
 
     pub follows_assign : {i i' : ℕ} → SpotT (at_site i) (at_site i') → (op : Option BinOp) {u u' : Target} {e e' : Expr} → FollowsTarget (ReadsBy op) u u' → FollowsAs (V K) c (path_of_target u) (path_of_target u') e e' → {p p' : Option Path} → FollowsRef c p p' (assign i op u e) (assign i' op u' e')
     unfolding ev
-    follows_assign s op hu h = record { by = λ v l g g' t.
-        rel_bind (hu.by v l g g' t) (λ v2 l2 a b pt.
-        rel_bind (rel_updated (later l l2) (env_later l2 t) s op pt (λ u lu. h.by u (later l (later l2 lu)) g g' (env_later (later l2 lu) t))) (λ v3 l3 x y q.
-        rel_bind (rel_put_place (env_later (later l2 l3) t) (place_later K l3 pt) q) (λ v4 l4 _ _ _. rel_ret (plain x) (plain y) (plain_t (val_later K l4 q))))) }
+    follows_assign s op hu h = record {
+      by = λ v l g g' t.
+          rel_bind (hu.by v l g g' t) (λ v2 l2 a b pt.
+          rel_bind (rel_updated (later l l2) (env_later l2 t) s op pt (λ u lu. h.by u (later l (later l2 lu)) g g' (env_later (later l2 lu) t))) (λ v3 l3 x y q.
+          rel_bind (rel_put_place (env_later (later l2 l3) t) (place_later K l3 pt) q) (λ v4 l4 _ _ _. rel_ret (plain x) (plain y) (plain_t (val_later K l4 q)))));
+    }
 
     rel_stepped : {v : World} → Later w v → {g g' : Env} → EnvT c v g g' → {i i' : ℕ} → SpotT (at_site i) (at_site i') → (up prefix : Bool) {a b : Place} → PlaceV K (ReadT c) (WriteT c) v a b → Rel (V K) v (stepped J B g i up prefix a) (stepped J' B' g' i' up prefix b)
     unfolding stepped
@@ -330,24 +352,30 @@ module _ (K : Kit) (X : Below K) where
 
     pub target_member : {Reads : Ref → Ref → Type 0} {i i' : ℕ} → SpotT (at_site i) (at_site i') → {e e' : Expr} {q q' : ℕ} → PathT K (longer (path_of e) q) (longer (path_of e') q') → PropT q q' → Follows c e e' → FollowsTarget Reads (to_member i e q) (to_member i' e' q')
     unfolding ev
-    target_member s pt kt h = record { by = λ v l g g' t.
-        rel_bind (h.by v l g g' t) (λ v2 l2 o o' q.
-        rel_bind (rel_reference s pt q (kt.keys v2 (later l l2) o o' q)) (λ v3 l3 r r' rt. rel_ret (slot_place r) (slot_place r') (slot_t rt))) }
+    target_member s pt kt h = record {
+      by = λ v l g g' t.
+          rel_bind (h.by v l g g' t) (λ v2 l2 o o' q.
+          rel_bind (rel_reference s pt q (kt.keys v2 (later l l2) o o' q)) (λ v3 l3 r r' rt. rel_ret (slot_place r) (slot_place r') (slot_t rt)));
+    }
 
     pub target_index : {Reads : Ref → Ref → Type 0} {i i' : ℕ} → SpotT (at_site i) (at_site i') → {e e' k k' : Expr} → Follows c e e' → BracketsT k k' → Follows c k k' → FollowsTarget Reads (to_index i e k) (to_index i' e' k')
     unfolding ev
-    target_index s h bt hk = record { by = λ v l g g' t.
-        rel_bind (h.by v l g g' t) (λ v2 l2 o o' q.
-        rel_brackets (later l l2) (env_later l2 t) s bt hk (λ v3 l3 a b kt.
-        rel_bind (rel_reference s no_path (val_later K l3 q) (kt o)) (λ v4 l4 r r' rt. rel_ret (slot_place r) (slot_place r') (slot_t rt)))) }
+    target_index s h bt hk = record {
+      by = λ v l g g' t.
+          rel_bind (h.by v l g g' t) (λ v2 l2 o o' q.
+          rel_brackets (later l l2) (env_later l2 t) s bt hk (λ v3 l3 a b kt.
+          rel_bind (rel_reference s no_path (val_later K l3 q) (kt o)) (λ v4 l4 r r' rt. rel_ret (slot_place r) (slot_place r') (slot_t rt))));
+    }
 
     -- ---- `new`, `delete`, casts
 
     pub follows_new : {i i' : ℕ} → SpotT (at_site i) (at_site i') → {f f' : Expr} {es es' : Exprs} → Follows c f f' → FollowsAll c es es' → {p p' : Option Path} → FollowsRef c p p' (new i f es) (new i' f' es')
     unfolding ev
-    follows_new s h k = record { by = λ v l g g' t.
-        rel_bind (h.by v l g g' t) (λ v2 l2 x y q.
-        rel_bind (k.by v2 (later l l2) g g' (env_later l2 t)) (λ v3 l3 vs vs' r. rel_plain (rel_construct K X (later l (later l2 l3)) s (val_later K l3 q) r))) }
+    follows_new s h k = record {
+      by = λ v l g g' t.
+          rel_bind (h.by v l g g' t) (λ v2 l2 x y q.
+          rel_bind (k.by v2 (later l l2) g g' (env_later l2 t)) (λ v3 l3 vs vs' r. rel_plain (rel_construct K X (later l (later l2 l3)) s (val_later K l3 q) r)));
+    }
 
     rel_delete_at : {v : World} {i i' : ℕ} → SpotT (at_site i) (at_site i') → {a b : Reach} → ReachV K v a b → Rel (V K) v (delete_at J i a) (delete_at J' i' b)
     unfolding delete_at

@@ -1,20 +1,20 @@
 -- Acts that are judged by their own parts alone, and what the operators of the language come to.
-use Rattle.std.proofs.Common.{◌≡◌, refl, sym, ap, ◌∙◌, ℕ, Bool, true, false, List, [], ◌∷◌, Option, Some, None, subst}
+use Rattle.std.proofs.Common.{◌≡◌, refl, ℕ, Bool, true, false, List, [], ◌∷◌, Option, Some, None, subst}
 use Rattle.cc_ast.specs.Syntax.{Prim, undefined, null, truth, whole, text}
 use Rattle.cc_ast.specs.declared.operator.BinOp.{BinOp}
-use Rattle.cc_ast.specs.declared.operator.BinOp.TheVariants.{Add, Sub, Mul, Div, Rem, BitAnd, BitXor, BitOr, Shl, Shr, UShr, Less, Greater, LessEq, GreaterEq, NotEqual, Strict, NotStrict, Instance, Has}
+use Rattle.cc_ast.specs.declared.operator.BinOp.TheVariants.{Instance, Has}
 use Rattle.cc_ast.specs.declared.operator.UnOp.{UnOp}
-use Rattle.cc_ast.specs.declared.operator.UnOp.TheVariants.{Minus, Plus, BitNot, Not, Void, Typeof, Delete}
+use Rattle.cc_ast.specs.declared.operator.UnOp.TheVariants.{Typeof}
 use Rattle.cc_meaning.specs.Values.{Val, prim, obj, out, Spot}
-use Rattle.cc_meaning.specs.Operators.{Outcome, gives, breaks, strict_equal, binary_of, unary_of, object_unary, key_text, object_binary}
-use Rattle.cc_meaning.specs.Monad.{M, ret, skip, stop, ◌>>=◌, Mode}
+use Rattle.cc_meaning.specs.Operators.{Outcome, binary_of, unary_of, key_text}
+use Rattle.cc_meaning.specs.Monad.{M, ret, skip}
 use Rattle.cc_meaning.specs.Store.{Access, runtime}
-use Rattle.cc_meaning.specs.SlotRules.{rule_unless, rule_if, remove_rule, probe_rule, walk_rule, write_rule}
-use Rattle.cc_meaning.specs.Rules.{Op, callee_rule, this_rule, host_rule, names_well, operate_rule, binary_rule, unary_rule, outcome_rule, has_rule, is_key, unary_op, binary_op}
-use Rattle.cc_meaning.specs.Judge.{Act, operates, reads, writes, removes, probes, walks, calls, hosts, calls_inner, answers_with, reads_this, least_broken}
-use Rattle.cc_meaning.specs.Acts.{judged, allowed, refused, is_fatal, reading, remove, probe, walk, operate, operate_one, outcome_value, runtime_key, key_given, read_this, instance_value, object_type, names_of, is_there, key_name}
+use Rattle.cc_meaning.specs.SlotRules.{rule_unless, remove_rule, probe_rule, walk_rule, write_rule}
+use Rattle.cc_meaning.specs.Rules.{Op, callee_rule, this_rule, operate_rule, binary_rule, unary_rule, outcome_rule, has_rule, is_key, unary_op, binary_op}
+use Rattle.cc_meaning.specs.Judge.{Act, operates, writes, calls, calls_inner, answers_with, least_broken}
+use Rattle.cc_meaning.specs.Acts.{judged, allowed, refused, is_fatal, remove, probe, walk, operate, operate_one, outcome_value, runtime_key, key_given, read_this, key_name}
 use Rattle.cc_meaning.specs.Builtins.{or_undefined}
-use Rattle.cc_tied.specs.Tied.{ListT, OptT, none_t, some_t, ValT, prim_t, out_t, obj_t, RuntimeT, runtime_t}
+use Rattle.cc_tied.specs.Tied.{none_t, some_t, prim_t, out_t, obj_t, RuntimeT, runtime_t}
 use Rattle.cc_tied.proofs.Kit.{Kit}
 use Rattle.cc_tied.proofs.Parts.{V, OptV, Done, Equal, val_later}
 use Rattle.cc_tied.proofs.Outcomes.{OutcomeT, gives_t, breaks_t, binary_tied, unary_tied, key_text_tied}

@@ -1,21 +1,20 @@
 -- What a relation between runs owes, so that programs keep it.
-use Rattle.std.proofs.Common.{◌≡◌, ℕ, suc, ◌≤◌, Bool, true, false, List, [], ◌∷◌, Option, Some, None}
-use Rattle.std.specs.Prelude.{slice_get}
+use Rattle.std.proofs.Common.{◌≡◌, ℕ, suc, ◌≤◌, Bool, false, List, [], ◌∷◌, Option, Some, None}
 use Rattle.cc_ast.specs.Syntax.{Prim, undefined}
 use Rattle.cc_ast.specs.declared.operator.BinOp.TheVariants.{Instance}
 use Rattle.cc_ast.specs.declared.operator.UnOp.TheVariants.{Typeof}
 use Rattle.cc_ast.specs.declared.tree.Ref.{Ref}
-use Rattle.cc_meaning.specs.Values.{Val, prim, obj, out, View, handle, Event, Spot, at_site, at_turn}
+use Rattle.cc_meaning.specs.Values.{Val, prim, obj, out, View, Event, Spot, at_turn}
 use Rattle.cc_meaning.specs.Operators.{strict_equal}
 use Rattle.cc_meaning.specs.State.{keyed_kind, of_catch, Code, Env, Tables}
 use Rattle.cc_meaning.specs.Monad.{told, M, ret, skip, raise, stop, say, ◌>>=◌, Way, attempt, pay, with_budget, with_tables, Mode}
-use Rattle.cc_meaning.specs.Store.{Access, dotted, quoted, runtime, name_of, kind_by, Use}
+use Rattle.cc_meaning.specs.Store.{Access, quoted, runtime, name_of, kind_by, Use}
 use Rattle.cc_meaning.specs.Judge.{reads, writes, calls, hosts}
 use Rattle.cc_meaning.specs.Acts.{judged, changing, make_object, make_array, make_instance, make_function, push_frame, read_var, write_var, read_slot, write_slot, remove, probe, walk, operate, operate_one, cast_to, show, next_reply, was_given, all_given, viewed}
 use Rattle.cc_meaning.specs.Calls.{Bodies, code_at, method_on, prim_member, declares_on, views, call_object, take_path, keep_path, use_built}
 use Rattle.cc_meaning.specs.Meaning.{call_frame}
 use Rattle.cc_meaning.specs.Script.{top, note_end}
-use Rattle.cc_tied.specs.Tied.{ListT, OptT, ValT, WayT, Sited, CodeT, CastT, built_of, entering, leaving, loading}
+use Rattle.cc_tied.specs.Tied.{ListT, OptT, ValT, WayT, Sited, CodeT, built_of, entering, leaving, loading}
 
 pub record Kit : Type 1 where
   -- how the left run and the right run are judged, and the tables of their programs
@@ -23,7 +22,6 @@ pub record Kit : Type 1 where
   pub J' : Mode
   pub tables : Tables
   pub tables' : Tables
-
   -- ---- worlds: what is known of two states, and what stays known
 
   pub World : Type 0
@@ -35,7 +33,6 @@ pub record Kit : Type 1 where
   pub bound' : World → ℕ
   pub bound_later : {v w : World} → Later v w → bound w ≤ bound v
   pub bound_later' : {v w : World} → Later v w → bound' w ≤ bound' v
-
   -- ---- what is tied by its place in the two programs alone
 
   -- where a part of a program stands: in a chunk's own list, in the bodies of two functions, or in a catch clause there
@@ -61,7 +58,6 @@ pub record Kit : Type 1 where
   pub WrittenT : List ℕ → Type 0
   pub read_built : {c : Ctx} {r r' : Ref} → ReadT c r r' → built_of tables r ≡ built_of tables' r'
   pub declares_none : DeclaresT None None
-
   -- ---- what is tied in a world
 
   -- objects; objects that a literal has just made; codes of two function objects
@@ -87,7 +83,6 @@ pub record Kit : Type 1 where
   pub env_top : {w : World} {c : ℕ} {d d' : Option ℕ} → LoadedT w c → DeclaresT d d' → EnvT (outer c) w (record top { declares = d }) (record top { declares = d' })
   pub env_this : {c : Ctx} {w : World} {g h : Env} → ThisT c → EnvT c w g h → OptT (ValT (O w)) g.this h.this
   pub env_declares : {c : Ctx} {w : World} {g h : Env} → EnvT c w g h → DeclaresT g.declares h.declares
-
   -- ---- runs
 
   pub Rel : {A B : Type 0} → (World → A → B → Type 0) → World → M A → M B → Type 0
@@ -107,7 +102,6 @@ pub record Kit : Type 1 where
   pub rel_given : {A B : Type 0} {R : World → A → B → Type 0} {w : World} {m : M A} (b : B) → Rel R w m (ret b) → Rel (λ v x y. R v x y × (y ≡ b)) w m (ret b)
   -- tied objects are one to one
   pub rel_equal : {A B : Type 0} {R : World → A → B → Type 0} {w : World} {m : M A} {m' : M B} {a b x y : Val} → ValT (O w) a b → ValT (O w) x y → (strict_equal a x ≡ strict_equal b y → Rel R w m m') → Rel R w m m'
-
   -- ---- objects
 
   pub rel_object : {w : World} → Rel NewT w make_object make_object
@@ -127,14 +121,12 @@ pub record Kit : Type 1 where
   pub rel_method_read : {w : World} {x y : Val} {a b : Access} {i i' : Spot} → SpotT i i' → ValT (O w) x y → KeyT w x a b → Rel (λ v p q. Unit {0}) w (judged J i (reads x a) skip) (judged J' i' (reads y b) skip)
   -- a use of what is built in, which may call
   pub rel_use : {w : World} {vs vs' : List Val} {i i' : Spot} (B B' : Bodies) → SpotT i i' → (u : Use) → ListT (ValT (O w)) vs vs' → ((m n : ℕ) (x y : Val) (us us' : List Val) → O w m n → ValT (O w) x y → ListT (ValT (O w)) us us' → Rel (λ v. ValT (O v)) w (call_object J B i m (Some x) us) (call_object J' B' i' n (Some y) us')) → Rel (λ v. ValT (O v)) w (use_built J B i u vs) (use_built J' B' i' u vs')
-
   -- ---- values that are no objects of the program
 
   pub rel_prim_read : {w : World} {p : Prim} {a b : Access} {i i' : Spot} → SpotT i i' → KeyT w (prim p) a b → Rel (λ v. ValT (O v)) w (judged J i (reads (prim p) a) (with_tables (λ T. ret (prim_member p (name_of T a))))) (judged J' i' (reads (prim p) b) (with_tables (λ T. ret (prim_member p (name_of T b)))))
   -- where the access breaks no rule, the outside sees one name
   pub rel_out_read : {A B : Type 0} {R : World → A → B → Type 0} {w : World} {n : ℕ} {a b : Access} {m : M A} {m' : M B} {i i' : Spot} → SpotT i i' → KeyT w (out n) a b → (name_of tables a ≡ name_of tables' b → Rel R w m m') → Rel R w (judged J i (reads (out n) a) m) (judged J' i' (reads (out n) b) m')
   pub rel_out_write : {A B : Type 0} {R : World → A → B → Type 0} {w : World} {n : ℕ} {a b : Access} {m : M A} {m' : M B} {i i' : Spot} (x y : Val) (d d' : Bool) → SpotT i i' → KeyT w (out n) a b → (name_of tables a ≡ name_of tables' b → Rel R w m m') → Rel R w (judged J i (writes (out n) a x d) m) (judged J' i' (writes (out n) b y d') m')
-
   -- ---- variables, frames, flat paths, casts
 
   pub rel_read_var : {c : Ctx} {w : World} {g h : Env} {r r' : Ref} {i i' : Spot} → SpotT i i' → EnvT c w g h → ReadT c r r' → Rel (λ v. ValT (O v)) w (read_var J i g r) (read_var J' i' h r')
@@ -144,14 +136,12 @@ pub record Kit : Type 1 where
   pub rel_take_path : {w : World} {p p' : ℕ × ℕ} {x y : Val} {a b : Access} {i i' : Spot} → SpotT i i' → FlatT p p' → ValT (O w) x y → KeyT w x a b → Rel (λ v m n. Unit {0}) w (take_path J i (Some p) x a) (take_path J' i' (Some p') y b)
   pub rel_keep_path : {w : World} {p p' : ℕ × ℕ} {x y : Val} {i i' : Spot} → SpotT i i' → FlatT p p' → ValT (O w) x y → Rel (λ v m n. Unit {0}) w (keep_path J i (Some p) x) (keep_path J' i' (Some p') y)
   pub rel_cast : {w : World} {d d' : ℕ} {x y : Val} {i i' : Spot} → SpotT i i' → DocT d d' → ValT (O w) x y → Rel (λ v m n. Unit {0}) w (cast_to J i d x) (cast_to J' i' d' y)
-
   -- ---- calls
 
   -- a call of a function object, which goes on with its code
   pub rel_runs : {A B : Type 0} {R : World → A → B → Type 0} {w : World} {m n : ℕ} {i i' : Spot} (k : Option Code → M A) (k' : Option Code → M B) → SpotT i i' → O w m n → ((a b : Code) → RunsT w m n a b → Rel R w (k (Some a)) (k' (Some b))) → Rel R w (judged J i (calls (obj m)) (λ s. k (code_at s m) s)) (judged J' i' (calls (obj n)) (λ s. k' (code_at s n) s))
   pub rel_enters : {w : World} {a b : Code} {t t' : Option Val} {vs vs' : List Val} {i i' : Spot} → SpotT i i' → CodeT SpotT FunT (UpT w) a b → OptT (ValT (O w)) t t' → ListT (ValT (O w)) vs vs' → Rel (λ v m n. Unit {0}) w (entering J i a.function t vs) (entering J' i' b.function t' vs')
   pub rel_leaves : {w : World} {f f' : ℕ} {x y : Val} {i i' : Spot} → SpotT i i' → FunT f f' → (built : Bool) → ValT (O w) x y → Rel (λ v m n. Unit {0}) w (leaving J i f built x) (leaving J' i' f' built y)
-
   -- ---- the outside
 
   pub rel_show : {w : World} {x y : Val} → ValT (O w) x y → Rel (λ v p q. p ≡ q) w (show x) (show y)

@@ -1,5 +1,5 @@
 -- Runs one after another, whatever their brackets.
-use Rattle.std.proofs.Common.{◌≡◌, ℕ, List, [], ◌∷◌, ◌++◌, refl, ap, append_assoc}
+use Rattle.std.proofs.Common.{◌≡◌, List, [], ◌∷◌, ◌++◌, refl, ap, append_assoc}
 use Rattle.cc_meaning.specs.Values.{Val}
 use Rattle.cc_meaning.specs.Monad.{Said, End, Res, ok, threw, over, M, ret, raise, stop, said, after, ◌>>=◌, with_tables}
 use Rattle.cc_meaning.specs.State.{Tables}

@@ -1,15 +1,15 @@
 -- Operators give primitive values, and of tied operands the same ones.
-use Rattle.std.proofs.Common.{◌≡◌, refl, sym, ap, ℕ, zero, suc, ◌*◌, ◌/◌, ◌%◌, Bool, true, false, List, [], ◌∷◌, ◌++◌, Option, Some, None, subst}
+use Rattle.std.proofs.Common.{◌≡◌, refl, ℕ, zero, suc, ◌*◌, ◌/◌, ◌%◌, Bool, true, false, Option, Some, None, subst}
 use Rattle.std.specs.Prelude.{ℤ, pos, negsuc, ◌+ℤ◌, ◌-ℤ◌, unsigned_abs, nat_eq, not, if◌then◌else◌}
 use Rattle.std.specs.Int.{is_negative}
-use Rattle.cc_ast.specs.Syntax.{Prim, undefined, null, truth, whole, text}
+use Rattle.cc_ast.specs.Syntax.{Prim, whole, text}
 use Rattle.cc_ast.specs.declared.operator.BinOp.{BinOp}
 use Rattle.cc_ast.specs.declared.operator.BinOp.TheVariants.{Add, Sub, Mul, Div, Rem, BitAnd, BitXor, BitOr, Shl, Shr, UShr, Less, Greater, LessEq, GreaterEq, NotEqual, Strict, NotStrict, Instance, Has}
 use Rattle.cc_ast.specs.declared.operator.BinOp.TheVariants as B
 use Rattle.cc_ast.specs.declared.operator.UnOp.{UnOp}
-use Rattle.cc_ast.specs.declared.operator.UnOp.TheVariants.{Minus, Plus, BitNot, Not, Void, Typeof, Delete}
-use Rattle.cc_meaning.specs.Values.{Val, prim, obj, out}
-use Rattle.cc_meaning.specs.Operators.{Outcome, gives, breaks, is_exact, signs_differ, number, with_sign, divide_sizes, rest_of_sizes, from_bits32, whole_binary, on_wholes, answer, answer_of, answer_not, add_prims, prim_binary, object_binary, unlike_objects, prim_with_object, binary_of, whole_unary, on_whole, prim_unary, object_unary, unary_of, strict_equal, key_text}
+use Rattle.cc_ast.specs.declared.operator.UnOp.TheVariants.{Minus, Plus, BitNot, Not, Void, Typeof}
+use Rattle.cc_meaning.specs.Values.{Val, prim}
+use Rattle.cc_meaning.specs.Operators.{Outcome, gives, breaks, is_exact, signs_differ, number, with_sign, divide_sizes, rest_of_sizes, from_bits32, whole_binary, on_wholes, answer_of, answer_not, add_prims, prim_binary, object_binary, unlike_objects, prim_with_object, binary_of, whole_unary, on_whole, prim_unary, object_unary, unary_of, strict_equal, key_text}
 use Rattle.cc_tied.specs.Tied.{ValT, prim_t, out_t, obj_t}
 
 -- one outcome, which isn't an object

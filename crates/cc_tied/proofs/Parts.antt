@@ -1,14 +1,13 @@
 -- What follows of a kit at once: ties stay, and parts of the meaning that judge nothing keep them.
-use Rattle.std.proofs.Common.{◌≡◌, refl, sym, ap, ℕ, suc, ◌≤◌, Bool, true, false, List, [], ◌∷◌, ◌++◌, Option, Some, None, subst}
-use Rattle.cc_ast.specs.Syntax.{Prim, undefined, null, truth, whole, text}
+use Rattle.std.proofs.Common.{◌≡◌, refl, ap, ℕ, suc, ◌≤◌, Bool, true, false, List, [], ◌∷◌, ◌++◌, Option, subst}
+use Rattle.cc_ast.specs.Syntax.{Prim}
 use Rattle.cc_ast.specs.declared.tree.Ref.{Ref}
-use Rattle.std.specs.Prelude.{ℤ, pos, negsuc, zero}
 use Rattle.cc_meaning.specs.Values.{Val, prim, obj, out, View, Event, ended, threw}
 use Rattle.cc_meaning.specs.Operators.{truthy}
 use Rattle.cc_meaning.specs.State.{Code, Path}
 use Rattle.cc_meaning.specs.Monad.{told, M, ret, say, ◌>>=◌, Way, pick}
-use Rattle.cc_meaning.specs.Store.{Access, flat_of}
-use Rattle.cc_meaning.specs.Acts.{show, show_all, show_receiver}
+use Rattle.cc_meaning.specs.Store.{flat_of}
+use Rattle.cc_meaning.specs.Acts.{show_all, show_receiver}
 use Rattle.cc_meaning.specs.Calls.{Reference, Reach, Callee, Returned, Bodies, tell_end}
 use Rattle.cc_meaning.specs.Meaning.{Comp, Place}
 use Rattle.cc_tied.specs.Tied.{ListT, nil_t, cons_t, OptT, none_t, some_t, ValT, prim_t, out_t, obj_t, WayT, went_t, thrown_t, CompT, normal_t, returns_t, breaks_t, continues_t, ReturnedT, CodeT, CastT, ReferenceT, ReachT, plain_t, access_t, global_t, member_t, CalleeT, value_t, use_t, PlaceT, variable_t, slot_t}

@@ -1,8 +1,8 @@
 -- Whole runs of two programs under one script, from tied starts.
-use Rattle.std.proofs.Common.{◌≡◌, refl, ap, ℕ, ◌≤◌, List, arith, ◌⊎◌, inl, inr}
+use Rattle.std.proofs.Common.{◌≡◌, ℕ, List, arith, ◌⊎◌, inl, inr}
 use Rattle.cc_ast.specs.Syntax.{Program}
-use Rattle.cc_meaning.specs.Values.{Event, Spot}
-use Rattle.cc_meaning.specs.Monad.{End, broken, Res, ok, threw, over, seen}
+use Rattle.cc_meaning.specs.Values.{Event}
+use Rattle.cc_meaning.specs.Monad.{End, Res}
 use Rattle.cc_meaning.specs.Script.{Script, IsFollowing, graph_of, Finish, finished, stopped, finish, start, raw, run}
 use Rattle.cc_meaning.specs.Same.{IsBroken, is_broken}
 use Rattle.cc_tied.proofs.Kit.{Kit}

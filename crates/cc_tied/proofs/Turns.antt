@@ -1,22 +1,22 @@
 -- The bodies of functions to any depth, the chunks' own lists and the turns of a script keep a relation.
 use Rattle.std.proofs.Common.{◌≡◌, refl, ap, ℕ, zero, suc, ◌≤◌, Bool, true, false, List, [], ◌∷◌, Option, Some, None, arith}
 use Rattle.std.specs.Prelude.{slice_get, IsTrue, ◌&&◌, length, pos}
-use Rattle.cc_ast.specs.Syntax.{Prim, undefined, null, truth, whole, text, Stmt, Stmts, no_stmts, more_stmts, Program}
-use Rattle.cc_meaning.specs.Values.{Val, prim, obj, out, View, handle, shown_out, got, put, Spot, at_turn}
+use Rattle.cc_ast.specs.Syntax.{Prim, undefined, whole, text, Stmt, Stmts, no_stmts, more_stmts, Program}
+use Rattle.cc_meaning.specs.Values.{Val, prim, out, View, handle, shown_out, got, put, Spot}
 use Rattle.cc_meaning.specs.Operators.{list_eq}
 use Rattle.cc_meaning.specs.Names.{name_length, name_proto}
-use Rattle.cc_meaning.specs.State.{keyed_kind, Code, Env, Inner}
-use Rattle.cc_meaning.specs.Monad.{M, ret, skip, ◌>>=◌, Way, attempt, pick, Mode}
+use Rattle.cc_meaning.specs.State.{keyed_kind, Inner}
+use Rattle.cc_meaning.specs.Monad.{M, ret, skip, ◌>>=◌, Way, attempt, pick}
 use Rattle.cc_meaning.specs.Store.{quoted, name_of}
-use Rattle.cc_meaning.specs.Judge.{Act, hosts, reads, writes, least_broken}
+use Rattle.cc_meaning.specs.Judge.{hosts, reads, writes, least_broken}
 use Rattle.cc_meaning.specs.Rules.{host_rule, names_well}
 use Rattle.cc_meaning.specs.SlotRules.{rule_unless, rule_if, least, read_rule, write_rule, prim_read, outside_rule, slot_rule, is_dotted}
-use Rattle.cc_meaning.specs.Acts.{judged, allowed, refused, is_fatal, show}
+use Rattle.cc_meaning.specs.Acts.{judged, allowed, refused, is_fatal}
 use Rattle.cc_meaning.specs.Shapes.{declared_by, body_of}
-use Rattle.cc_meaning.specs.Calls.{Bodies, tell_end, views, prim_member, get_on, put_on}
-use Rattle.cc_meaning.specs.Meaning.{result, hoist, ex_chunk, bodies}
+use Rattle.cc_meaning.specs.Calls.{tell_end, views, prim_member, get_on, put_on}
+use Rattle.cc_meaning.specs.Meaning.{result, ex_chunk, bodies}
 use Rattle.cc_meaning.specs.Script.{Graph, may_load, follows_from, Turn, load, call, get, set, top, run_chunk, load_chunk, call_at, call_handle, get_handle, set_handle, turn, turns_from}
-use Rattle.cc_tied.specs.Tied.{ValT, cons_t, some_t, prim_t, out_t, obj_t, went_t, thrown_t, LoadsT, no_turns, load_turn, call_turn, get_turn, set_turn}
+use Rattle.cc_tied.specs.Tied.{ValT, some_t, prim_t, out_t, obj_t, went_t, thrown_t, LoadsT, no_turns, load_turn, call_turn, get_turn, set_turn}
 use Rattle.cc_tied.proofs.Kit.{Kit}
 use Rattle.cc_tied.proofs.Parts.{V, ListV, EndV, CompV, Done, BodiesT, Below, val_later, code_later, rel_skip, rel_tell, rel_tell_end}
 use Rattle.cc_tied.proofs.Judged.{rel_allowed, rel_prim_write}
@@ -65,13 +65,15 @@ module _ (K : Kit) where
     bodies_tied zero w d d' le ld ld' = record { by = λ v l less less' a b ct t t' vs vs' tt' vt. absurd (omega (arith, le, less)) }
     bodies_tied (suc n) w zero d' le ld ld' = record { by = λ v l less less' a b ct t t' vs vs' tt' vt. absurd (omega (arith, ld, less)) }
     bodies_tied (suc n) w (suc d) zero le ld ld' = record { by = λ v l less less' a b ct t t' vs vs' tt' vt. absurd (omega (arith, ld', less')) }
-    bodies_tied (suc n) w (suc d) (suc d') le ld ld' = record { by = λ v l less less' a b ct t t' vs vs' tt' vt.
-        rel_bind (rel_frame ct tt' vt) (λ v2 l2 m m' et.
-        let all : AllBodiesT P Q v2 = λ u e e' ub ue ue'. bodies_tied n u e e' (omega (arith, le, less, ub, bound_later l2)) ue ue' in
-        let ld2 : bound v2 ≤ d = omega (arith, ld, less, bound_later l2) in
-        let ld2' : bound' v2 ≤ d' = omega (arith, ld', less', bound_later' l2) in
-        let body : FollowsBody K (below_of P Q d d' v2 (all v2 d d' (omega arith) ld2 ld2')) (inside a.function b.function) (body_of P a.function) (body_of Q b.function) = h.parts a.function b.function d d' ct.function v2 ld2 ld2' all (all v2 d d' (omega arith) ld2 ld2') in
-        rel_bind (rel_bind (body.hoist.by v2 (now v2) _ _ et) (λ v3 l3 _ _ _. body.runs.by v3 l3 _ _ (env_later l3 et) [])) (λ v4 l4 x y r. rel_ret (result a x) (result b y) (result_tied K (code_later K (later l2 l4) ct) r))) }
+    bodies_tied (suc n) w (suc d) (suc d') le ld ld' = record {
+      by = λ v l less less' a b ct t t' vs vs' tt' vt.
+          rel_bind (rel_frame ct tt' vt) (λ v2 l2 m m' et.
+          let all : AllBodiesT P Q v2 = λ u e e' ub ue ue'. bodies_tied n u e e' (omega (arith, le, less, ub, bound_later l2)) ue ue' in
+          let ld2 : bound v2 ≤ d = omega (arith, ld, less, bound_later l2) in
+          let ld2' : bound' v2 ≤ d' = omega (arith, ld', less', bound_later' l2) in
+          let body : FollowsBody K (below_of P Q d d' v2 (all v2 d d' (omega arith) ld2 ld2')) (inside a.function b.function) (body_of P a.function) (body_of Q b.function) = h.parts a.function b.function d d' ct.function v2 ld2 ld2' all (all v2 d d' (omega arith) ld2 ld2') in
+          rel_bind (rel_bind (body.hoist.by v2 (now v2) _ _ et) (λ v3 l3 _ _ _. body.runs.by v3 l3 _ _ (env_later l3 et) [])) (λ v4 l4 x y r. rel_ret (result a x) (result b y) (result_tied K (code_later K (later l2 l4) ct) r)));
+    }
 
   -- ---- chunks
 
@@ -88,8 +90,10 @@ module _ (K : Kit) where
 
     pub follows_more_chunk : {c : ℕ} {s s' : Stmt} {ss ss' : Stmts} → DeclaresT (declared_by tables s) (declared_by tables' s') → FollowsStmt K X (outer c) s s' → FollowsChunk c ss ss' → FollowsChunk c (more_stmts s ss) (more_stmts s' ss')
     unfolding ex_chunk
-    follows_more_chunk d h k = record { by = λ v l q.
-        rel_bind (rel_tables _ _ (h.by v l _ _ (env_top q d) [])) (λ v2 l2 a b r. rel_next K r (k.by v2 (later l l2) (loaded_later l2 q))) }
+    follows_more_chunk d h k = record {
+      by = λ v l q.
+          rel_bind (rel_tables _ _ (h.by v l _ _ (env_top q d) [])) (λ v2 l2 a b r. rel_next K r (k.by v2 (later l l2) (loaded_later l2 q)));
+    }
 
     pub record ChunkT (P Q : Program) (c : ℕ) : Type 0 where
       pub hoist : FollowsHoist K X (outer c) (body_of P c) (body_of Q c)
