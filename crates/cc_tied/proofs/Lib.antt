@@ -19,3 +19,4 @@ pub mod EqualModes
 pub mod Reflexive
 pub mod EqualRuns
 pub mod Erase
+pub mod Fatal
