@@ -20,3 +20,5 @@ pub mod Reflexive
 pub mod EqualRuns
 pub mod Erase
 pub mod Fatal
+pub mod Lists
+pub mod AlikeFrames
