@@ -22,3 +22,5 @@ pub mod Erase
 pub mod Fatal
 pub mod Lists
 pub mod AlikeFrames
+pub mod AlikeObjects
+pub mod AlikeTie
