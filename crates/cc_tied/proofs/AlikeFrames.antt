@@ -3,8 +3,8 @@ use Rattle.std.proofs.Common.{◌≡◌, ◌≢◌, ◌⊎◌, inl, inr, ℕ, ze
 use Rattle.std.specs.Prelude.{slice_get, slice_set}
 use Rattle.cc_meaning.specs.Values.{Val}
 use Rattle.cc_meaning.specs.State.{FrameKind, of_call, of_catch, of_own_name, Frame, Env, Tables}
-use Rattle.cc_meaning.specs.Store.{up_in, frame_up, frame_at, flat_option}
-use Rattle.cc_meaning.specs.Acts.{place_in, frames_with}
+use Rattle.cc_meaning.specs.Store.{up_in, frame_up, frame_at}
+use Rattle.cc_meaning.specs.Acts.{frames_with}
 use Rattle.cc_meaning.specs.Alike.{Paired, OneToOne, FramePair, call_pair, catch_pair, own_pair, Around, Numbering, Nth, PlaceA, in_call, in_catch, in_own}
 use Rattle.cc_meaning.specs.Alike as A
 use Rattle.cc_tied.proofs.Lists.{place_cases, get_old, get_new, get_set_same, get_set_other}
@@ -91,7 +91,7 @@ module _ (S T : Tables) (N : Numbering) where
   some_same : {l k : Label} → Some l ≡ Some k → {a b : Option Frame} → FrameAt l a b → FrameAt k a b
   some_same {l = l} {k = k} e {a = a} {b = b} h = let d : l ≡ k = cc in subst (λ z. FrameAt z a b) d h
 
-  frames_get : {ls : List Label} {fs gs : List Frame} → Frames ls fs gs → (i : ℕ) (l : Label) → slice_get ls i ≡ Some l → FrameAt l (slice_get fs i) (slice_get gs i)
+  pub frames_get : {ls : List Label} {fs gs : List Frame} → Frames ls fs gs → (i : ℕ) (l : Label) → slice_get ls i ≡ Some l → FrameAt l (slice_get fs i) (slice_get gs i)
   frames_get no_frames i l e = absurd (cc)
   frames_get (more_frames h t) zero l e = some_same e (frame_there h)
   frames_get (more_frames h t) (suc i) l e = frames_get t i l e
@@ -141,8 +141,8 @@ module _ (S T : Tables) (N : Numbering) where
       let r : Found w fs gs n k.0 k.0 p = walk_same h q k.0 k.2 in
       record { i = r.i; u = r.u; here = r.here; left = ap (λ z. frame_up n fs z) (ups_left (frames_get h i _ k.1)) ∙ r.left; right = ap (λ z. frame_up n gs z) (ups_right (frames_get h i _ k.1)) ∙ r.right }
 
-  pub walk : {w : List Label} {fs gs : List Frame} → Frames w fs gs → {p : FramePair} {n : ℕ} {c : Around} → Nth p n c → {g h : Env} → EnvA c w g h → Found w fs gs n g.at h.at p
-  walk {w = w} {fs = fs} {gs = gs} h {p = p} {n = n} q {g = g} e = subst (λ z. Found w fs gs n g.at z p) e.at (walk_same h q g.at e.chain)
+  pub find_frame : {w : List Label} {fs gs : List Frame} → Frames w fs gs → {p : FramePair} {n : ℕ} {c : Around} → Nth p n c → {g h : Env} → EnvA c w g h → Found w fs gs n g.at h.at p
+  find_frame {w = w} {fs = fs} {gs = gs} h {p = p} {n = n} q {g = g} e = subst (λ z. Found w fs gs n g.at z p) e.at (walk_same h q g.at e.chain)
 
   -- the two frames that are found
   pub frames_found : {w : List Label} {fs gs : List Frame} → Frames w fs gs → {n : ℕ} {at at' : Option ℕ} {p : FramePair} → (k : Found w fs gs n at at' p) → FrameAt (record { pair = p; up = k.u }) (frame_at fs (frame_up n fs at)) (frame_at gs (frame_up n gs at'))

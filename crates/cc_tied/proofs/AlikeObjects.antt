@@ -1,18 +1,18 @@
 -- Objects of two runs of alike programs: equal but for their classes, the kinds of their slots, what was entered for their elements, and the numbers of their functions.
-use Rattle.std.proofs.Common.{◌≡◌, ℕ, zero, suc, Bool, true, false, List, [], ◌∷◌, ◌++◌, length, map, Option, Some, None, is_some, refl, sym, ap, subst, ◌∙◌}
-use Rattle.std.specs.Prelude.{slice_get, slice_set, ◌&&◌, not}
-use Rattle.cc_ast.specs.Syntax.{Prim, undefined, null, truth, whole, text}
+use Rattle.std.proofs.Common.{◌≡◌, ℕ, zero, suc, Bool, true, false, List, [], ◌∷◌, ◌++◌, map, Option, Some, None, is_some, refl, sym, ap, subst, ◌∙◌}
+use Rattle.std.specs.Prelude.{slice_get}
+use Rattle.cc_ast.specs.Syntax.{Prim}
 use Rattle.cc_ast.specs.declared.tables.Element.{Element}
 use Rattle.cc_meaning.specs.Values.{Val, prim, obj, out}
 use Rattle.cc_meaning.specs.Operators.{list_eq}
-use Rattle.cc_meaning.specs.Names.{index_value, enumeration, name_prototype, name_call}
-use Rattle.cc_meaning.specs.Builtins.{ArrayUse, Arg, array_concat, array_method, concat_use}
+use Rattle.cc_meaning.specs.Names.{index_value, name_prototype}
+use Rattle.cc_meaning.specs.Builtins.{ArrayUse, array_concat, concat_use}
 use Rattle.cc_meaning.specs.State.{Kind, Slot, Code, Obj, State, Tables}
 use Rattle.cc_meaning.specs.Monad.{pick}
-use Rattle.cc_meaning.specs.Store.{find_slot, find_element, first_of, find_own, own_value, Found, found_value, array_found, built_here, found_here, found_at, found_on, chain_in, chain_of, look_up, names_of_elements, shown_names, own_names, fresh_names, names_on, set_slot, drop_slot, set_element, put_in_array, put_by, put_own, changed_at, Use, of_array, of_text, of_math, string_of_value, from_codes, create_object, has_own, call_with}
-use Rattle.cc_meaning.specs.Typed.{elements_in, entered_in, entered}
+use Rattle.cc_meaning.specs.Store.{find_slot, find_own, own_value, Found, built_here, found_here, found_at, found_on, chain_in, chain_of, look_up, own_names, fresh_names, names_on, set_slot, drop_slot, put_in_array, put_by, put_own, changed_at, Use, of_array, of_text, of_math, string_of_value, from_codes, create_object, has_own, call_with}
+use Rattle.cc_meaning.specs.Typed.{elements_in, entered_in}
 use Rattle.cc_meaning.specs.SlotRules.{has_slot, prototype_of_function}
-use Rattle.cc_meaning.specs.Built.{BuiltOutcome, as_arg, arg_of, args_of, array_result, from_result, put_in, on_array, on_code, on_function, outcome_of}
+use Rattle.cc_meaning.specs.Built.{as_arg, arg_of, args_of, array_result, from_result, put_in, on_array, on_code, on_function, outcome_of}
 use Rattle.cc_meaning.specs.Acts.{drop_own, object_type}
 use Rattle.cc_meaning.specs.Calls.{code_in, method_on, use_found}
 use Rattle.cc_meaning.specs.Alike.{Paired, call_pair, own_pair, Around, Numbering, owns}
@@ -97,7 +97,7 @@ module _ (S : Tables) (N : Numbering) where
 
     -- ---- what an object has
 
-    chain_same : {a b : Option Obj} → OptT (ObjA w) a b → chain_in a ≡ chain_in b
+    pub chain_same : {a b : Option Obj} → OptT (ObjA w) a b → chain_in a ≡ chain_in b
     unfolding chain_in
     chain_same none_t = refl
     chain_same (some_t h) = h.chain

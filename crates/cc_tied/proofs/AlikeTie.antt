@@ -1,26 +1,26 @@
 -- The tie of alike programs' plain runs: equal stores, up to what alike programs may differ in.
-use Rattle.std.proofs.Common.{◌≡◌, ℕ, zero, suc, ◌≤◌, ◌-◌, Bool, true, false, List, [], ◌∷◌, ◌++◌, length, map, Option, Some, None, is_some, refl, sym, ap, subst, ◌∙◌, append-nil, arith}
-use Rattle.std.specs.Prelude.{slice_get, nat_eq}
+use Rattle.std.proofs.Common.{◌≡◌, ℕ, zero, suc, Bool, true, false, List, [], ◌∷◌, map, Option, Some, None, refl, sym, ap, subst, ◌∙◌, append-nil, arith}
+use Rattle.std.specs.Prelude.{slice_get}
 use Rattle.cc_ast.specs.Syntax.{Program}
 use Rattle.cc_ast.specs.declared.tree.Ref.{Ref}
 use Rattle.cc_ast.specs.declared.tables.GlobalInfo.{GlobalInfo}
 use Rattle.cc_ast.specs.declared.tables.TypeSet.{TypeSet}
 use Rattle.cc_ast.specs.declared.tables.Element.{Element}
 use Rattle.cc_meaning.specs.Values.{Val, prim, obj, out, Spot}
-use Rattle.cc_meaning.specs.State.{Code, Env, Obj, Reply, State, Tables}
-use Rattle.cc_meaning.specs.Monad.{spent, waits, strayed, End, paid, M, Res, ok, over, ret, skip, said, after, ◌>>=◌, with_tables, pick}
-use Rattle.cc_meaning.specs.Store.{Access, name_of, runtime, quoted, Global, without_chunk, chunk_in, global_by, global_kind, change}
+use Rattle.cc_meaning.specs.State.{Obj, Reply, State, Tables}
+use Rattle.cc_meaning.specs.Monad.{spent, waits, strayed, End, paid, M, ok, ret, skip, said, after, ◌>>=◌, with_tables}
+use Rattle.cc_meaning.specs.Store.{Access, name_of, runtime, quoted, without_chunk, chunk_in, global_kind, change}
 use Rattle.cc_meaning.specs.Typed.{entered_in}
 use Rattle.cc_meaning.specs.Judge.{Act, least_broken}
 use Rattle.cc_meaning.specs.Acts.{judged, changing, enter_element, receive, receive_all, receive_each}
 use Rattle.cc_meaning.specs.Shapes.{tables_of, without_paths, plain_tables}
-use Rattle.cc_meaning.specs.Script.{plain, top}
+use Rattle.cc_meaning.specs.Script.{plain}
 use Rattle.cc_meaning.specs.Alike.{Paired, OneToOne, FramePair, call_pair, catch_pair, own_pair, Around, Numbering, Alike, RefA, frame_a, global_a, FunA, owns}
 use Rattle.cc_meaning.specs.Alike as A
-use Rattle.cc_tied.specs.Tied.{ListT, nil_t, cons_t, OptT, ValT, CodeT, built_at, built_of}
+use Rattle.cc_tied.specs.Tied.{ListT, built_at, built_of}
 use Rattle.cc_tied.proofs.Laws.{said_none}
-use Rattle.cc_tied.proofs.Sim.{Tie, World, Later, now, ResT, ok_t, over_t, Sim, fine, PayT, both_pay, neither, FaultT, both_fault, sim_bind, sim_ret}
-use Rattle.cc_tied.proofs.Equal.{Eq, refl_val, refl_list, val_as, opt_as, numbers_as, once}
+use Rattle.cc_tied.proofs.Sim.{Tie, World, ResT, over_t, Sim, fine, PayT, both_pay, neither, both_fault}
+use Rattle.cc_tied.proofs.Equal.{val_as, opt_as, numbers_as, once}
 use Rattle.cc_tied.proofs.Fatal.{stops, decide, judged_plain}
 use Rattle.cc_tied.proofs.AlikeFrames.{Label, Chain, EnvA, Grows, grows_on, chain_later, env_grows, Frames}
 use Rattle.cc_tied.proofs.AlikeObjects.{beyond, CodeA, ObjA, entered_left, entered_right, objs_left, objs_right}
@@ -81,8 +81,8 @@ module _ (P Q : Program) (al : Alike P Q) where
   replied rs h = record { tables = h.tables; tables' = h.tables'; objs = h.objs; frames = h.frames; globals = h.globals; loaded = h.loaded; failed = h.failed; handles = h.handles; budget = h.budget; replies = refl }
 
   -- the same name
-  pub KeyN : Access → Access → Type 0
-  KeyN a b = name_of (plain_tables P) a ≡ name_of (plain_tables Q) b
+  pub record KeyN (a b : Access) : Type 0 where
+    pub same : name_of (plain_tables P) a ≡ name_of (plain_tables Q) b
 
   pub built_same : {c : Around} {r r' : Ref} → RefA S S' N c r r' → built_of (plain_tables P) r ≡ built_of (plain_tables Q) r'
   unfolding built_of
@@ -93,16 +93,16 @@ module _ (P Q : Program) (al : Alike P Q) where
   UpA w f g a b = (a ≡ b) × Chain w (beyond (owns S f) (N.around (f, g))) a
 
   pub runtime_same : (t : List ℕ) → KeyN (runtime t) (runtime t)
-  unfolding KeyN name_of
-  runtime_same t = refl
+  unfolding name_of
+  runtime_same t = record { same = refl }
 
   pub quoted_same : (t : List ℕ) → KeyN (quoted t) (quoted t)
-  unfolding KeyN name_of
-  quoted_same t = refl
+  unfolding name_of
+  quoted_same t = record { same = refl }
 
   pub written_same : (t : List ℕ) → KeyN (runtime t) (quoted t)
-  unfolding KeyN name_of
-  written_same t = refl
+  unfolding name_of
+  written_same t = record { same = refl }
 
   abbrev pub alike : Tie
   alike = record {

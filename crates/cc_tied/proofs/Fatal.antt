@@ -1,10 +1,10 @@
 -- The acts that end the plain run: which of them no state can make so.
-use Rattle.std.proofs.Common.{◌≡◌, refl, ap, sym, ◌∙◌, ℕ, zero, suc, Bool, true, false, List, [], ◌∷◌, Option, Some, None, is_some, arith, subst}
-use Rattle.std.specs.Prelude.{nat_le, nat_lt, nat_eq, not, ◌&&◌, ◌||◌, slice_get, is_none}
+use Rattle.std.proofs.Common.{◌≡◌, refl, ap, ◌∙◌, ℕ, Bool, true, false, List, [], ◌∷◌, Option, Some, None, arith}
+use Rattle.std.specs.Prelude.{nat_le, nat_lt, not, ◌&&◌, ◌||◌, slice_get}
 use Rattle.std.proofs.lemmas.Bool.Decides.{nat_tests}
-use Rattle.cc_meaning.specs.Values.{Val, prim, obj, out, Spot}
+use Rattle.cc_meaning.specs.Values.{Val, obj, Spot}
 use Rattle.cc_meaning.specs.State.{Kind, kept_kind, indexed_kind, dotted_kind, quoted_kind, keyed_kind, Slot, Code, Obj, Tables, State}
-use Rattle.cc_meaning.specs.Monad.{strayed, Res, over, M, ret, skip, stop, said, after, ◌>>=◌, pick, Mode}
+use Rattle.cc_meaning.specs.Monad.{strayed, over, M, ret, stop, after, ◌>>=◌, pick}
 use Rattle.cc_meaning.specs.Store.{Access, dotted, quoted, runtime, name_of, is_kept, chain_of, slots_in, slots_on, look_up, class_of_function, Found, found_value, found_use, nothing_found}
 use Rattle.cc_meaning.specs.SlotRules.{least, rule_if, rule_unless, dotted_rule, slot_rule, slots_rule, outside_rule, walk_slots, unfound_rule, function_rule, field_rule, object_read, read_rule, array_write_rule, element_rule, declares_well, code_rule, prototype_rule, object_write, write_rule, has_slot, object_remove, remove_rule, probe_rule, is_dotted, meets_function}
 use Rattle.cc_meaning.specs.Judge.{Act, hosts, calls_inner, answers_with, least_broken}
@@ -220,14 +220,14 @@ high_cast T s d v = high_unless _ 6 refl
 -- ---- acts
 
 -- acts of which the rules 1, 2 and 3 alone end the plain run
-unfoldable pub is_plain_act : Act → Bool
+abbrev pub is_plain_act : Act → Bool
 is_plain_act (hosts given on n threw) = false
 is_plain_act (calls_inner given) = false
 is_plain_act (answers_with given) = false
 is_plain_act a = true
 
 pub stops_low : (a : Act) → is_plain_act a ≡ true → (o : Option ℕ) → stops a o ≡ is_low o
-unfolding is_plain_act stops is_low is_fatal
+unfolding stops is_low is_fatal
 stops_low (hosts given on n threw) e o = absurd (cc)
 stops_low (calls_inner given) e o = absurd (cc)
 stops_low (answers_with given) e o = absurd (cc)

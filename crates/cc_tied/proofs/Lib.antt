@@ -24,3 +24,4 @@ pub mod Lists
 pub mod AlikeFrames
 pub mod AlikeObjects
 pub mod AlikeTie
+pub mod AlikeStore

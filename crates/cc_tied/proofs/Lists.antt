@@ -1,5 +1,5 @@
 -- Lists by places.
-use Rattle.std.proofs.Common.{◌≡◌, ◌≢◌, ◌⊎◌, inl, inr, ℕ, zero, suc, List, [], ◌∷◌, ◌++◌, length, Option, Some, None, refl, ap}
+use Rattle.std.proofs.Common.{◌≡◌, ◌≢◌, ◌⊎◌, inl, inr, ℕ, zero, suc, List, [], ◌∷◌, ◌++◌, length, Option, Some, refl, ap}
 use Rattle.std.specs.Prelude.{slice_get, slice_set}
 use Rattle.cc_tied.specs.Tied.{OptT, none_t, some_t, ListT, nil_t, cons_t}
 
