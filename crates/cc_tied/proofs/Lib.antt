@@ -25,3 +25,4 @@ pub mod AlikeFrames
 pub mod AlikeObjects
 pub mod AlikeTie
 pub mod AlikeStore
+pub mod AlikeUpkeep
