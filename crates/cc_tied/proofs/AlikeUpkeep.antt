@@ -271,3 +271,95 @@ module _ (P Q : Program) (al : Alike P Q) where
   show_t (prim p) s t ti le le' = fine T _ _ refl ti le le'
   show_t (out n) s t ti le le' = fine T _ _ refl ti le le'
   show_t {w = w} (obj n) s t ti le le' = subst (λ z. ResT T (λ v a b. a ≡ b) w (shown (handle_of s.handles n) n s) (shown (handle_of z n) n t)) ti.handles (shown_t (handle_of s.handles n) n s t ti le le')
+
+  given_stops : (on : Option Val) (n : Option (List ℕ)) (th : Bool) (o : Option ℕ) → stops (hosts true on n th) o ≡ false
+  unfolding stops is_fatal
+  given_stops on n th None = refl
+  given_stops on n th (Some r) = refl
+
+  -- a host whose handles were given out ends no plain run, and one whose handles weren't ends both
+  host_stops : (given : Bool) (on on' : Option Val) (n : Option (List ℕ)) (th th' : Bool) (s t : State) → stops (hosts given on n th) (least_broken s.tables s (hosts given on n th)) ≡ stops (hosts given on' n th') (least_broken t.tables t (hosts given on' n th'))
+  unfolding stops is_fatal least_broken host_rule rule_unless
+  host_stops true on on' n th th' s t = given_stops on n th (least_broken s.tables s (hosts true on n th)) ∙ sym (given_stops on' n th' (least_broken t.tables t (hosts true on' n th')))
+  host_stops false on on' n th th' s t = refl
+
+  load_t : {w : W} (c : ℕ) → Sim T Done w (changing (note_load c)) (changing (note_load c))
+  unfolding changing note_load ret
+  load_t c s t ti le le' = fine T tt tt tt (record { tables = ti.tables; tables' = ti.tables'; objs = ti.objs; frames = ti.frames; globals = ti.globals; loaded = ap (λ z. z ++ c ∷ []) ti.loaded; failed = ti.failed; handles = ti.handles; budget = ti.budget; replies = ti.replies }) le le'
+
+  loading_t : {w : W} (i i' : Spot) (c : ℕ) → Sim T Done w (loading plain i c) (loading plain i' c)
+  loading_t i i' c s t ti le le' = judged_a P Q al i i' (hosts true None None (dependency_failed s c)) (hosts true None None (dependency_failed t c)) _ _ (λ s2 t2 ti2. host_stops true None None None _ _ s2 t2) (load_t c) s t ti le le'
+
+  failed_t : {w : List Label} {s t : State} (c : ℕ) → Tied w s t → Tied w (record s { failed = s.failed ++ c ∷ [] }) (record t { failed = t.failed ++ c ∷ [] })
+  failed_t c ti = record { tables = ti.tables; tables' = ti.tables'; objs = ti.objs; frames = ti.frames; globals = ti.globals; loaded = ti.loaded; failed = ap (λ z. z ++ c ∷ []) ti.failed; handles = ti.handles; budget = ti.budget; replies = ti.replies }
+
+  quoted_key : (t : List ℕ) → KeyN P Q al (quoted t) (quoted t)
+  quoted_key t = Rattle.cc_tied.proofs.AlikeTie.quoted_same P Q al t
+
+  host_get_t : {w : W} (i i' : Spot) (given : Bool) (m n : ℕ) → m ≡ n → (t : List ℕ) → Sim T (λ v. WayT (ValT Eq) (ValT Eq)) w (judged plain i (hosts given (Some (obj m)) (Some t) false) (attempt (read_slot plain i m (quoted t)))) (judged plain i' (hosts given (Some (obj n)) (Some t) false) (attempt (read_slot plain i' n (quoted t))))
+  host_get_t i i' given m n e t = judged_a P Q al i i' (hosts given (Some (obj m)) (Some t) false) (hosts given (Some (obj n)) (Some t) false) _ _ (λ s u ti. host_stops given _ _ (Some t) false false s u) (sim_attempt T {R = Vals} (rw e (D.read_slot_t P Q al i i' n (quoted t) (quoted t) (quoted_key t))))
+
+  host_set_t : {w : W} (i i' : Spot) (given : Bool) (m n : ℕ) → m ≡ n → (t : List ℕ) (x y : Val) → x ≡ y → Sim T (λ v. WayT (ValT Eq) (ValT Eq)) w (judged plain i (hosts given (Some (obj m)) (Some t) false) (attempt (write_slot plain i m (quoted t) keyed_kind x false >>= λ _. ret (prim undefined)))) (judged plain i' (hosts given (Some (obj n)) (Some t) false) (attempt (write_slot plain i' n (quoted t) keyed_kind y false >>= λ _. ret (prim undefined))))
+  host_set_t i i' given m n e t x y d = judged_a P Q al i i' (hosts given (Some (obj m)) (Some t) false) (hosts given (Some (obj n)) (Some t) false) _ _ (λ s u ti. host_stops given _ _ (Some t) false false s u) (sim_attempt T {R = Vals} (sim_bind T {R = Done} (rw e (D.write_slot_t P Q al i i' n (quoted t) (quoted t) (quoted_key t) keyed_kind keyed_kind x y d false false)) (λ v2 l2 _ _ _. sim_ret T (prim undefined) (prim undefined) prim_t)))
+
+  mark_t : {w : W} (p : ℕ) → Sim T Done w (say (passed p)) (say (passed p))
+  unfolding say seen
+  mark_t {w = w} p s t ti le le' = ok_t refl w (now T w) tt tt ti le le'
+
+  skip_t : {w : W} → Sim T Done w skip skip
+  skip_t = both_silent P Q al (silent_skip P Q al) (silent_skip P Q al)
+
+  method_read_t : {w : W} (i i' : Spot) (x : Val) (a b : Access) → KeyN P Q al a b → Sim T Done w (judged plain i (reads x a) skip) (judged plain i' (reads x b) skip)
+  unfolding least_broken read_rule
+  method_read_t i i' (out n) a b k = out_read_t i i' n a b skip skip skip_t
+  method_read_t i i' (prim p) a b k = judged_a P Q al i i' (reads (prim p) a) (reads (prim p) b) _ _ (λ s t ti. stops_low (reads (prim p) a) refl _ ∙ ap (λ z. is_low (prim_read p z)) (D.name_same P Q al ti a b k) ∙ sym (stops_low (reads (prim p) b) refl _)) skip_t
+  method_read_t i i' (obj o) a b k = judged_a P Q al i i' (reads (obj o) a) (reads (obj o) b) _ _ (λ s t ti. D.never P Q al (reads (obj o) a) s refl (Rattle.cc_tied.proofs.Fatal.high_read s.tables s o a) ∙ sym (D.never P Q al (reads (obj o) b) t refl (Rattle.cc_tied.proofs.Fatal.high_read t.tables t o b))) skip_t
+
+  code_at_t : {w : List Label} {s t : State} → Tied w s t → (n : ℕ) → OptT (CodeA S N w) (code_at s n) (code_at t n)
+  unfolding code_at
+  code_at_t {w = w} ti n = code_in_t S N w (tied_get ti.objs n)
+
+  method_t : {w : List Label} {s t : State} → Tied w s t → (x : Val) (a b : Access) → KeyN P Q al a b → Rattle.cc_meaning.specs.Calls.method_on s x (name_of s.tables a) ≡ Rattle.cc_meaning.specs.Calls.method_on t x (name_of t.tables b)
+  method_t {w = w} {s = s} {t = t} ti x a b k = method_same S N w s t ti.objs x (name_of s.tables a) ∙ ap (λ z. Rattle.cc_meaning.specs.Calls.method_on t x z) (D.name_same P Q al ti a b k)
+
+  pub upkeep : Upkeep T
+  unfolding make_object make_array
+  upkeep = record {
+    up_mark = λ p. mark_t p;
+    up_breach = λ i r. skip_t;
+    up_object = D.same_value P Q al (D.add_t P Q al _ _ (D.bare_t P Q al None));
+    up_array = λ h. rw (same_list h) (D.add_t P Q al _ _ (D.bare_t P Q al (Some _)));
+    up_function = λ i f e. D.function_t P Q al _ _ f e;
+    up_instance = λ e r. rw e (D.instance_t P Q al _ _ _);
+    up_read = λ i e k. rw e (D.read_slot_t P Q al _ _ _ _ _ k);
+    up_write = λ i d e k x. rw (e, same_val x) (D.write_t P Q al _ _ _ _ _ k _ _ _);
+    up_remove = λ i e k. rw e (D.remove_t P Q al _ _ _ _ _ k);
+    up_probe = λ i e t. rw e (D.probe_t P Q al _ _ _ t);
+    up_walk = λ i e. rw e (D.walk_t P Q al _ _ _);
+    up_instance_of = λ i a x. rw (same_val a, same_val x) (D.instance_of_t P Q al _ _ _ _);
+    up_typeof = λ i e. rw e (D.typeof_t P Q al _ _ _);
+    up_method = λ ti x k. rw (same_val x) (method_t ti _ _ _ k);
+    up_method_read = λ i x k. rw (same_val x) (method_read_t _ _ _ _ _ k);
+    up_use = λ {w} B B' i u vs h. rw (same_list vs) (use_t B B' _ _ w h u _);
+    up_prim_read = λ i k. prim_read_t _ _ _ _ _ k;
+    up_out_read = λ i k f. out_read_t _ _ _ _ _ _ _ (f k.same);
+    up_out_write = λ x y d d' i k f. out_write_t _ _ _ _ _ x y d d' _ _ k (f k.same);
+    up_read_var = λ i e r. read_var_t _ _ e r;
+    up_write_var = λ i e r x. rw (same_val x) (write_var_t _ _ _ e r);
+    up_catch = λ e x. rw (same_val x) (catch_t _ e);
+    up_frame = λ c t vs. rw (same_list vs) (frame_t _ _ _ _ _ c.function c.up (same_opt t));
+    up_take_path = λ i p x k. absurd p;
+    up_keep_path = λ i p x. absurd p;
+    up_cast = λ i d x. cast_t _ _ _ _ _ _;
+    up_code = λ ti e. rw e (code_at_t ti _);
+    up_enters = λ i c t vs. enters_t _ _ _ _ _ _ _ _;
+    up_leaves = λ i f built x. leaves_t _ _ _ _ built _ _;
+    up_show = λ x. rw (same_val x) (show_t _);
+    up_loading = λ i c. loading_t _ _ c;
+    up_failed = λ l ti. failed_t _ ti;
+    up_host_get = λ i given e t. host_get_t _ _ given _ _ e t;
+    up_host_set = λ i given e t x. host_set_t _ _ given _ _ e t _ _ (same_val x);
+  }
+
+  abbrev pub alike_kit : Kit
+  alike_kit = kit T upkeep
