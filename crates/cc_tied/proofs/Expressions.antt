@@ -24,7 +24,7 @@ use Rattle.cc_tied.proofs.Judged.{rel_operate, rel_operate_one, rel_runtime_key,
 use Rattle.cc_tied.proofs.Calls.{rel_get, rel_put_to, rel_put_on, rel_keep_flat, rel_value, rel_value_of, rel_callee_of, rel_apply, rel_construct}
 
 -- a variable, or what a built-in global stands for
-unfoldable reach_built : Mode → ℕ → Env → Ref → Option Built → M Reach
+unfoldable pub reach_built : Mode → ℕ → Env → Ref → Option Built → M Reach
 reach_built J i g r None = read_var J (at_site i) g r >>= λ v. ret (plain v)
 reach_built J i g r (Some b) = ret (built_global i b)
 
@@ -34,7 +34,7 @@ reach_kind J i g n extern = refl
 reach_kind J i g n (built_in b) = refl
 reach_kind J i g n (of_chunk c) = refl
 
-reach_by : (J : Mode) (i : ℕ) (g : Env) (r : Ref) → reach_var J i g r ≡ with_tables (λ T. reach_built J i g r (built_of T r))
+pub reach_by : (J : Mode) (i : ℕ) (g : Env) (r : Ref) → reach_var J i g r ≡ with_tables (λ T. reach_built J i g r (built_of T r))
 unfolding reach_var reach_built built_of with_tables
 reach_by J i g (Ref.Frame up n) = refl
 reach_by J i g (Ref.Global n) = λ j. with_tables (λ T. reach_kind J i g n (global_kind T n) j)

@@ -6,7 +6,7 @@ use Rattle.cc_ast.specs.declared.operator.UnOp.TheVariants.{Typeof}
 use Rattle.cc_ast.specs.declared.tree.Ref.{Ref}
 use Rattle.cc_meaning.specs.Values.{Val, prim, obj, out, View, Event, Spot, at_turn}
 use Rattle.cc_meaning.specs.Operators.{strict_equal}
-use Rattle.cc_meaning.specs.State.{keyed_kind, of_catch, Code, Env, Tables}
+use Rattle.cc_meaning.specs.State.{keyed_kind, of_catch, Code, Env, Tables, State}
 use Rattle.cc_meaning.specs.Monad.{told, M, ret, skip, raise, stop, say, ◌>>=◌, Way, attempt, pay, with_budget, with_tables, Mode}
 use Rattle.cc_meaning.specs.Store.{Access, quoted, runtime, name_of, kind_by, Use}
 use Rattle.cc_meaning.specs.Judge.{reads, writes, calls, hosts}
@@ -95,6 +95,8 @@ pub record Kit : Type 1 where
   pub rel_pay_less : {A B : Type 0} {R : World → A → B → Type 0} {w : World} {m : M A} {m' : M B} → ((v : World) → Later w v → suc (bound v) ≤ bound w → suc (bound' v) ≤ bound' w → Rel R v m m') → Rel R w (pay 1 >>= λ _. m) (pay 1 >>= λ _. m')
   pub rel_budget : {A B : Type 0} {R : World → A → B → Type 0} {w : World} {f : ℕ → M A} {f' : ℕ → M B} → ((v : World) → Later w v → (n n' : ℕ) → bound v ≤ n → bound' v ≤ n' → Rel R v (f n) (f' n')) → Rel R w (with_budget f) (with_budget f')
   pub rel_tables : {A B : Type 0} {R : World → A → B → Type 0} {w : World} (f : Tables → M A) (f' : Tables → M B) → Rel R w (f tables) (f' tables') → Rel R w (with_tables f) (with_tables f')
+  -- parts that do the same in states with the tables of their program
+  pub rel_at : {A B : Type 0} {R : World → A → B → Type 0} {w : World} (m n : M A) (m' n' : M B) → ((s : State) → s.tables ≡ tables → m s ≡ n s) → ((t : State) → t.tables ≡ tables' → m' t ≡ n' t) → Rel R w n n' → Rel R w m m'
   pub rel_say : {w : World} (e : Event) → Rel (λ v a b. Unit {0}) w (say (told e)) (say (told e))
   pub rel_fault : {A B : Type 0} {R : World → A → B → Type 0} {w : World} {i i' : Spot} → SpotT i i' → (r : ℕ) → Rel R w (stop (J.fault r i)) (stop (J'.fault r i'))
   pub rel_breach : {w : World} {i i' : Spot} → SpotT i i' → (r : ℕ) → Rel (λ v a b. Unit {0}) w (J.breach r i) (J'.breach r i')

@@ -6,12 +6,16 @@ pub mod Judged
 pub mod Calls
 pub mod Expressions
 pub mod AtValues
+pub mod Standing
 pub mod Ends
 pub mod Statements
 pub mod Turns
 pub mod Sim
 pub mod Upkeep
 pub mod Runs
+pub mod Rewriting
+pub mod RewritingBodies
+pub mod Kept
 pub mod Blind
 pub mod Equal
 pub mod EqualUpkeep

@@ -321,6 +321,9 @@ module _ (T : Tie) where
   unfolding with_tables
   sim_tables f f' h s t ti le le' = by_parts f f' s t (tied_tables ti).0 (tied_tables ti).1 (h s t ti le le')
 
+  pub sim_at : {A B : Type 0} {R : World → A → B → Type 0} {w : World} (m n : M A) (m' n' : M B) → ((s : State) → s.tables ≡ T.tables → m s ≡ n s) → ((t : State) → t.tables ≡ T.tables' → m' t ≡ n' t) → Sim R w n n' → Sim R w m m'
+  sim_at {R = R} {w = w} m n m' n' e e' h s t ti le le' = subst (λ z. ResT R w z (m' t)) (sym (e s (tied_tables ti).0)) (subst (λ z. ResT R w (n s) z) (sym (e' t (tied_tables ti).1)) (h s t ti le le'))
+
   -- ---- what a right part that only gives a value gives
 
   given_t : {A B : Type 0} {R : World → A → B → Type 0} {w : World} {x : Res A} {u : List Said} {b : B} {t : State} → ResT R w x (ok u b t) → ResT (λ v x y. R v x y × (y ≡ b)) w x (ok u b t)

@@ -18,7 +18,7 @@ use Rattle.cc_meaning.specs.Meaning.{call_frame}
 use Rattle.cc_meaning.specs.Script.{note_end}
 use Rattle.cc_tied.specs.Tied.{ListT, OptT, none_t, some_t, ValT, WayT, went_t, thrown_t, Sited, CodeT, entering, leaving, loading}
 use Rattle.cc_tied.proofs.Kit.{Kit}
-use Rattle.cc_tied.proofs.Sim.{Tie, World, Later, now, later, ResT, Sim, fine, sim_as, sim_ret, sim_bind, sim_raise, sim_attempt, sim_say, sim_fault, sim_pay_less, sim_budget, sim_tables, sim_given, sim_equal, sim_next_reply, sim_view, sim_views, said_after}
+use Rattle.cc_tied.proofs.Sim.{Tie, World, Later, now, later, ResT, Sim, fine, sim_as, sim_ret, sim_bind, sim_raise, sim_attempt, sim_say, sim_fault, sim_pay_less, sim_budget, sim_tables, sim_at, sim_given, sim_equal, sim_next_reply, sim_view, sim_views, said_after}
 
 pub record Upkeep (T : Tie) : Type 1 where
   -- what a price mark and a breach do
@@ -207,6 +207,7 @@ module _ (T : Tie) (U : Upkeep T) where
     rel_pay_less = sim_pay_less T;
     rel_budget = sim_budget T;
     rel_tables = sim_tables T;
+    rel_at = sim_at T;
     rel_say = sim_say T;
     rel_fault = sim_fault T;
     rel_breach = U.up_breach;

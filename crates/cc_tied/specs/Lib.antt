@@ -1,2 +1,4 @@
 pub mod Tied
 pub mod Promises
+pub mod Rewrites
+pub mod Fine
