@@ -319,7 +319,7 @@ module _ (P Q : Program) (al : Alike P Q) where
   unfolding code_at
   code_at_t {w = w} ti n = code_in_t S N w (tied_get ti.objs n)
 
-  method_t : {w : List Label} {s t : State} → Tied w s t → (x : Val) (a b : Access) → KeyN P Q al a b → Rattle.cc_meaning.specs.Calls.method_on s x (name_of s.tables a) ≡ Rattle.cc_meaning.specs.Calls.method_on t x (name_of t.tables b)
+  pub method_t : {w : List Label} {s t : State} → Tied w s t → (x : Val) (a b : Access) → KeyN P Q al a b → Rattle.cc_meaning.specs.Calls.method_on s x (name_of s.tables a) ≡ Rattle.cc_meaning.specs.Calls.method_on t x (name_of t.tables b)
   method_t {w = w} {s = s} {t = t} ti x a b k = method_same S N w s t ti.objs x (name_of s.tables a) ∙ ap (λ z. Rattle.cc_meaning.specs.Calls.method_on t x z) (D.name_same P Q al ti a b k)
 
   pub upkeep : Upkeep T

@@ -30,3 +30,4 @@ pub mod AlikeObjects
 pub mod AlikeTie
 pub mod AlikeStore
 pub mod AlikeUpkeep
+pub mod AlikeReach
