@@ -31,3 +31,4 @@ pub mod AlikeTie
 pub mod AlikeStore
 pub mod AlikeUpkeep
 pub mod AlikeReach
+pub mod AlikeParts
