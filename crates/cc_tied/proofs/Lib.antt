@@ -25,3 +25,14 @@ pub mod EqualUpkeep
 pub mod EqualModes
 pub mod Reflexive
 pub mod FoldExample
+pub mod EqualRuns
+pub mod Erase
+pub mod Fatal
+pub mod Lists
+pub mod AlikeFrames
+pub mod AlikeObjects
+pub mod AlikeTie
+pub mod AlikeStore
+pub mod AlikeUpkeep
+pub mod AlikeReach
+pub mod AlikeParts

@@ -1,3 +1,29 @@
 //! One induction over the run, for every phase: what a relation between two runs owes, so that two
-//! programs whose parts are tied have tied runs.
+//! programs whose parts are tied have tied runs. The functions here state laws that follow of it,
+//! and do nothing.
 #![tactic(auto)]
+
+ghost use Rattle.cc_meaning.specs.Script.{checked, plain};
+ghost use Rattle.cc_tied.specs.Promises.{DepthIsEnough, BudgetExtends, Erasure, AgreementFollowsSame};
+
+/// A depth of calls that is the budget's suffices.
+pub fn depth_is_enough()
+    ensures of_checked { DepthIsEnough checked }
+    ensures of_plain { DepthIsEnough plain }
+{}
+
+/// What a run does at a budget it does at every larger one, where it may go on.
+pub fn budget_extends()
+    ensures of_checked { BudgetExtends checked }
+    ensures of_plain { BudgetExtends plain }
+{}
+
+/// Price marks, annotations, casts and checks make no difference to a run that breaks no rule.
+pub fn erasure()
+    ensures { Erasure }
+{}
+
+/// Agreement goes over to what does the same.
+pub fn agreement_follows_same()
+    ensures { AgreementFollowsSame }
+{}

@@ -1,0 +1,5 @@
+use Rattle.cc_tied.proofs.erasure.Goals as goal
+use Rattle.cc_tied.proofs.Erase.{erasure}
+
+pub returns : goal.returns
+returns c = erasure

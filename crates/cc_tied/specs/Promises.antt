@@ -1,0 +1,40 @@
+-- Laws of runs: what a lesser depth of calls, a larger budget, price marks and checks change.
+use Rattle.std.specs.Prelude.{◌≡◌, ℕ, ◌≤◌, List, []}
+use Rattle.cc_ast.specs.Syntax.{Program}
+use Rattle.cc_ast.specs.declared.tables.GlobalInfo.{GlobalInfo}
+use Rattle.cc_meaning.specs.Values.{Event}
+use Rattle.cc_meaning.specs.Monad.{spent, Mode}
+use Rattle.cc_meaning.specs.Meaning.{bodies}
+use Rattle.cc_meaning.specs.Script.{Script, Finish, stopped, finish, turns_from, start, run}
+use Rattle.cc_meaning.specs.Same.{Prefix, Same, Agrees}
+use Rattle.cc_meaning.specs.Alike.{In}
+
+-- a run in which calls go no deeper than d
+unfoldable pub run_to : (d : ℕ) → Mode → Program → Script → ℕ → List Event × Finish
+unfolding finish turns_from bodies start
+run_to d J P sc n = finish (turns_from J P (bodies J P d) 0 sc.turns (start J P sc.replies n))
+
+-- a depth at the budget or past it changes nothing
+abbrev pub DepthIsEnough : Mode → Type 0
+DepthIsEnough J = (P : Program) (sc : Script) (n d : ℕ) → n ≤ d → run_to d J P sc n ≡ run J P sc n
+
+-- the second goes on where the first has nothing left to spend, and else does the same
+pub data IsExtendedBy : List Event × Finish → List Event × Finish → Type 0 where
+  goes_on : {u : List Event} {y : List Event × Finish} → Prefix u y.0 → IsExtendedBy (u, stopped spent) y
+  does_the_same : {x : List Event × Finish} → IsExtendedBy x x
+
+-- a larger budget only extends a run
+abbrev pub BudgetExtends : Mode → Type 0
+BudgetExtends J = (P : Program) (sc : Script) (n m : ℕ) → n ≤ m → IsExtendedBy (run J P sc n) (run J P sc m)
+
+-- a program without flat paths
+pub record HasNoPaths (P : Program) : Type 0 where
+  pub none : (g : GlobalInfo) → In g P.globals → g.flat ≡ []
+
+-- price marks and checks make no difference
+abbrev pub Erasure : Type 0
+Erasure = (P : Program) → HasNoPaths P → Agrees P P
+
+-- what the plain run of E agrees with agrees with what does the same
+abbrev pub AgreementFollowsSame : Type 0
+AgreementFollowsSame = (S P E : Program) → Same S P → Agrees P E → Agrees S E
