@@ -3,6 +3,9 @@ pub mod RawTree
 pub mod Signs
 pub mod Grammar
 pub mod Fronts
+pub mod ReadingParts
+pub mod ReadingExpressions
+pub mod ReadingStatements
 pub mod Reading
 pub mod Faults
 pub mod Sizes
