@@ -64,11 +64,11 @@ module _ (P Q : Program) (al : Alike P Q) where
 
   -- ---- a price mark of one run alone
 
-  mark_left : {A B : Type 0} {R : W → A → B → Type 0} {w : W} (p : ℕ) (m : M A) (m' : M B) → Sim T R w m m' → Sim T R w (say (passed p) >>= λ _. m) m'
+  pub mark_left : {A B : Type 0} {R : W → A → B → Type 0} {w : W} (p : ℕ) (m : M A) (m' : M B) → Sim T R w m m' → Sim T R w (say (passed p) >>= λ _. m) m'
   unfolding say ◌>>=◌ after seen
   mark_left {R = R} {w = w} p m m' h s t ti le le' = subst (λ z. ResT T R w (said (passed p ∷ []) (m s)) z) (said_none (m' t)) (said_t T (passed p ∷ []) [] refl (now T w) tt (h s t ti le le'))
 
-  mark_right : {A B : Type 0} {R : W → A → B → Type 0} {w : W} (p : ℕ) (m : M A) (m' : M B) → Sim T R w m m' → Sim T R w m (say (passed p) >>= λ _. m')
+  pub mark_right : {A B : Type 0} {R : W → A → B → Type 0} {w : W} (p : ℕ) (m : M A) (m' : M B) → Sim T R w m m' → Sim T R w m (say (passed p) >>= λ _. m')
   unfolding say ◌>>=◌ after seen
   mark_right {R = R} {w = w} p m m' h s t ti le le' = subst (λ z. ResT T R w z (said (passed p ∷ []) (m' t))) (said_none (m s)) (said_t T [] (passed p ∷ []) refl (now T w) tt (h s t ti le le'))
 
@@ -132,10 +132,10 @@ module _ (P Q : Program) (al : Alike P Q) where
       lift : {e e' : Expr} → ((p p' : Option Path) → E.FollowsRef K X c p p' e e') → FollowsC e e'
       lift h = record { by = λ p p' v l g g' t. sim_as T (λ u lu a b q. R.as_reach P Q al u q) ((h p p').by v l g g' t) }
 
-      as_val : {e e' : Expr} → FollowsC e e' → (p p' : Option Path) → E.FollowsAs K X (V K) c p p' e e'
+      pub as_val : {e e' : Expr} → FollowsC e e' → (p p' : Option Path) → E.FollowsAs K X (V K) c p p' e e'
       as_val h p p' = record { by = λ v l g g' t. R.value_c P Q al X l (h.by p p' v l g g' t) }
 
-      val : {e e' : Expr} → FollowsC e e' → E.Follows K X c e e'
+      pub val : {e e' : Expr} → FollowsC e e' → E.Follows K X c e e'
       val h = as_val h None None
 
       prop_c : {p q : ℕ} → A.PropA S S' N p q → E.PropT K X p q
@@ -280,7 +280,7 @@ module _ (P Q : Program) (al : Alike P Q) where
         expr (A.left_void {i = i} {j = j} {k = k} e) = left_void_c i j k (expr e)
         expr (A.right_void {i = i} {j = j} {k = k} e) = right_void_c i j k (expr e)
 
-        target : {t t' : Target} → A.TargetA S S' N c t t' → E.FollowsTarget K X c (K.ReadT c) t t'
+        pub target : {t t' : Target} → A.TargetA S S' N c t t' → E.FollowsTarget K X c (K.ReadT c) t t'
         target (A.to_var_a r) = E.target_var K X c tt r r
         target (A.to_member_a {p = p} {q = q} {e = e} {d = d} h k) = E.target_member K X c tt (paths_c (longer (path_of e) p) (longer (path_of d) q)) (prop_c k) (val (expr h))
         target (A.to_index_a {i = i} {j = j} e k) = index_target i j (expr e) (expr k)

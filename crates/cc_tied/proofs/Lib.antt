@@ -32,3 +32,4 @@ pub mod AlikeStore
 pub mod AlikeUpkeep
 pub mod AlikeReach
 pub mod AlikeParts
+pub mod AlikeStatements
