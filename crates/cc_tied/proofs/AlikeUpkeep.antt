@@ -152,19 +152,19 @@ module _ (P Q : Program) (al : Alike P Q) where
   unfolding is_loaded
   loaded_same ti c = ap (λ z. list_any (λ d. nat_eq d c) z) ti.loaded
 
-  global_same : {w : List Label} {s t : State} → Tied w s t → {m n : ℕ} → Paired N.globals m n → global_value s m ≡ global_value t n
+  global_same : {w : List Label} {s t : State} → Tied w s t → {m n : ℕ} (c : ℕ) → Paired N.globals m n → global_kind s.tables m ≡ of_chunk c → global_value s m ≡ global_value t n
   unfolding global_value
-  global_same ti q = ap (λ z. flat_option z) (ti.globals _ _ q)
+  global_same ti {m = m} c q e = ap (λ z. flat_option z) (ti.globals _ _ c q (sym (kind_same P m) ∙ sym (ap (λ z. global_kind z m) ti.tables) ∙ e))
 
   take_global : {w : W} (i i' : Spot) (m n : ℕ) (l l' b b' : Bool) (v v' : Val) → l ≡ l' → v ≡ v' → Sim T Vals w (judged plain i (takes (global m) l b) (ret v)) (judged plain i' (takes (global n) l' b') (ret v'))
   unfolding least_broken
   take_global i i' m n l l' b b' v v' d e = judged_a P Q al i i' (takes (global m) l b) (takes (global n) l' b') _ _ (λ s t ti. stops_low (takes (global m) l b) refl _ ∙ low_take s.tables (global m) l b ∙ ap not d ∙ sym (low_take t.tables (global n) l' b') ∙ sym (stops_low (takes (global n) l' b') refl _)) (sim_ret T v v' (val_as e))
 
-  global_t : {w : W} (i i' : Spot) {m n : ℕ} → Paired N.globals m n → (k : Global) → (k ≡ extern → m ≡ n) → Sim T Vals w (read_global plain i m k) (read_global plain i' n k)
+  global_t : {w : W} (i i' : Spot) {m n : ℕ} {s t : State} → Paired N.globals m n → (k : Global) → (k ≡ extern → m ≡ n) → ((c : ℕ) → k ≡ of_chunk c → global_value s m ≡ global_value t n) → Tied w.w s t → s.budget ≤ w.l → t.budget ≤ w.r → ResT T Vals w (read_global plain i m k s) (read_global plain i' n k t)
   unfolding read_global
-  global_t i i' {m = m} {n = n} q extern e s t ti le le' = sim_ret T _ _ (val_as (ap out (e refl))) s t ti le le'
-  global_t i i' q (built_in b) e s t ti le le' = sim_fault T tt 2 s t ti le le'
-  global_t i i' {m = m} {n = n} q (of_chunk c) e s t ti le le' = take_global i i' m n _ _ _ _ _ _ (loaded_same ti c) (ap or_undefined (global_same ti q)) s t ti le le'
+  global_t i i' q extern e h ti le le' = sim_ret T _ _ (val_as (ap out (e refl))) _ _ ti le le'
+  global_t i i' q (built_in b) e h ti le le' = sim_fault T tt 2 _ _ ti le le'
+  global_t i i' {m = m} {n = n} q (of_chunk c) e h ti le le' = take_global i i' m n _ _ _ _ _ _ (loaded_same ti c) (ap or_undefined (h c refl)) _ _ ti le le'
 
   kinds : {w : List Label} {s t : State} → Tied w s t → {m n : ℕ} → Paired N.globals m n → global_kind s.tables m ≡ global_kind t.tables n
   kinds ti {m = m} {n = n} q = ap (λ z. global_kind z m) ti.tables ∙ kind_same P m ∙ (al.globals m n q).kind ∙ sym (kind_same Q n) ∙ sym (ap (λ z. global_kind z n) ti.tables')
@@ -175,7 +175,7 @@ module _ (P Q : Program) (al : Alike P Q) where
   read_var_t : {w : W} (i i' : Spot) {c : Around} {g h : Env} {r r' : Ref} → EnvA c w.w g h → RefA S S' N c r r' → Sim T Vals w (read_var plain i g r) (read_var plain i' h r')
   unfolding read_var
   read_var_t i i' e (frame_a p q l) s t ti le le' = place_t i i' (frames_found S S' N ti.frames (find_frame S S' N ti.frames q e)) l s t ti le le'
-  read_var_t {w = w} i i' e (global_a {m = m} {n = n} q) s t ti le le' = subst (λ z. ResT T Vals w (read_global plain i m (global_kind s.tables m) s) (read_global plain i' n z t)) (kinds ti q) (global_t i i' q (global_kind s.tables m) (extern_one ti q) s t ti le le')
+  read_var_t {w = w} i i' e (global_a {m = m} {n = n} q) s t ti le le' = subst (λ z. ResT T Vals w (read_global plain i m (global_kind s.tables m) s) (read_global plain i' n z t)) (kinds ti q) (global_t i i' q (global_kind s.tables m) (extern_one ti q) (λ c d. global_same ti c q d) ti le le')
 
   with_frames : {w : List Label} {s t : State} (fs gs : List Frame) → Tied w s t → Rattle.cc_tied.proofs.AlikeFrames.Frames S S' N w fs gs → Tied w (record s { frames = fs }) (record t { frames = gs })
   with_frames fs gs h k = record { tables = h.tables; tables' = h.tables'; objs = h.objs; frames = k; globals = h.globals; loaded = h.loaded; failed = h.failed; handles = h.handles; budget = h.budget; replies = h.replies }
@@ -215,7 +215,7 @@ module _ (P Q : Program) (al : Alike P Q) where
 
   set_global_tied : {w : List Label} {s t : State} → Tied w s t → {m n : ℕ} → Paired N.globals m n → (x : Val) → Tied w (set_global m x s) (set_global n x t)
   unfolding set_global
-  set_global_tied {s = s} {t = t} h {m = m} {n = n} q x = record { tables = h.tables; tables' = h.tables'; objs = h.objs; frames = h.frames; globals = λ j k r. set_pair s.globals t.globals (Some x) m n j k (λ e. al.globals_once.left m n k q (subst (λ z. Paired N.globals z k) (sym e) r)) (λ e. al.globals_once.right m j n q (subst (λ z. Paired N.globals j z) (sym e) r)) (h.globals m n q) (h.globals j k r); loaded = h.loaded; failed = h.failed; handles = h.handles; budget = h.budget; replies = h.replies }
+  set_global_tied {s = s} {t = t} h {m = m} {n = n} q x = record { tables = h.tables; tables' = h.tables'; objs = h.objs; frames = h.frames; globals = λ j k c r d. set_pair s.globals t.globals (Some x) m n j k (λ e. al.globals_once.left m n k q (subst (λ z. Paired N.globals z k) (sym e) r)) (λ e. al.globals_once.right m j n q (subst (λ z. Paired N.globals j z) (sym e) r)) (h.globals j k c r d); loaded = h.loaded; failed = h.failed; handles = h.handles; budget = h.budget; replies = h.replies }
 
   global_budget : (n : ℕ) (x : Val) (u : State) → (set_global n x u).budget ≡ u.budget
   unfolding set_global

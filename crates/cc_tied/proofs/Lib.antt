@@ -33,3 +33,4 @@ pub mod AlikeUpkeep
 pub mod AlikeReach
 pub mod AlikeParts
 pub mod AlikeStatements
+pub mod AlikeEnds
