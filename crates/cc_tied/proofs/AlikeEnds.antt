@@ -1,24 +1,24 @@
 -- Alike programs have equal plain runs, and what agrees with a program agrees with what is alike.
-use Rattle.std.proofs.Common.{◌≡◌, ◌⊎◌, inl, inr, ℕ, zero, suc, ◌-◌, ◌≤◌, Bool, true, false, List, [], ◌∷◌, ◌++◌, map, Option, Some, None, refl, sym, ap, subst, ◌∙◌, IsTrue}
+use Rattle.std.proofs.Common.{◌≡◌, ◌⊎◌, inl, inr, ℕ, zero, suc, ◌-◌, Bool, true, false, List, [], ◌∷◌, ◌++◌, map, Option, Some, None, refl, sym, ap, subst, ◌∙◌, IsTrue}
 use Rattle.std.specs.Prelude.{slice_get, nat_lt}
 use Rattle.cc_ast.specs.Syntax.{Program}
 use Rattle.cc_ast.specs.declared.tables.GlobalInfo.{GlobalInfo}
-use Rattle.cc_meaning.specs.Values.{Val, Event, Spot}
-use Rattle.cc_meaning.specs.State.{State, Tables}
-use Rattle.cc_meaning.specs.Monad.{seen, End, Res, ok, threw, over, pick}
-use Rattle.cc_meaning.specs.Store.{Global, extern, built_in, of_chunk, chunk_in, outer_global, global_by, global_kind, without_chunk, built_number}
+use Rattle.cc_meaning.specs.Values.{Val, Event}
+use Rattle.cc_meaning.specs.State.{Tables}
+use Rattle.cc_meaning.specs.Monad.{Res, pick}
+use Rattle.cc_meaning.specs.Store.{extern, built_in, of_chunk, chunk_in, outer_global, global_by, global_kind, without_chunk, built_number}
 use Rattle.cc_meaning.specs.Shapes.{tables_of}
-use Rattle.cc_meaning.specs.Script.{Script, IsFollowing, follows, graph_of, Finish, finished, stopped, finish, start, raw, run, checked, plain}
-use Rattle.cc_meaning.specs.Same.{IsBroken, IsStrayed, is_strayed, IsSettled, Prefix, IsFollowedBy, Same, Agrees}
-use Rattle.cc_meaning.specs.Alike.{Alike, Paired}
+use Rattle.cc_meaning.specs.Script.{Script, IsFollowing, follows, Finish, finish, start, run, plain}
+use Rattle.cc_meaning.specs.Same.{IsBroken, IsStrayed, is_strayed, IsSettled, IsFollowedBy}
+use Rattle.cc_meaning.specs.Alike.{Alike}
 use Rattle.cc_tied.specs.Tied.{nil_t}
 use Rattle.cc_tied.specs.Promises.{EndsAlike, same_finish, both_strayed, AlikeRuns, AgreementReachesAlike, Joining}
 use Rattle.cc_tied.proofs.Sim.{World, ResT, ok_t, threw_t, broken_t, short_t, ahead_t, over_t}
-use Rattle.cc_tied.proofs.Runs.{RunsT, raw_tied}
+use Rattle.cc_tied.proofs.Runs.{raw_tied}
 use Rattle.cc_tied.proofs.Erase.{erasure, agreement_follows_same}
 use Rattle.cc_tied.proofs.AlikeFrames.{no_frames}
 use Rattle.cc_tied.proofs.AlikeTie.{TiedA, alike, spent_a, waits_a, stray_a}
-use Rattle.cc_tied.proofs.AlikeUpkeep.{upkeep, alike_kit}
+use Rattle.cc_tied.proofs.AlikeUpkeep.{upkeep}
 use Rattle.cc_tied.proofs.AlikeStatements.{programs, chunks}
 
 -- ---- the starts are tied: a chunk's global is there in both

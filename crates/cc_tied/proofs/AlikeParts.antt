@@ -1,35 +1,33 @@
 -- Expressions, statements and lists of alike programs keep the tie of their plain runs.
-use Rattle.std.proofs.Common.{◌≡◌, ℕ, zero, suc, pos, negsuc, Bool, true, false, List, [], ◌∷◌, ◌++◌, Option, Some, None, refl, sym, ap, subst, ◌∙◌}
+use Rattle.std.proofs.Common.{◌≡◌, ℕ, suc, pos, negsuc, List, [], ◌∷◌, Option, Some, None, refl, sym, ap, subst, ◌∙◌}
 use Rattle.std.specs.Prelude.{IsTrue}
-use Rattle.cc_ast.specs.Syntax.{Prim, undefined, null, truth, whole, text, Expr, lit, var, this, fun, list, object, unary, binary, and, or, cond, assign, step, member, index, call, new, comma, cast, tick, Target, to_var, to_member, to_index, Exprs, Fields, Declarator, ForInit, no_init, init_value, init_vars, ForTarget, in_target, in_declared, Stmt, simple, vars, fun_decl, if, while, do_while, for, for_in, return, throw, break, continue, label, switch, try, pay_stmt, Stmts, no_stmts, more_stmts, MaybeStmts, absent, present, Cases, no_cases, more_cases, Program}
+use Rattle.cc_ast.specs.Syntax.{Prim, undefined, whole, text, Expr, lit, unary, member, index, call, cast, tick, Target, to_index, Exprs, Fields, Program}
 use Rattle.cc_ast.specs.declared.operator.BinOp.{BinOp}
 use Rattle.cc_ast.specs.declared.operator.UnOp.{UnOp}
 use Rattle.cc_ast.specs.declared.operator.UnOp.TheVariants.{Minus, Void, Delete}
 use Rattle.cc_ast.specs.declared.tree.Ref.{Ref}
 use Rattle.cc_ast.specs.declared.tree.Key.{Key}
-use Rattle.cc_meaning.specs.Values.{Val, prim, obj, out, Spot, at_site}
+use Rattle.cc_meaning.specs.Values.{Val, prim, Spot, at_site}
 use Rattle.cc_meaning.specs.Operators.{is_exact, key_text}
 use Rattle.cc_meaning.specs.State.{Env, Path, State, Tables}
-use Rattle.cc_meaning.specs.Monad.{passed, seen, M, Res, ok, threw, over, ret, skip, say, said, after, ◌>>=◌, with_tables}
+use Rattle.cc_meaning.specs.Monad.{passed, seen, M, Res, ok, ret, say, said, after, ◌>>=◌}
 use Rattle.cc_meaning.specs.Store.{Access, dotted, quoted, runtime, name_of, flat_of}
 use Rattle.cc_meaning.specs.Acts.{runtime_key, key_given}
-use Rattle.cc_meaning.specs.Shapes.{tables_of, plain_tables, longer, path_of, path_of_ref, path_of_target, path_of_key, literal_text, literal_key, site_of}
-use Rattle.cc_meaning.specs.Calls.{Bodies, Reference, Reach, plain, access, built_global, built_member, value, cast_reach, apply_unary, member_use}
-use Rattle.cc_meaning.specs.Meaning.{Place, variable_place, slot_place, Comp, normal, next, key_by, reference, ev, hoist, hoist_one, ex, exs, ex_chunk}
+use Rattle.cc_meaning.specs.Shapes.{tables_of, plain_tables, longer, path_of, path_of_key, literal_text, literal_key}
+use Rattle.cc_meaning.specs.Calls.{Bodies, Reach, plain, access, built_global, built_member, value, cast_reach, apply_unary, member_use}
+use Rattle.cc_meaning.specs.Meaning.{Place, slot_place, key_by, ev}
 use Rattle.cc_meaning.specs.Script as Sc
 use Rattle.cc_meaning.specs.Alike.{Around, catch_pair, Alike}
 use Rattle.cc_meaning.specs.Alike as A
-use Rattle.cc_tied.specs.Tied.{ListT, nil_t, cons_t, OptT, none_t, some_t, ValT, prim_t, out_t, obj_t, variable_t, slot_t, access_t}
+use Rattle.cc_tied.specs.Tied.{OptT, none_t, ValT, variable_t, slot_t, access_t}
 use Rattle.cc_tied.proofs.Kit.{Kit}
 use Rattle.cc_tied.proofs.Laws.{bind_ret, said_none}
-use Rattle.cc_tied.proofs.Parts.{V, PlaceV, PathT, Below, callee_later, val_later}
+use Rattle.cc_tied.proofs.Parts.{V, PlaceV, PathT, Below, callee_later}
 use Rattle.cc_tied.proofs.Calls.{rel_apply}
 use Rattle.cc_tied.proofs.Expressions as E
-use Rattle.cc_tied.proofs.Statements as F
-use Rattle.cc_tied.proofs.Turns.{FollowsChunk, follows_no_chunk, follows_more_chunk}
-use Rattle.cc_tied.proofs.Sim.{Tie, World, Later, now, later, ResT, ok_t, threw_t, broken_t, short_t, ahead_t, over_t, Sim, said_t, sim_as, sim_bind, sim_ret, sim_fault}
-use Rattle.cc_tied.proofs.Equal.{Eq, same_val, val_as}
-use Rattle.cc_tied.proofs.AlikeFrames.{EnvA, env_grows}
+use Rattle.cc_tied.proofs.Sim.{Tie, World, Later, now, later, ResT, ok_t, ahead_t, Sim, said_t, sim_as, sim_bind, sim_ret, sim_fault}
+use Rattle.cc_tied.proofs.Equal.{Eq, same_val}
+use Rattle.cc_tied.proofs.AlikeFrames.{EnvA}
 use Rattle.cc_tied.proofs.AlikeTie.{KeyN, alike, silent_skip, left_silent, right_silent}
 use Rattle.cc_tied.proofs.AlikeUpkeep.{alike_kit}
 use Rattle.cc_tied.proofs.AlikeReach as R
@@ -192,11 +190,13 @@ module _ (P Q : Program) (al : Alike P Q) where
 
       call_c : (i i' : ℕ) {f f' : Expr} {es es' : Exprs} → FollowsC f f' → E.FollowsAll K X c es es' → FollowsC (call i f es) (call i' f' es')
       unfolding ev
-      call_c i i' h k = record { by = λ p p' v l g g' t.
-          sim_bind T (h.by None None v l g g' t) (λ v2 l2 r r' q.
-          sim_bind T (R.callee_c P Q al X (later T l l2) q) (λ v3 l3 f f' ft.
-          sim_bind T (k.by v3 (later T l (later T l2 l3)) g g' (K.env_later (later T l2 l3) t)) (λ v4 l4 vs vs' vt.
-          sim_bind T (rel_apply K X (later T l (later T l2 (later T l3 l4))) tt (callee_later K l4 ft) vt) (λ v5 l5 x y r. sim_ret T (plain x) (plain y) (R.plain_c r))))) }
+      call_c i i' h k = record {
+        by = λ p p' v l g g' t.
+            sim_bind T (h.by None None v l g g' t) (λ v2 l2 r r' q.
+            sim_bind T (R.callee_c P Q al X (later T l l2) q) (λ v3 l3 f f' ft.
+            sim_bind T (k.by v3 (later T l (later T l2 l3)) g g' (K.env_later (later T l2 l3) t)) (λ v4 l4 vs vs' vt.
+            sim_bind T (rel_apply K X (later T l (later T l2 (later T l3 l4))) tt (callee_later K l4 ft) vt) (λ v5 l5 x y r. sim_ret T (plain x) (plain y) (R.plain_c r)))));
+      }
 
       -- the value between brackets
       bracket : {v : W} → Later T w v → (g g' : Env) → EnvA c v.w g g' → {k k' : Expr} → FollowsC k k' → Sim T (λ u x y. (ValT Eq x y × Written k x) × Written k' y) v (value Sc.plain B (ev Sc.plain B g None k)) (value Sc.plain B' (ev Sc.plain B' g' None k'))
@@ -204,19 +204,23 @@ module _ (P Q : Program) (al : Alike P Q) where
 
       index_c : (i i' : ℕ) {e e' k k' : Expr} → FollowsC e e' → FollowsC k k' → FollowsC (index i e k) (index i' e' k')
       unfolding ev
-      index_c i i' {k = k} {k' = k'} h hk = record { by = λ p p' v l g g' t.
-          sim_bind T ((val h).by v l g g' t) (λ v2 l2 o o' q.
-          sim_bind T (bracket (later T l l2) g g' (K.env_later l2 t) hk) (λ v3 l3 y y' r.
-          sim_bind T (keys_c i i' (literal_text k) (literal_text k') y y' (same_val r.0.0) r.0.1 r.1) (λ v4 l4 a b kt.
-          sim_bind T (E.rel_reference K X tt (paths_c None None) q kt) (λ v5 l5 a b h. sim_ret T (access a) (access b) (R.as_reach P Q al v5 (access_t h)))))) }
+      index_c i i' {k = k} {k' = k'} h hk = record {
+        by = λ p p' v l g g' t.
+            sim_bind T ((val h).by v l g g' t) (λ v2 l2 o o' q.
+            sim_bind T (bracket (later T l l2) g g' (K.env_later l2 t) hk) (λ v3 l3 y y' r.
+            sim_bind T (keys_c i i' (literal_text k) (literal_text k') y y' (same_val r.0.0) r.0.1 r.1) (λ v4 l4 a b kt.
+            sim_bind T (E.rel_reference K X tt (paths_c None None) q kt) (λ v5 l5 a b h. sim_ret T (access a) (access b) (R.as_reach P Q al v5 (access_t h))))));
+      }
 
       index_target : {Reads : Ref → Ref → Type 0} (i i' : ℕ) {e e' k k' : Expr} → FollowsC e e' → FollowsC k k' → E.FollowsTarget K X c Reads (to_index i e k) (to_index i' e' k')
       unfolding ev
-      index_target i i' {k = k} {k' = k'} h hk = record { by = λ v l g g' t.
-          sim_bind T ((val h).by v l g g' t) (λ v2 l2 o o' q.
-          sim_bind T (bracket (later T l l2) g g' (K.env_later l2 t) hk) (λ v3 l3 y y' r.
-          sim_bind T (keys_c i i' (literal_text k) (literal_text k') y y' (same_val r.0.0) r.0.1 r.1) (λ v4 l4 a b kt.
-          sim_bind T (E.rel_reference K X tt (paths_c None None) q kt) (λ v5 l5 a b h. sim_ret T (slot_place a) (slot_place b) (slot_t h))))) }
+      index_target i i' {k = k} {k' = k'} h hk = record {
+        by = λ v l g g' t.
+            sim_bind T ((val h).by v l g g' t) (λ v2 l2 o o' q.
+            sim_bind T (bracket (later T l l2) g g' (K.env_later l2 t) hk) (λ v3 l3 y y' r.
+            sim_bind T (keys_c i i' (literal_text k) (literal_text k') y y' (same_val r.0.0) r.0.1 r.1) (λ v4 l4 a b kt.
+            sim_bind T (E.rel_reference K X tt (paths_c None None) q kt) (λ v5 l5 a b h. sim_ret T (slot_place a) (slot_place b) (slot_t h)))));
+      }
 
       -- ---- signs and `void` of literals
 

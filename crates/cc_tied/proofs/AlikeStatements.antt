@@ -1,23 +1,20 @@
 -- Statements of alike programs, their bodies and their chunks keep the tie of their plain runs.
-use Rattle.std.proofs.Common.{◌≡◌, ℕ, Bool, true, false, List, [], ◌∷◌, Option, Some, None, refl, sym, ap, subst, ◌∙◌}
+use Rattle.std.proofs.Common.{◌≡◌, ℕ, List, [], ◌∷◌, Option, refl, sym, subst}
 use Rattle.cc_ast.specs.Syntax.{Expr, Target, Declarator, ForInit, ForTarget, Stmt, simple, vars, fun_decl, if, while, do_while, for, for_in, return, throw, break, continue, label, switch, try, pay_stmt, Stmts, no_stmts, more_stmts, MaybeStmts, Cases, Program}
-use Rattle.cc_ast.specs.declared.tree.Ref.{Ref}
-use Rattle.cc_meaning.specs.Values.{Val}
-use Rattle.cc_meaning.specs.State.{Env, Path, State, Tables}
-use Rattle.cc_meaning.specs.Monad.{passed, M, ret, skip, say, said, after, ◌>>=◌, with_tables}
-use Rattle.cc_meaning.specs.Shapes.{tables_of, path_of_ref, body_of}
-use Rattle.cc_meaning.specs.Calls.{Bodies}
-use Rattle.cc_meaning.specs.Meaning.{Comp, normal, next, hoist, hoist_one, ex, exs, ex_chunk, bodies}
+use Rattle.cc_meaning.specs.State.{Env, Tables}
+use Rattle.cc_meaning.specs.Monad.{passed, M, ret, say, said, after, ◌>>=◌, with_tables}
+use Rattle.cc_meaning.specs.Shapes.{tables_of}
+use Rattle.cc_meaning.specs.Meaning.{Comp, normal, next, hoist, hoist_one, ex, exs, ex_chunk}
 use Rattle.cc_meaning.specs.Script as Sc
 use Rattle.cc_meaning.specs.Alike.{Around, catch_pair, Alike, Paired}
 use Rattle.cc_meaning.specs.Alike as A
 use Rattle.cc_tied.specs.Tied.{ListT, nil_t, cons_t, OptT, none_t, some_t}
 use Rattle.cc_tied.proofs.Kit.{Kit}
-use Rattle.cc_tied.proofs.Parts.{V, CompV, Below}
+use Rattle.cc_tied.proofs.Parts.{CompV, Below}
 use Rattle.cc_tied.proofs.Expressions as E
 use Rattle.cc_tied.proofs.Statements as F
 use Rattle.cc_tied.proofs.Turns.{FollowsChunk, follows_no_chunk, follows_more_chunk, ProgramT, ChunksT, IsChunk}
-use Rattle.cc_tied.proofs.Sim.{Tie, World, Later, now, later, Sim}
+use Rattle.cc_tied.proofs.Sim.{Tie, Sim}
 use Rattle.cc_tied.proofs.AlikeTie.{alike, silent_skip, left_silent, right_silent}
 use Rattle.cc_tied.proofs.AlikeUpkeep.{alike_kit}
 use Rattle.cc_tied.proofs.AlikeParts as X

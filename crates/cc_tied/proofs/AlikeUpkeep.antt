@@ -1,40 +1,37 @@
 -- The tie of alike programs' plain runs is kept by each operation of the store.
-use Rattle.std.proofs.Common.{◌≡◌, ℕ, zero, suc, ◌≤◌, Bool, true, false, List, [], ◌∷◌, ◌++◌, length, Option, Some, None, is_some, refl, sym, ap, subst, ◌∙◌, arith}
-use Rattle.std.specs.Prelude.{slice_get, slice_set, not, ◌||◌, ◌&&◌, nat_eq, nat_le}
+use Rattle.std.proofs.Common.{◌≡◌, ℕ, ◌≤◌, Bool, true, false, List, [], ◌∷◌, ◌++◌, length, Option, Some, None, is_some, refl, sym, ap, subst, ◌∙◌, arith}
+use Rattle.std.specs.Prelude.{slice_get, not, nat_eq}
 use Rattle.std.specs.List.{list_any}
-use Rattle.cc_ast.specs.Syntax.{Prim, undefined, truth, text, Program}
-use Rattle.cc_ast.specs.declared.operator.BinOp.TheVariants.{Instance}
-use Rattle.cc_ast.specs.declared.operator.UnOp.TheVariants.{Typeof}
+use Rattle.cc_ast.specs.Syntax.{Prim, undefined, truth, Program}
 use Rattle.cc_ast.specs.declared.tree.Ref.{Ref}
-use Rattle.cc_ast.specs.declared.tables.ChunkInfo.{ChunkInfo}
-use Rattle.cc_meaning.specs.Values.{Val, prim, obj, out, View, handle, Spot}
+use Rattle.cc_meaning.specs.Values.{Val, prim, obj, out, handle, Spot}
 use Rattle.cc_meaning.specs.Operators.{list_eq}
 use Rattle.cc_meaning.specs.Names.{name_proto}
 use Rattle.cc_meaning.specs.Builtins.{ArrayAnswer, answers, answers_array, or_undefined}
-use Rattle.cc_meaning.specs.State.{Kind, keyed_kind, bare, Code, Obj, FrameKind, of_call, of_catch, of_own_name, Frame, Env, State, Tables}
-use Rattle.cc_meaning.specs.Monad.{passed, seen, marks, M, Res, ok, ret, skip, say, stop, said, after, ◌>>=◌, attempt, with_tables}
-use Rattle.cc_meaning.specs.Store.{Access, runtime, quoted, name_of, Global, extern, built_in, of_chunk, global_kind, Use, chain_of, own_value, change, frame_up, frame_at, flat_option}
+use Rattle.cc_meaning.specs.State.{keyed_kind, Code, FrameKind, of_call, of_catch, Frame, Env, State, Tables}
+use Rattle.cc_meaning.specs.Monad.{passed, seen, M, ret, skip, say, ◌>>=◌, attempt, with_tables}
+use Rattle.cc_meaning.specs.Store.{Access, runtime, quoted, name_of, Global, extern, built_in, of_chunk, global_kind, Use, own_value, change, frame_up, flat_option}
 use Rattle.cc_meaning.specs.Typed.{Variable, global, local, variable_type, value_in, doc_at, params_in, result_in, function_doc}
-use Rattle.cc_meaning.specs.SlotRules.{read_rule, write_rule, prim_read, outside_rule, rule_if, rule_unless, least, probe_rule}
-use Rattle.cc_meaning.specs.Rules.{built_op, operate_rule, enter_rule, leave_rule, take_rule, keep_rule, cast_rule, host_rule, names_well}
-use Rattle.cc_meaning.specs.Judge.{Act, operates, reads, writes, probes, enters, leaves, takes, keeps, casts, hosts, least_broken}
+use Rattle.cc_meaning.specs.SlotRules.{read_rule, write_rule, prim_read, outside_rule, rule_if, rule_unless, least}
+use Rattle.cc_meaning.specs.Rules.{built_op, operate_rule, host_rule}
+use Rattle.cc_meaning.specs.Judge.{operates, reads, writes, probes, enters, leaves, takes, keeps, casts, hosts, least_broken}
 use Rattle.cc_meaning.specs.Built.{BuiltOutcome, built_value, built_change, built_object, built_question, built_call, built_breaks, outcome_of, wanted_in, rule_in, change_rule}
-use Rattle.cc_meaning.specs.Acts.{judged, is_fatal, reading, changing, receive, receive_each, add_obj, make_object, make_array, make_from, push_frame, place_in, read_by_kind, read_place, is_loaded, global_value, read_global, read_var, frames_with, set_place, set_global, keep, write_by_kind, write_place, write_var, read_slot, write_slot, cast_to, handle_of, shown, show}
+use Rattle.cc_meaning.specs.Acts.{judged, is_fatal, reading, changing, add_obj, make_object, make_array, make_from, push_frame, place_in, read_by_kind, read_place, is_loaded, global_value, read_global, read_var, set_place, set_global, keep, write_by_kind, write_place, write_var, read_slot, write_slot, cast_to, handle_of, shown, show}
 use Rattle.cc_meaning.specs.Calls.{Bodies, code_in, code_at, prim_member, call_object, array_answer, perform, use_built}
 use Rattle.cc_meaning.specs.Shapes.{tables_of, plain_tables}
-use Rattle.cc_meaning.specs.Meaning.{head_in, call_frame}
-use Rattle.cc_meaning.specs.Script.{plain, deps_of, dependency_failed, note_load, graph_of}
+use Rattle.cc_meaning.specs.Meaning.{call_frame}
+use Rattle.cc_meaning.specs.Script.{plain, dependency_failed, note_load}
 use Rattle.cc_meaning.specs.Alike.{Paired, FramePair, call_pair, catch_pair, own_pair, Around, Numbering, PlaceA, in_call, in_catch, in_own, Alike, RefA, frame_a, global_a, owns, places_of}
 use Rattle.cc_meaning.specs.Alike as A
-use Rattle.cc_tied.specs.Tied.{ListT, nil_t, cons_t, OptT, none_t, some_t, ValT, prim_t, out_t, obj_t, WayT, CodeT, entering, leaving, loading}
-use Rattle.cc_tied.proofs.Sim.{Tie, World, Later, now, ResT, ok_t, Sim, fine, after_t, sim_as, sim_bind, sim_ret, sim_attempt, sim_tables, sim_fault}
+use Rattle.cc_tied.specs.Tied.{ListT, nil_t, OptT, none_t, ValT, prim_t, WayT, entering, leaving, loading}
+use Rattle.cc_tied.proofs.Sim.{Tie, World, now, ResT, ok_t, Sim, fine, after_t, sim_as, sim_bind, sim_ret, sim_attempt, sim_tables, sim_fault}
 use Rattle.cc_tied.proofs.Upkeep.{Upkeep, kit}
 use Rattle.cc_tied.proofs.Kit.{Kit}
 use Rattle.cc_tied.proofs.Lists.{tied_get}
 use Rattle.cc_tied.proofs.Equal.{Eq, refl_val, refl_list, same_val, same_opt, same_list, val_as}
 use Rattle.cc_tied.proofs.Fatal.{is_low, stops, decide, judged_plain, stops_low, high_outside, high_probe, high_enter, high_leave, low_take, high_keep, high_cast, least_first}
 use Rattle.cc_tied.proofs.AlikeFrames.{Label, KindA, call_k, catch_k, own_k, Chain, EnvA, chain_later, FrameA, FrameAt, frame_there, Found, find_frame, frames_found, frames_get, place_set, set_pair}
-use Rattle.cc_tied.proofs.AlikeObjects.{beyond, inside_beyond, CodeA, ObjA, code_in_t, value_same, chain_of_same, outcome_same, method_same, objs_changed}
+use Rattle.cc_tied.proofs.AlikeObjects.{inside_beyond, CodeA, code_in_t, value_same, chain_of_same, outcome_same, method_same, objs_changed}
 use Rattle.cc_tied.proofs.AlikeTie.{TiedA, KeyN, UpA, kind_same, alike, judged_a, silent_skip, silent_tables, silent_act, silent_bind, silent_receive, silent_each, both_silent}
 use Rattle.cc_tied.proofs.AlikeStore as D
 

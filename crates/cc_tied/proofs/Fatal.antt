@@ -208,7 +208,6 @@ unfolding take_rule rule_unless
 low_take T x true set = least_high _ _ high_none (high_if (is_settled T x && not set) 11 refl)
 low_take T x false set = least_first (Some 3) (rule_if (is_settled T x && not set) 11) (high_if (is_settled T x && not set) 11 refl) ∙ low_three
 
-
 pub high_keep : (T : Tables) (s : State) (x : Variable) (v : Val) → is_low (keep_rule T s x v) ≡ false
 unfolding keep_rule
 high_keep T s x v = high_unless _ 6 refl
