@@ -1,4 +1,4 @@
--- Laws of runs: what a lesser depth of calls, a larger budget, price marks and checks change.
+-- Laws of runs: what the depth of calls, the budget, price marks and checks change, and what alike programs do.
 use Rattle.std.specs.Prelude.{◌≡◌, ℕ, ◌≤◌, List, []}
 use Rattle.cc_ast.specs.Syntax.{Program}
 use Rattle.cc_ast.specs.declared.tables.GlobalInfo.{GlobalInfo}
