@@ -20,14 +20,14 @@ set_both : {X : Type 0} (gs hs : List X) (m n : ℕ) (x : X) (a : Option X) → 
 set_both gs hs m n x None e d = no_place gs m x e ∙ sym (no_place hs n x d)
 set_both gs hs m n x (Some a) e d = get_set_same gs m a x e ∙ sym (get_set_same hs n a x d)
 
-set_cases : {X : Type 0} (gs hs : List X) (x : X) (m n j k : ℕ) → (m ≡ j → n ≡ k) → (n ≡ k → m ≡ j) → slice_get gs m ≡ slice_get hs n → slice_get gs j ≡ slice_get hs k → (m ≡ j) ⊎ (m ≢ j) → (n ≡ k) ⊎ (n ≢ k) → slice_get (slice_set gs m x) j ≡ slice_get (slice_set hs n x) k
-set_cases gs hs x m n j k p q a b (inl e) (inl d) = subst (λ z. slice_get (slice_set gs m x) z ≡ slice_get (slice_set hs n x) k) e (subst (λ z. slice_get (slice_set gs m x) m ≡ slice_get (slice_set hs n x) z) d (set_both gs hs m n x _ refl (sym a)))
-set_cases gs hs x m n j k p q a b (inl e) (inr d) = absurd (d (p e))
-set_cases gs hs x m n j k p q a b (inr e) (inl d) = absurd (e (q d))
-set_cases gs hs x m n j k p q a b (inr e) (inr d) = get_set_other gs m j x e ∙ b ∙ sym (get_set_other hs n k x d)
+set_cases : {X : Type 0} (gs hs : List X) (x : X) (m n j k : ℕ) → (m ≡ j → n ≡ k) → (n ≡ k → m ≡ j) → slice_get gs j ≡ slice_get hs k → (m ≡ j) ⊎ (m ≢ j) → (n ≡ k) ⊎ (n ≢ k) → slice_get (slice_set gs m x) j ≡ slice_get (slice_set hs n x) k
+set_cases gs hs x m n j k p q b (inl e) (inl d) = subst (λ z. slice_get (slice_set gs m x) z ≡ slice_get (slice_set hs n x) k) e (subst (λ z. slice_get (slice_set gs m x) m ≡ slice_get (slice_set hs n x) z) d (set_both gs hs m n x _ refl (ap (λ z. slice_get hs z) d ∙ sym b ∙ ap (λ z. slice_get gs z) (sym e))))
+set_cases gs hs x m n j k p q b (inl e) (inr d) = absurd (d (p e))
+set_cases gs hs x m n j k p q b (inr e) (inl d) = absurd (e (q d))
+set_cases gs hs x m n j k p q b (inr e) (inr d) = get_set_other gs m j x e ∙ b ∙ sym (get_set_other hs n k x d)
 
-pub set_pair : {X : Type 0} (gs hs : List X) (x : X) (m n j k : ℕ) → (m ≡ j → n ≡ k) → (n ≡ k → m ≡ j) → slice_get gs m ≡ slice_get hs n → slice_get gs j ≡ slice_get hs k → slice_get (slice_set gs m x) j ≡ slice_get (slice_set hs n x) k
-set_pair gs hs x m n j k p q a b = set_cases gs hs x m n j k p q a b (place_cases m j) (place_cases n k)
+pub set_pair : {X : Type 0} (gs hs : List X) (x : X) (m n j k : ℕ) → (m ≡ j → n ≡ k) → (n ≡ k → m ≡ j) → slice_get gs j ≡ slice_get hs k → slice_get (slice_set gs m x) j ≡ slice_get (slice_set hs n x) k
+set_pair gs hs x m n j k p q b = set_cases gs hs x m n j k p q b (place_cases m j) (place_cases n k)
 
 -- ---- labels of frames: what stands for one another, and the upper frame, which has one number in both runs
 
@@ -166,4 +166,4 @@ module _ (S T : Tables) (N : Numbering) where
 
     pub place_set : {w : List Label} {fs gs : List Frame} → Frames w fs gs → (i : ℕ) (l : Label) → slice_get w i ≡ Some l → {a b : Option Frame} → FrameAt l a b → (x : Val) {m n : ℕ} → PlaceA S T N l.pair m n → Frames w (frames_with fs i m x a) (frames_with gs i n x b)
     unfolding frames_with
-    place_set h i l e (frame_there {a = a} {b = b} k) x {m = m} {n = n} q = frames_set h i l e (record { kind = k.kind; up = k.up; up' = k.up'; values = λ j o r. set_pair a.values b.values (Some x) m n j o (place_right q r) (place_left q r) (k.values m n q) (k.values j o r) })
+    place_set h i l e (frame_there {a = a} {b = b} k) x {m = m} {n = n} q = frames_set h i l e (record { kind = k.kind; up = k.up; up' = k.up'; values = λ j o r. set_pair a.values b.values (Some x) m n j o (place_right q r) (place_left q r) (k.values j o r) })

@@ -1,35 +1,33 @@
 -- Expressions, statements and lists of alike programs keep the tie of their plain runs.
-use Rattle.std.proofs.Common.{◌≡◌, ℕ, zero, suc, pos, negsuc, Bool, true, false, List, [], ◌∷◌, ◌++◌, Option, Some, None, refl, sym, ap, subst, ◌∙◌}
+use Rattle.std.proofs.Common.{◌≡◌, ℕ, suc, pos, negsuc, List, [], ◌∷◌, Option, Some, None, refl, sym, ap, subst, ◌∙◌}
 use Rattle.std.specs.Prelude.{IsTrue}
-use Rattle.cc_ast.specs.Syntax.{Prim, undefined, null, truth, whole, text, Expr, lit, var, this, fun, list, object, unary, binary, and, or, cond, assign, step, member, index, call, new, comma, cast, tick, Target, to_var, to_member, to_index, Exprs, Fields, Declarator, ForInit, no_init, init_value, init_vars, ForTarget, in_target, in_declared, Stmt, simple, vars, fun_decl, if, while, do_while, for, for_in, return, throw, break, continue, label, switch, try, pay_stmt, Stmts, no_stmts, more_stmts, MaybeStmts, absent, present, Cases, no_cases, more_cases, Program}
+use Rattle.cc_ast.specs.Syntax.{Prim, undefined, whole, text, Expr, lit, unary, member, index, call, cast, tick, Target, to_index, Exprs, Fields, Program}
 use Rattle.cc_ast.specs.declared.operator.BinOp.{BinOp}
 use Rattle.cc_ast.specs.declared.operator.UnOp.{UnOp}
 use Rattle.cc_ast.specs.declared.operator.UnOp.TheVariants.{Minus, Void, Delete}
 use Rattle.cc_ast.specs.declared.tree.Ref.{Ref}
 use Rattle.cc_ast.specs.declared.tree.Key.{Key}
-use Rattle.cc_meaning.specs.Values.{Val, prim, obj, out, Spot, at_site}
+use Rattle.cc_meaning.specs.Values.{Val, prim, Spot, at_site}
 use Rattle.cc_meaning.specs.Operators.{is_exact, key_text}
 use Rattle.cc_meaning.specs.State.{Env, Path, State, Tables}
-use Rattle.cc_meaning.specs.Monad.{passed, seen, M, Res, ok, threw, over, ret, skip, say, said, after, ◌>>=◌, with_tables}
+use Rattle.cc_meaning.specs.Monad.{passed, seen, M, Res, ok, ret, say, said, after, ◌>>=◌}
 use Rattle.cc_meaning.specs.Store.{Access, dotted, quoted, runtime, name_of, flat_of}
 use Rattle.cc_meaning.specs.Acts.{runtime_key, key_given}
-use Rattle.cc_meaning.specs.Shapes.{tables_of, plain_tables, longer, path_of, path_of_ref, path_of_target, path_of_key, literal_text, literal_key, site_of}
-use Rattle.cc_meaning.specs.Calls.{Bodies, Reference, Reach, plain, access, built_global, built_member, value, cast_reach, apply_unary, member_use}
-use Rattle.cc_meaning.specs.Meaning.{Place, variable_place, slot_place, Comp, normal, next, key_by, reference, ev, hoist, hoist_one, ex, exs, ex_chunk}
+use Rattle.cc_meaning.specs.Shapes.{tables_of, plain_tables, longer, path_of, path_of_key, literal_text, literal_key}
+use Rattle.cc_meaning.specs.Calls.{Bodies, Reach, plain, access, built_global, built_member, value, cast_reach, apply_unary, member_use}
+use Rattle.cc_meaning.specs.Meaning.{Place, slot_place, key_by, ev}
 use Rattle.cc_meaning.specs.Script as Sc
 use Rattle.cc_meaning.specs.Alike.{Around, catch_pair, Alike}
 use Rattle.cc_meaning.specs.Alike as A
-use Rattle.cc_tied.specs.Tied.{ListT, nil_t, cons_t, OptT, none_t, some_t, ValT, prim_t, out_t, obj_t, variable_t, slot_t, access_t}
+use Rattle.cc_tied.specs.Tied.{OptT, none_t, ValT, variable_t, slot_t, access_t}
 use Rattle.cc_tied.proofs.Kit.{Kit}
 use Rattle.cc_tied.proofs.Laws.{bind_ret, said_none}
-use Rattle.cc_tied.proofs.Parts.{V, PlaceV, PathT, Below, callee_later, val_later}
+use Rattle.cc_tied.proofs.Parts.{V, PlaceV, PathT, Below, callee_later}
 use Rattle.cc_tied.proofs.Calls.{rel_apply}
 use Rattle.cc_tied.proofs.Expressions as E
-use Rattle.cc_tied.proofs.Statements as F
-use Rattle.cc_tied.proofs.Turns.{FollowsChunk, follows_no_chunk, follows_more_chunk}
-use Rattle.cc_tied.proofs.Sim.{Tie, World, Later, now, later, ResT, ok_t, threw_t, broken_t, short_t, ahead_t, over_t, Sim, said_t, sim_as, sim_bind, sim_ret, sim_fault}
-use Rattle.cc_tied.proofs.Equal.{Eq, same_val, val_as}
-use Rattle.cc_tied.proofs.AlikeFrames.{EnvA, env_grows}
+use Rattle.cc_tied.proofs.Sim.{Tie, World, Later, now, later, ResT, ok_t, ahead_t, Sim, said_t, sim_as, sim_bind, sim_ret, sim_fault}
+use Rattle.cc_tied.proofs.Equal.{Eq, same_val}
+use Rattle.cc_tied.proofs.AlikeFrames.{EnvA}
 use Rattle.cc_tied.proofs.AlikeTie.{KeyN, alike, silent_skip, left_silent, right_silent}
 use Rattle.cc_tied.proofs.AlikeUpkeep.{alike_kit}
 use Rattle.cc_tied.proofs.AlikeReach as R
@@ -64,11 +62,11 @@ module _ (P Q : Program) (al : Alike P Q) where
 
   -- ---- a price mark of one run alone
 
-  mark_left : {A B : Type 0} {R : W → A → B → Type 0} {w : W} (p : ℕ) (m : M A) (m' : M B) → Sim T R w m m' → Sim T R w (say (passed p) >>= λ _. m) m'
+  pub mark_left : {A B : Type 0} {R : W → A → B → Type 0} {w : W} (p : ℕ) (m : M A) (m' : M B) → Sim T R w m m' → Sim T R w (say (passed p) >>= λ _. m) m'
   unfolding say ◌>>=◌ after seen
   mark_left {R = R} {w = w} p m m' h s t ti le le' = subst (λ z. ResT T R w (said (passed p ∷ []) (m s)) z) (said_none (m' t)) (said_t T (passed p ∷ []) [] refl (now T w) tt (h s t ti le le'))
 
-  mark_right : {A B : Type 0} {R : W → A → B → Type 0} {w : W} (p : ℕ) (m : M A) (m' : M B) → Sim T R w m m' → Sim T R w m (say (passed p) >>= λ _. m')
+  pub mark_right : {A B : Type 0} {R : W → A → B → Type 0} {w : W} (p : ℕ) (m : M A) (m' : M B) → Sim T R w m m' → Sim T R w m (say (passed p) >>= λ _. m')
   unfolding say ◌>>=◌ after seen
   mark_right {R = R} {w = w} p m m' h s t ti le le' = subst (λ z. ResT T R w z (said (passed p ∷ []) (m' t))) (said_none (m s)) (said_t T [] (passed p ∷ []) refl (now T w) tt (h s t ti le le'))
 
@@ -132,10 +130,10 @@ module _ (P Q : Program) (al : Alike P Q) where
       lift : {e e' : Expr} → ((p p' : Option Path) → E.FollowsRef K X c p p' e e') → FollowsC e e'
       lift h = record { by = λ p p' v l g g' t. sim_as T (λ u lu a b q. R.as_reach P Q al u q) ((h p p').by v l g g' t) }
 
-      as_val : {e e' : Expr} → FollowsC e e' → (p p' : Option Path) → E.FollowsAs K X (V K) c p p' e e'
+      pub as_val : {e e' : Expr} → FollowsC e e' → (p p' : Option Path) → E.FollowsAs K X (V K) c p p' e e'
       as_val h p p' = record { by = λ v l g g' t. R.value_c P Q al X l (h.by p p' v l g g' t) }
 
-      val : {e e' : Expr} → FollowsC e e' → E.Follows K X c e e'
+      pub val : {e e' : Expr} → FollowsC e e' → E.Follows K X c e e'
       val h = as_val h None None
 
       prop_c : {p q : ℕ} → A.PropA S S' N p q → E.PropT K X p q
@@ -286,7 +284,7 @@ module _ (P Q : Program) (al : Alike P Q) where
         expr (A.left_void {i = i} {j = j} {k = k} e) = left_void_c i j k (expr e)
         expr (A.right_void {i = i} {j = j} {k = k} e) = right_void_c i j k (expr e)
 
-        target : {t t' : Target} → A.TargetA S S' N c t t' → E.FollowsTarget K X c (K.ReadT c) t t'
+        pub target : {t t' : Target} → A.TargetA S S' N c t t' → E.FollowsTarget K X c (K.ReadT c) t t'
         target (A.to_var_a r) = E.target_var K X c tt r r
         target (A.to_member_a {p = p} {q = q} {e = e} {d = d} h k) = E.target_member K X c tt (paths_c (longer (path_of e) p) (longer (path_of d) q)) (prop_c k) (val (expr h))
         target (A.to_index_a {i = i} {j = j} e k) = index_target i j (expr e) (expr k)

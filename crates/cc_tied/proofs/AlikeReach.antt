@@ -1,43 +1,41 @@
 -- What expressions of alike programs reach, up to casts: an access may stand under casts in the one run alone.
-use Rattle.std.proofs.Common.{◌≡◌, ℕ, zero, suc, ℤ, pos, negsuc, if◌then◌else◌, Bool, true, false, List, [], ◌∷◌, ◌++◌, map, Option, Some, None, is_some, refl, sym, ap, subst, ◌∙◌, ◌≤◌}
+use Rattle.std.proofs.Common.{◌≡◌, ℕ, zero, suc, ℤ, pos, negsuc, if◌then◌else◌, Bool, true, false, List, [], ◌∷◌, map, Option, Some, None, is_some, refl, sym, ap, subst, ◌∙◌, ◌≤◌}
 use Rattle.std.specs.Prelude.{slice_get, IsTrue, not}
 use Rattle.std.specs.Int.{is_negative}
 use Rattle.std.proofs.lemmas.Bool.Decides.{nat_tests}
 use Rattle.std.proofs.Common.{arith}
-use Rattle.cc_ast.specs.Syntax.{Prim, undefined, null, truth, whole, text, Expr, lit, unary, member, call, cast, tick, Exprs, Program}
+use Rattle.cc_ast.specs.Syntax.{Prim, undefined, null, truth, whole, text, lit, unary, Program}
 use Rattle.cc_ast.specs.declared.operator.UnOp.{UnOp}
-use Rattle.cc_ast.specs.declared.operator.UnOp.TheVariants.{Minus, Void, Delete}
+use Rattle.cc_ast.specs.declared.operator.UnOp.TheVariants.{Minus, Void}
 use Rattle.cc_ast.specs.declared.tables.GlobalInfo.{GlobalInfo}
 use Rattle.cc_meaning.specs.Values.{Val, prim, obj, out, Spot, at_site}
 use Rattle.cc_meaning.specs.Operators.{list_eq, is_exact, Outcome, gives, breaks, number, unary_of, prim_unary, on_whole, whole_unary, with_sign}
 use Rattle.cc_meaning.specs.Builtins.{TextUse, text_method}
 use Rattle.cc_meaning.specs.Names.{name_length}
 use Rattle.cc_meaning.specs.State.{Env, Path, State, Tables}
-use Rattle.cc_meaning.specs.Monad.{passed, seen, M, Res, ok, ret, skip, say, stop, said, after, ◌>>=◌, with_tables, pick}
-use Rattle.cc_meaning.specs.Store.{Access, dotted, name_of, Built, flat_of, flat_place, flats_in, paired, Use, of_text}
+use Rattle.cc_meaning.specs.Monad.{M, ok, ret, skip, ◌>>=◌, pick}
+use Rattle.cc_meaning.specs.Store.{Access, dotted, name_of, Built, flat_of, flat_place, flats_in, paired, Use}
 use Rattle.cc_meaning.specs.SlotRules.{read_rule, prim_read, text_read}
 use Rattle.cc_meaning.specs.Rules.{unary_op, unary_rule, operate_rule, outcome_rule}
 use Rattle.cc_meaning.specs.Judge.{Act, operates, reads, casts, least_broken}
-use Rattle.cc_meaning.specs.Acts.{judged, allowed, operate_one, outcome_value, cast_to}
-use Rattle.cc_meaning.specs.Shapes.{tables_of, without_paths, plain_tables, longer, path_of}
-use Rattle.cc_meaning.specs.Calls.{Bodies, Reference, Reach, plain, access, built_global, built_member, Callee, called_value, called_use, get_on, take_path, cast_all, get, value_of, value, delete_at, apply_unary, cast_reach, read_method, receiver_of, receiver_by, callee_by, callee_of, method_on, text_use_of, member_use}
-use Rattle.cc_meaning.specs.Meaning.{reference, reach_member, ev}
+use Rattle.cc_meaning.specs.Acts.{judged, operate_one, outcome_value, cast_to}
+use Rattle.cc_meaning.specs.Shapes.{tables_of, without_paths, plain_tables}
+use Rattle.cc_meaning.specs.Calls.{Bodies, Reference, Reach, plain, access, built_global, built_member, called_value, called_use, take_path, cast_all, get, value_of, value, delete_at, apply_unary, read_method, receiver_of, receiver_by, callee_by, callee_of, method_on, text_use_of, member_use}
+use Rattle.cc_meaning.specs.Meaning.{reach_member, ev}
 use Rattle.cc_meaning.specs.Script as Sc
-use Rattle.cc_meaning.specs.Alike.{Around, Alike}
-use Rattle.cc_meaning.specs.Alike as A
-use Rattle.cc_tied.specs.Tied.{ListT, OptT, none_t, some_t, ValT, prim_t, out_t, obj_t, CalleeT, plain_t, access_t, global_t, member_t, value_t, use_t, cons_t, nil_t}
+use Rattle.cc_meaning.specs.Alike.{Alike}
+use Rattle.cc_tied.specs.Tied.{OptT, none_t, some_t, ValT, CalleeT, plain_t, access_t, global_t, member_t, value_t, use_t, cons_t, nil_t}
 use Rattle.cc_tied.proofs.Kit.{Kit}
-use Rattle.cc_tied.proofs.Laws.{said_none, ret_bind, bind_ret, bind_assoc}
-use Rattle.cc_tied.proofs.Parts.{ReferenceV, ReachV, PathT, Below, callee_later}
-use Rattle.cc_tied.proofs.Judged.{rel_remove_on, rel_operate_one}
-use Rattle.cc_tied.proofs.Calls.{rel_get_on, rel_apply, rel_callee_of}
+use Rattle.cc_tied.proofs.Laws.{ret_bind}
+use Rattle.cc_tied.proofs.Parts.{ReachV, PathT, Below}
+use Rattle.cc_tied.proofs.Judged.{rel_remove_on}
+use Rattle.cc_tied.proofs.Calls.{rel_get_on, rel_callee_of}
 use Rattle.cc_tied.proofs.Expressions as E
-use Rattle.cc_tied.proofs.Sim.{Tie, World, Later, now, later, ResT, ok_t, Sim, fine, said_t, sim_as, sim_bind, sim_ret, sim_tables, sim_fault}
-use Rattle.cc_tied.proofs.Upkeep.{sim_method}
-use Rattle.cc_tied.proofs.Equal.{Eq, val_as, same_val}
+use Rattle.cc_tied.proofs.Sim.{Tie, World, Later, later, ResT, Sim, fine, sim_bind, sim_ret, sim_tables, sim_fault}
+use Rattle.cc_tied.proofs.Equal.{Eq, same_val}
 use Rattle.cc_tied.proofs.Fatal.{stops, decide, judged_plain, stops_low, is_low, high_read, high_outside}
 use Rattle.cc_tied.proofs.AlikeFrames.{EnvA, env_grows}
-use Rattle.cc_tied.proofs.AlikeTie.{TiedA, KeyN, alike, Silent, silent_skip, silent_bind, silent_tables, silent_act, silent_receive, both_silent, left_silent, right_silent}
+use Rattle.cc_tied.proofs.AlikeTie.{TiedA, KeyN, alike, Silent, silent_skip, silent_bind, silent_tables, silent_act, silent_receive, both_silent}
 use Rattle.cc_tied.proofs.AlikeStore as D
 use Rattle.cc_tied.proofs.AlikeUpkeep as U
 

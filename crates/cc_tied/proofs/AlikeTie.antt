@@ -9,7 +9,7 @@ use Rattle.cc_ast.specs.declared.tables.Element.{Element}
 use Rattle.cc_meaning.specs.Values.{Val, prim, obj, out, Spot}
 use Rattle.cc_meaning.specs.State.{Obj, Reply, State, Tables}
 use Rattle.cc_meaning.specs.Monad.{spent, waits, strayed, End, paid, M, ok, ret, skip, said, after, ◌>>=◌, with_tables}
-use Rattle.cc_meaning.specs.Store.{Access, name_of, runtime, quoted, without_chunk, chunk_in, global_kind, change}
+use Rattle.cc_meaning.specs.Store.{Access, name_of, runtime, quoted, without_chunk, chunk_in, global_kind, of_chunk, change}
 use Rattle.cc_meaning.specs.Typed.{entered_in}
 use Rattle.cc_meaning.specs.Judge.{Act, least_broken}
 use Rattle.cc_meaning.specs.Acts.{judged, changing, enter_element, receive, receive_all, receive_each}
@@ -63,7 +63,7 @@ module _ (P Q : Program) (al : Alike P Q) where
     pub tables' : t.tables ≡ plain_tables Q
     pub objs : ListT (ObjA S N w) s.objs t.objs
     pub frames : Frames S S' N w s.frames t.frames
-    pub globals : (m n : ℕ) → Paired N.globals m n → slice_get s.globals m ≡ slice_get t.globals n
+    pub globals : (m n c : ℕ) → Paired N.globals m n → global_kind S m ≡ of_chunk c → slice_get s.globals m ≡ slice_get t.globals n
     pub loaded : s.loaded ≡ t.loaded
     pub failed : s.failed ≡ t.failed
     pub handles : s.handles ≡ t.handles

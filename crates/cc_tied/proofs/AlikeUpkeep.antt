@@ -1,40 +1,37 @@
 -- The tie of alike programs' plain runs is kept by each operation of the store.
-use Rattle.std.proofs.Common.{◌≡◌, ℕ, zero, suc, ◌≤◌, Bool, true, false, List, [], ◌∷◌, ◌++◌, length, Option, Some, None, is_some, refl, sym, ap, subst, ◌∙◌, arith}
-use Rattle.std.specs.Prelude.{slice_get, slice_set, not, ◌||◌, ◌&&◌, nat_eq, nat_le}
+use Rattle.std.proofs.Common.{◌≡◌, ℕ, ◌≤◌, Bool, true, false, List, [], ◌∷◌, ◌++◌, length, Option, Some, None, is_some, refl, sym, ap, subst, ◌∙◌, arith}
+use Rattle.std.specs.Prelude.{slice_get, not, nat_eq}
 use Rattle.std.specs.List.{list_any}
-use Rattle.cc_ast.specs.Syntax.{Prim, undefined, truth, text, Program}
-use Rattle.cc_ast.specs.declared.operator.BinOp.TheVariants.{Instance}
-use Rattle.cc_ast.specs.declared.operator.UnOp.TheVariants.{Typeof}
+use Rattle.cc_ast.specs.Syntax.{Prim, undefined, truth, Program}
 use Rattle.cc_ast.specs.declared.tree.Ref.{Ref}
-use Rattle.cc_ast.specs.declared.tables.ChunkInfo.{ChunkInfo}
-use Rattle.cc_meaning.specs.Values.{Val, prim, obj, out, View, handle, Spot}
+use Rattle.cc_meaning.specs.Values.{Val, prim, obj, out, handle, Spot}
 use Rattle.cc_meaning.specs.Operators.{list_eq}
 use Rattle.cc_meaning.specs.Names.{name_proto}
 use Rattle.cc_meaning.specs.Builtins.{ArrayAnswer, answers, answers_array, or_undefined}
-use Rattle.cc_meaning.specs.State.{Kind, keyed_kind, bare, Code, Obj, FrameKind, of_call, of_catch, of_own_name, Frame, Env, State, Tables}
-use Rattle.cc_meaning.specs.Monad.{passed, seen, marks, M, Res, ok, ret, skip, say, stop, said, after, ◌>>=◌, attempt, with_tables}
-use Rattle.cc_meaning.specs.Store.{Access, runtime, quoted, name_of, Global, extern, built_in, of_chunk, global_kind, Use, chain_of, own_value, change, frame_up, frame_at, flat_option}
+use Rattle.cc_meaning.specs.State.{keyed_kind, Code, FrameKind, of_call, of_catch, Frame, Env, State, Tables}
+use Rattle.cc_meaning.specs.Monad.{passed, seen, M, ret, skip, say, ◌>>=◌, attempt, with_tables}
+use Rattle.cc_meaning.specs.Store.{Access, runtime, quoted, name_of, Global, extern, built_in, of_chunk, global_kind, Use, own_value, change, frame_up, flat_option}
 use Rattle.cc_meaning.specs.Typed.{Variable, global, local, variable_type, value_in, doc_at, params_in, result_in, function_doc}
-use Rattle.cc_meaning.specs.SlotRules.{read_rule, write_rule, prim_read, outside_rule, rule_if, rule_unless, least, probe_rule}
-use Rattle.cc_meaning.specs.Rules.{built_op, operate_rule, enter_rule, leave_rule, take_rule, keep_rule, cast_rule, host_rule, names_well}
-use Rattle.cc_meaning.specs.Judge.{Act, operates, reads, writes, probes, enters, leaves, takes, keeps, casts, hosts, least_broken}
+use Rattle.cc_meaning.specs.SlotRules.{read_rule, write_rule, prim_read, outside_rule, rule_if, rule_unless, least}
+use Rattle.cc_meaning.specs.Rules.{built_op, operate_rule, host_rule}
+use Rattle.cc_meaning.specs.Judge.{operates, reads, writes, probes, enters, leaves, takes, keeps, casts, hosts, least_broken}
 use Rattle.cc_meaning.specs.Built.{BuiltOutcome, built_value, built_change, built_object, built_question, built_call, built_breaks, outcome_of, wanted_in, rule_in, change_rule}
-use Rattle.cc_meaning.specs.Acts.{judged, is_fatal, reading, changing, receive, receive_each, add_obj, make_object, make_array, make_from, push_frame, place_in, read_by_kind, read_place, is_loaded, global_value, read_global, read_var, frames_with, set_place, set_global, keep, write_by_kind, write_place, write_var, read_slot, write_slot, cast_to, handle_of, shown, show}
+use Rattle.cc_meaning.specs.Acts.{judged, is_fatal, reading, changing, add_obj, make_object, make_array, make_from, push_frame, place_in, read_by_kind, read_place, is_loaded, global_value, read_global, read_var, set_place, set_global, keep, write_by_kind, write_place, write_var, read_slot, write_slot, cast_to, handle_of, shown, show}
 use Rattle.cc_meaning.specs.Calls.{Bodies, code_in, code_at, prim_member, call_object, array_answer, perform, use_built}
 use Rattle.cc_meaning.specs.Shapes.{tables_of, plain_tables}
-use Rattle.cc_meaning.specs.Meaning.{head_in, call_frame}
-use Rattle.cc_meaning.specs.Script.{plain, deps_of, dependency_failed, note_load, graph_of}
+use Rattle.cc_meaning.specs.Meaning.{call_frame}
+use Rattle.cc_meaning.specs.Script.{plain, dependency_failed, note_load}
 use Rattle.cc_meaning.specs.Alike.{Paired, FramePair, call_pair, catch_pair, own_pair, Around, Numbering, PlaceA, in_call, in_catch, in_own, Alike, RefA, frame_a, global_a, owns, places_of}
 use Rattle.cc_meaning.specs.Alike as A
-use Rattle.cc_tied.specs.Tied.{ListT, nil_t, cons_t, OptT, none_t, some_t, ValT, prim_t, out_t, obj_t, WayT, CodeT, entering, leaving, loading}
-use Rattle.cc_tied.proofs.Sim.{Tie, World, Later, now, ResT, ok_t, Sim, fine, after_t, sim_as, sim_bind, sim_ret, sim_attempt, sim_tables, sim_fault}
+use Rattle.cc_tied.specs.Tied.{ListT, nil_t, OptT, none_t, ValT, prim_t, WayT, entering, leaving, loading}
+use Rattle.cc_tied.proofs.Sim.{Tie, World, now, ResT, ok_t, Sim, fine, after_t, sim_as, sim_bind, sim_ret, sim_attempt, sim_tables, sim_fault}
 use Rattle.cc_tied.proofs.Upkeep.{Upkeep, kit}
 use Rattle.cc_tied.proofs.Kit.{Kit}
 use Rattle.cc_tied.proofs.Lists.{tied_get}
 use Rattle.cc_tied.proofs.Equal.{Eq, refl_val, refl_list, same_val, same_opt, same_list, val_as}
 use Rattle.cc_tied.proofs.Fatal.{is_low, stops, decide, judged_plain, stops_low, high_outside, high_probe, high_enter, high_leave, low_take, high_keep, high_cast, least_first}
 use Rattle.cc_tied.proofs.AlikeFrames.{Label, KindA, call_k, catch_k, own_k, Chain, EnvA, chain_later, FrameA, FrameAt, frame_there, Found, find_frame, frames_found, frames_get, place_set, set_pair}
-use Rattle.cc_tied.proofs.AlikeObjects.{beyond, inside_beyond, CodeA, ObjA, code_in_t, value_same, chain_of_same, outcome_same, method_same, objs_changed}
+use Rattle.cc_tied.proofs.AlikeObjects.{inside_beyond, CodeA, code_in_t, value_same, chain_of_same, outcome_same, method_same, objs_changed}
 use Rattle.cc_tied.proofs.AlikeTie.{TiedA, KeyN, UpA, kind_same, alike, judged_a, silent_skip, silent_tables, silent_act, silent_bind, silent_receive, silent_each, both_silent}
 use Rattle.cc_tied.proofs.AlikeStore as D
 
@@ -152,19 +149,19 @@ module _ (P Q : Program) (al : Alike P Q) where
   unfolding is_loaded
   loaded_same ti c = ap (λ z. list_any (λ d. nat_eq d c) z) ti.loaded
 
-  global_same : {w : List Label} {s t : State} → Tied w s t → {m n : ℕ} → Paired N.globals m n → global_value s m ≡ global_value t n
+  global_same : {w : List Label} {s t : State} → Tied w s t → {m n : ℕ} (c : ℕ) → Paired N.globals m n → global_kind s.tables m ≡ of_chunk c → global_value s m ≡ global_value t n
   unfolding global_value
-  global_same ti q = ap (λ z. flat_option z) (ti.globals _ _ q)
+  global_same ti {m = m} c q e = ap (λ z. flat_option z) (ti.globals _ _ c q (sym (kind_same P m) ∙ sym (ap (λ z. global_kind z m) ti.tables) ∙ e))
 
   take_global : {w : W} (i i' : Spot) (m n : ℕ) (l l' b b' : Bool) (v v' : Val) → l ≡ l' → v ≡ v' → Sim T Vals w (judged plain i (takes (global m) l b) (ret v)) (judged plain i' (takes (global n) l' b') (ret v'))
   unfolding least_broken
   take_global i i' m n l l' b b' v v' d e = judged_a P Q al i i' (takes (global m) l b) (takes (global n) l' b') _ _ (λ s t ti. stops_low (takes (global m) l b) refl _ ∙ low_take s.tables (global m) l b ∙ ap not d ∙ sym (low_take t.tables (global n) l' b') ∙ sym (stops_low (takes (global n) l' b') refl _)) (sim_ret T v v' (val_as e))
 
-  global_t : {w : W} (i i' : Spot) {m n : ℕ} → Paired N.globals m n → (k : Global) → (k ≡ extern → m ≡ n) → Sim T Vals w (read_global plain i m k) (read_global plain i' n k)
+  global_t : {w : W} (i i' : Spot) {m n : ℕ} {s t : State} → Paired N.globals m n → (k : Global) → (k ≡ extern → m ≡ n) → ((c : ℕ) → k ≡ of_chunk c → global_value s m ≡ global_value t n) → Tied w.w s t → s.budget ≤ w.l → t.budget ≤ w.r → ResT T Vals w (read_global plain i m k s) (read_global plain i' n k t)
   unfolding read_global
-  global_t i i' {m = m} {n = n} q extern e s t ti le le' = sim_ret T _ _ (val_as (ap out (e refl))) s t ti le le'
-  global_t i i' q (built_in b) e s t ti le le' = sim_fault T tt 2 s t ti le le'
-  global_t i i' {m = m} {n = n} q (of_chunk c) e s t ti le le' = take_global i i' m n _ _ _ _ _ _ (loaded_same ti c) (ap or_undefined (global_same ti q)) s t ti le le'
+  global_t i i' q extern e h ti le le' = sim_ret T _ _ (val_as (ap out (e refl))) _ _ ti le le'
+  global_t i i' q (built_in b) e h ti le le' = sim_fault T tt 2 _ _ ti le le'
+  global_t i i' {m = m} {n = n} q (of_chunk c) e h ti le le' = take_global i i' m n _ _ _ _ _ _ (loaded_same ti c) (ap or_undefined (h c refl)) _ _ ti le le'
 
   kinds : {w : List Label} {s t : State} → Tied w s t → {m n : ℕ} → Paired N.globals m n → global_kind s.tables m ≡ global_kind t.tables n
   kinds ti {m = m} {n = n} q = ap (λ z. global_kind z m) ti.tables ∙ kind_same P m ∙ (al.globals m n q).kind ∙ sym (kind_same Q n) ∙ sym (ap (λ z. global_kind z n) ti.tables')
@@ -175,7 +172,7 @@ module _ (P Q : Program) (al : Alike P Q) where
   read_var_t : {w : W} (i i' : Spot) {c : Around} {g h : Env} {r r' : Ref} → EnvA c w.w g h → RefA S S' N c r r' → Sim T Vals w (read_var plain i g r) (read_var plain i' h r')
   unfolding read_var
   read_var_t i i' e (frame_a p q l) s t ti le le' = place_t i i' (frames_found S S' N ti.frames (find_frame S S' N ti.frames q e)) l s t ti le le'
-  read_var_t {w = w} i i' e (global_a {m = m} {n = n} q) s t ti le le' = subst (λ z. ResT T Vals w (read_global plain i m (global_kind s.tables m) s) (read_global plain i' n z t)) (kinds ti q) (global_t i i' q (global_kind s.tables m) (extern_one ti q) s t ti le le')
+  read_var_t {w = w} i i' e (global_a {m = m} {n = n} q) s t ti le le' = subst (λ z. ResT T Vals w (read_global plain i m (global_kind s.tables m) s) (read_global plain i' n z t)) (kinds ti q) (global_t i i' q (global_kind s.tables m) (extern_one ti q) (λ c d. global_same ti c q d) ti le le')
 
   with_frames : {w : List Label} {s t : State} (fs gs : List Frame) → Tied w s t → Rattle.cc_tied.proofs.AlikeFrames.Frames S S' N w fs gs → Tied w (record s { frames = fs }) (record t { frames = gs })
   with_frames fs gs h k = record { tables = h.tables; tables' = h.tables'; objs = h.objs; frames = k; globals = h.globals; loaded = h.loaded; failed = h.failed; handles = h.handles; budget = h.budget; replies = h.replies }
@@ -215,7 +212,7 @@ module _ (P Q : Program) (al : Alike P Q) where
 
   set_global_tied : {w : List Label} {s t : State} → Tied w s t → {m n : ℕ} → Paired N.globals m n → (x : Val) → Tied w (set_global m x s) (set_global n x t)
   unfolding set_global
-  set_global_tied {s = s} {t = t} h {m = m} {n = n} q x = record { tables = h.tables; tables' = h.tables'; objs = h.objs; frames = h.frames; globals = λ j k r. set_pair s.globals t.globals (Some x) m n j k (λ e. al.globals_once.left m n k q (subst (λ z. Paired N.globals z k) (sym e) r)) (λ e. al.globals_once.right m j n q (subst (λ z. Paired N.globals j z) (sym e) r)) (h.globals m n q) (h.globals j k r); loaded = h.loaded; failed = h.failed; handles = h.handles; budget = h.budget; replies = h.replies }
+  set_global_tied {s = s} {t = t} h {m = m} {n = n} q x = record { tables = h.tables; tables' = h.tables'; objs = h.objs; frames = h.frames; globals = λ j k c r d. set_pair s.globals t.globals (Some x) m n j k (λ e. al.globals_once.left m n k q (subst (λ z. Paired N.globals z k) (sym e) r)) (λ e. al.globals_once.right m j n q (subst (λ z. Paired N.globals j z) (sym e) r)) (h.globals j k c r d); loaded = h.loaded; failed = h.failed; handles = h.handles; budget = h.budget; replies = h.replies }
 
   global_budget : (n : ℕ) (x : Val) (u : State) → (set_global n x u).budget ≡ u.budget
   unfolding set_global

@@ -36,3 +36,5 @@ pub mod AlikeStore
 pub mod AlikeUpkeep
 pub mod AlikeReach
 pub mod AlikeParts
+pub mod AlikeStatements
+pub mod AlikeEnds

@@ -1,13 +1,13 @@
--- Laws of runs: what a lesser depth of calls, a larger budget, price marks and checks change.
+-- Laws of runs: what the depth of calls, the budget, price marks and checks change, and what alike programs do.
 use Rattle.std.specs.Prelude.{◌≡◌, ℕ, ◌≤◌, List, []}
 use Rattle.cc_ast.specs.Syntax.{Program}
 use Rattle.cc_ast.specs.declared.tables.GlobalInfo.{GlobalInfo}
-use Rattle.cc_meaning.specs.Values.{Event}
-use Rattle.cc_meaning.specs.Monad.{spent, Mode}
+use Rattle.cc_meaning.specs.Values.{Event, Spot}
+use Rattle.cc_meaning.specs.Monad.{spent, strayed, Mode}
 use Rattle.cc_meaning.specs.Meaning.{bodies}
-use Rattle.cc_meaning.specs.Script.{Script, Finish, stopped, finish, turns_from, start, run}
+use Rattle.cc_meaning.specs.Script.{Script, IsFollowing, Finish, stopped, finish, turns_from, start, run, plain}
 use Rattle.cc_meaning.specs.Same.{Prefix, Same, Agrees}
-use Rattle.cc_meaning.specs.Alike.{In}
+use Rattle.cc_meaning.specs.Alike.{In, Alike}
 
 -- a run in which calls go no deeper than d
 unfoldable pub run_to : (d : ℕ) → Mode → Program → Script → ℕ → List Event × Finish
@@ -38,3 +38,21 @@ Erasure = (P : Program) → HasNoPaths P → Agrees P P
 -- what the plain run of E agrees with agrees with what does the same
 abbrev pub AgreementFollowsSame : Type 0
 AgreementFollowsSame = (S P E : Program) → Same S P → Agrees P E → Agrees S E
+
+-- the same end, but for the place where a plain run strayed
+pub data EndsAlike : Finish → Finish → Type 0 where
+  same_finish : {x : Finish} → EndsAlike x x
+  both_strayed : {i j : Spot} → EndsAlike (stopped (strayed i)) (stopped (strayed j))
+
+-- alike programs have equal plain runs
+abbrev pub AlikeRuns : Type 0
+AlikeRuns = (P Q : Program) → Alike P Q → (sc : Script) → IsFollowing P sc → (n : ℕ) → ((run plain P sc n).0 ≡ (run plain Q sc n).0) × EndsAlike (run plain P sc n).1 (run plain Q sc n).1
+
+-- what agrees with a program agrees with what is alike
+abbrev pub AgreementReachesAlike : Type 0
+AgreementReachesAlike = (S P Q : Program) → Agrees S P → Alike P Q → Agrees S Q
+
+-- What a compiler that keeps Same at each step, and writes out a program that is alike to its last
+-- one, may claim.
+abbrev pub Joining : Type 0
+Joining = (S P Q : Program) → Same S P → HasNoPaths P → Alike P Q → Agrees S Q

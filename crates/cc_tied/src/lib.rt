@@ -4,7 +4,7 @@
 #![tactic(auto)]
 
 ghost use Rattle.cc_meaning.specs.Script.{checked, plain};
-ghost use Rattle.cc_tied.specs.Promises.{DepthIsEnough, BudgetExtends, Erasure, AgreementFollowsSame};
+ghost use Rattle.cc_tied.specs.Promises.{DepthIsEnough, BudgetExtends, Erasure, AgreementFollowsSame, AlikeRuns, AgreementReachesAlike, Joining};
 
 /// A depth of calls that is the budget's suffices.
 pub fn depth_is_enough()
@@ -26,4 +26,20 @@ pub fn erasure()
 /// Agreement goes over to what does the same.
 pub fn agreement_follows_same()
     ensures { AgreementFollowsSame }
+{}
+
+/// Alike programs do the same in the plain run.
+pub fn alike_runs()
+    ensures { AlikeRuns }
+{}
+
+/// Agreement goes over to what is alike.
+pub fn agreement_reaches_alike()
+    ensures { AgreementReachesAlike }
+{}
+
+/// Steps that keep Same, and then an output that is alike to the last program: the output's plain
+/// run agrees with the source's checked run.
+pub fn joining()
+    ensures { Joining }
 {}
