@@ -70,11 +70,11 @@ module _ (P Q : Program) (al : Alike P Q) where
       only none_t = F.follows_no_only K Y c
       only (some_t h) = F.follows_only K Y c (val h)
 
-      returned : (i j : ℕ) {o o' : Option Expr} → OptT (A.ExprA S S' N c) o o' → F.FollowsStmt K Y c (return i o) (return j o')
-      returned i j none_t = F.follows_return_none K Y c tt
-      returned i j (some_t h) = F.follows_return K Y c tt (val h)
+      returned : (ls : List (List ℕ)) (i j : ℕ) {o o' : Option Expr} → OptT (A.ExprA S S' N c) o o' → F.FollowsStmt K Y c ls (return i o) (return j o')
+      returned ls i j none_t = F.follows_return_none K Y c tt
+      returned ls i j (some_t h) = F.follows_return K Y c tt (val h)
 
-      one_case : {o o' : Option Expr} {b b' : Stmts} {cs cs' : Cases} → OptT (A.ExprA S S' N c) o o' → F.FollowsStmts K Y c b b' → F.FollowsCases K Y c cs cs' → F.FollowsCases K Y c (Rattle.cc_ast.specs.Syntax.more_cases o b cs) (Rattle.cc_ast.specs.Syntax.more_cases o' b' cs')
+      one_case : {o o' : Option Expr} {b b' : Stmts} {cs cs' : Cases} → OptT (A.ExprA S S' N c) o o' → F.FollowsStmts K Y c [] b b' → F.FollowsCases K Y c cs cs' → F.FollowsCases K Y c (Rattle.cc_ast.specs.Syntax.more_cases o b cs) (Rattle.cc_ast.specs.Syntax.more_cases o' b' cs')
       one_case none_t h k = F.follows_default K Y c h k
       one_case (some_t e) h k = F.follows_case K Y c (val e) h k
 
@@ -84,13 +84,13 @@ module _ (P Q : Program) (al : Alike P Q) where
       unfolding say ◌>>=◌ after next ret said
       paid_next p k = refl
 
-      left_pay_c : (i p : ℕ) {ss ss' : Stmts} → F.FollowsStmts K Y c ss ss' → F.FollowsStmts K Y c (more_stmts (pay_stmt i p) ss) ss'
+      left_pay_c : (ls : List (List ℕ)) (i p : ℕ) {ss ss' : Stmts} → F.FollowsStmts K Y c ls ss ss' → F.FollowsStmts K Y c ls (more_stmts (pay_stmt i p) ss) ss'
       unfolding ex
-      left_pay_c i p {ss = ss} {ss' = ss'} h = record { by = λ v l g g' t ls. subst (λ z. Sim T (CompV K) v z (exs Sc.plain B' g' ls ss')) (sym (paid_next p (exs Sc.plain B g ls ss))) (X.mark_left P Q al p _ _ (h.by v l g g' t ls)) }
+      left_pay_c ls i p {ss = ss} {ss' = ss'} h = record { by = λ v l g g' t. subst (λ z. Sim T (CompV K) v z (exs Sc.plain B' g' ls ss')) (sym (paid_next p (exs Sc.plain B g ls ss))) (X.mark_left P Q al p _ _ (h.by v l g g' t)) }
 
-      right_pay_c : (i p : ℕ) {ss ss' : Stmts} → F.FollowsStmts K Y c ss ss' → F.FollowsStmts K Y c ss (more_stmts (pay_stmt i p) ss')
+      right_pay_c : (ls : List (List ℕ)) (i p : ℕ) {ss ss' : Stmts} → F.FollowsStmts K Y c ls ss ss' → F.FollowsStmts K Y c ls ss (more_stmts (pay_stmt i p) ss')
       unfolding ex
-      right_pay_c i p {ss = ss} {ss' = ss'} h = record { by = λ v l g g' t ls. subst (λ z. Sim T (CompV K) v (exs Sc.plain B g ls ss) z) (sym (paid_next p (exs Sc.plain B' g' ls ss'))) (X.mark_right P Q al p _ _ (h.by v l g g' t ls)) }
+      right_pay_c ls i p {ss = ss} {ss' = ss'} h = record { by = λ v l g g' t. subst (λ z. Sim T (CompV K) v (exs Sc.plain B g ls ss) z) (sym (paid_next p (exs Sc.plain B' g' ls ss'))) (X.mark_right P Q al p _ _ (h.by v l g g' t)) }
 
       -- ---- hoisting
 
@@ -122,40 +122,40 @@ module _ (P Q : Program) (al : Alike P Q) where
     -- ---- statements
 
     mutual
-      pub stmt : {c : Around} {s s' : Stmt} → A.StmtA S S' N c s s' → F.FollowsStmt K Y c s s'
-      stmt {c = c} (A.simple_a e) = F.follows_simple K Y c (val c e)
-      stmt {c = c} (A.vars_a ds) = F.follows_vars K Y c (decls c ds)
-      stmt {c = c} (A.fun_decl_a r f) = F.follows_fun_decl K Y c
-      stmt {c = c} (A.if_a e a b) = F.follows_if K Y c (val c e) (stmts a) (stmts b)
-      stmt {c = c} (A.while_a e b) = F.follows_while K Y c (F.follows_test K Y c (val c e)) (stmts b)
-      stmt {c = c} (A.do_while_a b e) = F.follows_do_while K Y c (stmts b) (F.follows_test K Y c (val c e))
-      stmt {c = c} (A.for_a h t e b) = F.follows_for K Y c (init c h) (test c t) (only c e) (stmts b)
-      stmt {c = c} (A.for_in_a t e b) = F.follows_for_in K Y c tt (names c t) (val c e) (stmts b)
-      stmt {c = c} (A.return_a {i = i} {j = j} e) = returned c i j e
-      stmt {c = c} (A.throw_a e) = F.follows_throw K Y c (val c e)
-      stmt {c = c} (A.break_a {l = l}) = F.follows_break K Y c l
-      stmt {c = c} (A.continue_a {l = l}) = F.follows_continue K Y c l
-      stmt {c = c} (A.label_a {l = l} b) = F.follows_label K Y c l (stmts b)
-      stmt {c = c} (A.switch_a e cs) = F.follows_switch K Y c (val c e) (cases cs)
-      stmt {c = c} (A.try_a b k f) = F.follows_try K Y c (stmts b) (caught k) (finally f)
+      pub stmt : (ls : List (List ℕ)) {c : Around} {s s' : Stmt} → A.StmtA S S' N c s s' → F.FollowsStmt K Y c ls s s'
+      stmt ls {c = c} (A.simple_a e) = F.follows_simple K Y c (val c e)
+      stmt ls {c = c} (A.vars_a ds) = F.follows_vars K Y c (decls c ds)
+      stmt ls {c = c} (A.fun_decl_a r f) = F.follows_fun_decl K Y c
+      stmt ls {c = c} (A.if_a e a b) = F.follows_if K Y c (val c e) (stmts [] a) (stmts [] b)
+      stmt ls {c = c} (A.while_a e b) = F.follows_while K Y c (F.follows_test K Y c (val c e)) (stmts [] b)
+      stmt ls {c = c} (A.do_while_a b e) = F.follows_do_while K Y c (stmts [] b) (F.follows_test K Y c (val c e))
+      stmt ls {c = c} (A.for_a h t e b) = F.follows_for K Y c (init c h) (test c t) (only c e) (stmts [] b)
+      stmt ls {c = c} (A.for_in_a t e b) = F.follows_for_in K Y c tt (names c t) (val c e) (stmts [] b)
+      stmt ls {c = c} (A.return_a {i = i} {j = j} e) = returned c ls i j e
+      stmt ls {c = c} (A.throw_a e) = F.follows_throw K Y c (val c e)
+      stmt ls {c = c} (A.break_a {l = l}) = F.follows_break K Y c l
+      stmt ls {c = c} (A.continue_a {l = l}) = F.follows_continue K Y c l
+      stmt ls {c = c} (A.label_a {l = l} b) = F.follows_label K Y c l (stmts (l ∷ ls) b)
+      stmt ls {c = c} (A.switch_a e cs) = F.follows_switch K Y c (val c e) (cases cs)
+      stmt ls {c = c} (A.try_a b k f) = F.follows_try K Y c (stmts [] b) (caught k) (finally f)
 
-      pub stmts : {c : Around} {ss ss' : Stmts} → A.StmtsA S S' N c ss ss' → F.FollowsStmts K Y c ss ss'
-      stmts {c = c} A.no_stmts_a = F.follows_no_stmts K Y c
-      stmts {c = c} (A.more_stmts_a s ss) = F.follows_more_stmts K Y c (stmt s) (stmts ss)
-      stmts {c = c} (A.left_pay {i = i} {p = p} ss) = left_pay_c c i p (stmts ss)
-      stmts {c = c} (A.right_pay {i = i} {p = p} ss) = right_pay_c c i p (stmts ss)
+      pub stmts : (ls : List (List ℕ)) {c : Around} {ss ss' : Stmts} → A.StmtsA S S' N c ss ss' → F.FollowsStmts K Y c ls ss ss'
+      stmts ls {c = c} A.no_stmts_a = F.follows_no_stmts K Y c
+      stmts ls {c = c} (A.more_stmts_a s ss) = F.follows_more_stmts K Y c (stmt ls s) (stmts ls ss)
+      stmts ls {c = c} (A.left_pay {i = i} {p = p} ss) = left_pay_c c ls i p (stmts ls ss)
+      stmts ls {c = c} (A.right_pay {i = i} {p = p} ss) = right_pay_c c ls i p (stmts ls ss)
 
       caught : {c : Around} {k k' : MaybeStmts} → A.MaybeA S S' N (catch_pair ∷ c) k k' → F.FollowsCatch K Y c k k'
       caught {c = c} A.absent_a = F.follows_no_catch K Y c
-      caught {c = c} (A.present_a b) = F.follows_catch K Y c (stmts b)
+      caught {c = c} (A.present_a b) = F.follows_catch K Y c (stmts [] b)
 
       finally : {c : Around} {k k' : MaybeStmts} → A.MaybeA S S' N c k k' → F.FollowsFinally K Y c k k'
       finally {c = c} A.absent_a = F.follows_no_finally K Y c
-      finally {c = c} (A.present_a b) = F.follows_finally K Y c (stmts b)
+      finally {c = c} (A.present_a b) = F.follows_finally K Y c (stmts [] b)
 
       cases : {c : Around} {cs cs' : Cases} → A.CasesA S S' N c cs cs' → F.FollowsCases K Y c cs cs'
       cases {c = c} A.no_cases_a = F.follows_no_cases K Y c
-      cases {c = c} (A.more_cases_a t b cs) = one_case c t (stmts b) (cases cs)
+      cases {c = c} (A.more_cases_a t b cs) = one_case c t (stmts [] b) (cases cs)
 
     -- ---- chunks
 
@@ -166,14 +166,14 @@ module _ (P Q : Program) (al : Alike P Q) where
     pub chunk_c : (n : ℕ) {ss ss' : Stmts} → A.StmtsA S S' N [] ss ss' → FollowsChunk K Y n ss ss'
     unfolding ex_chunk ex
     chunk_c n A.no_stmts_a = follows_no_chunk K Y
-    chunk_c n (A.more_stmts_a s ss) = follows_more_chunk K Y tt (stmt s) (chunk_c n ss)
+    chunk_c n (A.more_stmts_a s ss) = follows_more_chunk K Y tt (stmt [] s) (chunk_c n ss)
     chunk_c n (A.left_pay {p = p} {ss = xs} {ts = ys} ss) = record { by = λ v l q. subst (λ z. Sim T (CompV K) v z (ex_chunk Sc.plain B' Sc.top ys)) (sym (chunk_paid Sc.top p (ex_chunk Sc.plain B Sc.top xs))) (X.mark_left P Q al p _ _ ((chunk_c n ss).by v l q)) }
     chunk_c n (A.right_pay {p = p} {ss = xs} {ts = ys} ss) = record { by = λ v l q. subst (λ z. Sim T (CompV K) v (ex_chunk Sc.plain B Sc.top xs) z) (sym (chunk_paid Sc.top p (ex_chunk Sc.plain B' Sc.top ys))) (X.mark_right P Q al p _ _ ((chunk_c n ss).by v l q)) }
 
   -- ---- programs
 
   pub programs : ProgramT K P Q
-  programs = record { parts = λ f f' d d' ft w le le' all tied. record { hoist = hoists_c _ _ (al.functions f f' ft); runs = stmts _ (al.functions f f' ft) } }
+  programs = record { parts = λ f f' d d' ft w le le' all tied. record { hoist = hoists_c _ _ (al.functions f f' ft); runs = stmts _ [] (al.functions f f' ft) } }
 
   pub chunks : ChunksT K P Q (IsChunk (Sc.graph_of P))
   chunks = record { lists = λ c d d' q w le le' all tied. record { hoist = hoists_c _ [] (al.chunks c q.deps q.found); runs = chunk_c _ c (al.chunks c q.deps q.found) } }
