@@ -1,4 +1,4 @@
--- What ties the written text to the meaning of its source: names, text, trees, and two runs side by side.
+-- What ties the written text to the meaning of its source: names, text and trees.
 pub mod Lists
 pub mod Numbers
 pub mod Characters
@@ -18,15 +18,6 @@ pub mod SourceSites
 pub mod SourceParts
 pub mod SourceTables
 pub mod SourceWellMade
-pub mod PlainRuns
+pub mod SourcePaths
 pub mod Faithful
 pub mod Done
-pub mod TwinRuns
-pub mod TwinOutside
-pub mod TwinVariables
-pub mod TwinForm
-pub mod TwinChunks
-pub mod TwinTurns
-pub mod TwinEnds
-pub mod TwinPrograms
-pub mod ByErasure

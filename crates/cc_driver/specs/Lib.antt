@@ -14,5 +14,4 @@ pub mod Status
 pub mod Again
 pub mod NamingLaw
 pub mod ReadsBack
-pub mod Erasure
 pub mod Headline

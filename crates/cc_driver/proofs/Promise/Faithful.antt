@@ -1,6 +1,8 @@
 -- What is compiled agrees with its source.
 use Rattle.std.proofs.Common.{◌≡◌, ℕ, List, length, sym, subst, Some}
 use Rattle.cc_meaning.specs.Alike.{In}
+use Rattle.cc_tied.proofs.Erase.{erasure}
+use Rattle.cc_tied.proofs.AlikeEnds.{agreement_reaches_alike}
 use Rattle.cc_driver.specs.Form.{IsExterns, IsSource, IsReading}
 use Rattle.cc_driver.specs.Source.{program_of}
 use Rattle.cc_driver.specs.Spelling.{spell_chunk, text_of}
@@ -18,7 +20,7 @@ use Rattle.cc_driver.proofs.Promise.Naming.{naming_law}
 use Rattle.cc_driver.proofs.Promise.SourceNames.{others_are}
 use Rattle.cc_driver.proofs.Promise.ReadAgain.{renaming, written_reads}
 use Rattle.cc_driver.proofs.Promise.AlikePrograms.{alike_again}
-use Rattle.cc_driver.proofs.Promise.TwinPrograms.{again_agrees}
+use Rattle.cc_driver.proofs.Promise.SourcePaths.{source_has_no_paths}
 
 -- two readings of one text are equal
 pub reading_once : (externs : List (List ℕ)) (text : List ℕ) (ss ts : List Statement) → IsReading externs text ss → IsReading externs text ts → ss ≡ ts
@@ -45,11 +47,13 @@ output_faithful file externs source ss text ex so out =
     let f = renaming file externs source ss ex so (length source) out.pieces out.names out.named in
     let reading : IsReading externs text (statements_again f 0 ss) =
     subst (λ t. IsReading externs t (statements_again f 0 ss)) (sym out.text) (written_reads file externs source ss ex so (length source) out.pieces out.names out.named out.spelled) in
+    let S = program_of externs (length source) ss in
+    let E = program_of externs (length text) (statements_again f 0 ss) in
     record {
       statements_read = statements_again f 0 ss;
       reading = reading;
       only = λ others h. reading_once externs text others (statements_again f 0 ss) h reading;
-      agrees = again_agrees file externs source ss ex so (length source) out.pieces out.names out.named (length text);
+      agrees = agreement_reaches_alike S S E (erasure S (source_has_no_paths externs (length source) ss)) (alike_again file externs source ss ex so (length source) out.pieces out.names out.named (length text));
     }
 
 pub compiled_faithful : (externs source text : List ℕ) (c : IsCompiled externs source text) → IsFaithful c.names source c.statements text
