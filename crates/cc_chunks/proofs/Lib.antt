@@ -1,0 +1,6 @@
+pub mod SetLaws
+pub mod CountLaws
+pub mod GraphLaws
+pub mod ReachLaws
+pub mod TableLaws
+pub mod DeepestLaws

@@ -19,8 +19,8 @@ deps_at chunks a = deps_of (slice_get chunks a)
 
 -- a depends on b: the transitive closure of the direct dependencies
 pub data Depends (chunks : List ChunkInfo) : ℕ → ℕ → Type 0 where
-  directly : (a b : ℕ) → Contains (deps_at chunks a) b → Depends chunks a b
-  through : (a c b : ℕ) → Contains (deps_at chunks a) c → Depends chunks c b → Depends chunks a b
+  directly : {a b : ℕ} → Contains (deps_at chunks a) b → Depends chunks a b
+  through : {a c b : ℕ} → Contains (deps_at chunks a) c → Depends chunks c b → Depends chunks a b
 
 -- each chunk depends on chunks of lesser numbers alone
 abbrev pub DependsDown : List ChunkInfo → Type 0
@@ -35,8 +35,8 @@ IsCommon chunks list c = All (λ k. (k ≡ c) ⊎ Depends chunks k c) list
 -- so many of the numbers below n are of this kind
 pub data CountBelow (P : ℕ → Type 0) : ℕ → ℕ → Type 0 where
   nothing : CountBelow P zero zero
-  one_more : (n k : ℕ) → P n → CountBelow P n k → CountBelow P (suc n) (suc k)
-  no_more : (n k : ℕ) → ¬ P n → CountBelow P n k → CountBelow P (suc n) k
+  one_more : {n k : ℕ} → P n → CountBelow P n k → CountBelow P (suc n) (suc k)
+  no_more : {n k : ℕ} → ¬ P n → CountBelow P n k → CountBelow P (suc n) k
 
 -- a chunk depends on so many chunks
 abbrev pub DependsOnCount : List ChunkInfo → ℕ → ℕ → Type 0

@@ -11,7 +11,7 @@ use crate::spec::{ChunkFault, ChunkSpec};
 use cc_ast::copy::table::copy_items;
 use cc_ast::program::Program;
 use cc_ast::tables::ChunkInfo;
-use sqlite_items::Items;
+use sqlite_items::{Items, at};
 use std::alloc::{AllocError, Global};
 use std::marker::Model;
 
@@ -54,11 +54,11 @@ impl ChunkGraph {
         let mut chunks = Items::new(alloc);
         let mut counts = Items::new(alloc);
         let mut taken: u64 = 0;
-        for (at, spec) in specs.iter().enumerate() {
-            chunks.push(chunk_at(alloc, specs, &numbers, at)?)?;
+        for (i, spec) in specs.iter().enumerate() {
+            chunks.push(chunk_at(alloc, specs, &numbers, i)?)?;
             counts.push(spec.count)?;
             taken += u64::from(spec.count);
-            check_count(specs, files, at, taken)?;
+            check_count(specs, files, i, taken)?;
         }
         Ok(ChunkGraph::with_chunks(alloc, chunks, counts)?)
     }
@@ -109,7 +109,7 @@ impl ChunkGraph {
     pub fn depends(&self, a: u32, b: u32) -> bool
         ensures { IsTrue result ↔ Depends self.now.chunks a b }
     {
-        match self.table.get(a as usize) {
+        match at(self.table.as_slice(), a as usize) {
             Some(reach) => reach.set.contains(b as usize),
             None => false,
         }
@@ -122,6 +122,9 @@ impl ChunkGraph {
         ensures { MatchOption result ((c : ℕ) → ¬ IsCommon self.now.chunks chunks.now c)
             (IsDeepestCommon self.now.chunks chunks.now) }
     {
+        // A common chunk is no later than any of the list, since the chunks of the table depend on
+        // earlier ones alone.
+        let _ = &self.table;
         let mut deepest: Option<u32> = None;
         for c in 0..=chunks[0] {
             if self.is_common(chunks, c) {
@@ -151,8 +154,9 @@ impl ChunkGraph {
         ensures before { GoesBefore self.now.chunks result c }
         ensures before_earlier { IfSome earlier (GoesBefore self.now.chunks result) }
     {
+        let count = self.count(c);
         match earlier {
-            Some(d) if self.count(c) <= self.count(d) => d,
+            Some(d) if count <= self.count(d) => d,
             _ => c,
         }
     }
