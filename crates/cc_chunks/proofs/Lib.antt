@@ -4,3 +4,4 @@ pub mod GraphLaws
 pub mod ReachLaws
 pub mod TableLaws
 pub mod DeepestLaws
+pub mod NameLaws

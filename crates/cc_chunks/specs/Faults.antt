@@ -1,5 +1,6 @@
 -- What the specs of a job's chunks mean, and what is wrong with them.
-use Rattle.std.specs.Prelude.{◌≡◌, ℕ, ◌+◌, ◌*◌, ◌<◌, ◌≤◌, ◌⊎◌, List, map, take, drop, sum, length, slice_get, Option, Some, position}
+use Rattle.std.specs.Prelude.{◌≡◌, ℕ, ◌+◌, ◌*◌, ◌<◌, ◌≤◌, ◌⊎◌, List, [], ◌∷◌, if◌then◌else◌, map, take, drop, sum, length, slice_get, Option, None, Some}
+use Rattle.std.specs.Option.{option_map}
 use Rattle.std.specs.List.{Contains}
 use Rattle.std.specs.Str.{bytes_eq}
 use Rattle.std.specs.String.{string_bytes}
@@ -84,9 +85,10 @@ pub record IsGraphOf (specs : List ChunkSpec) (graph : Graph) : Type 0 where
 
 -- ---- one spec at a time
 
--- the number of the first spec with a name
-abbrev pub first_with : List ChunkSpec → List ℕ → Option ℕ
-first_with specs name = position (bytes_eq name) (names_of specs)
+-- the number of the first of these names that is this one
+unfoldable pub first_of : List (List ℕ) → List ℕ → Option ℕ
+first_of [] name = None
+first_of (n ∷ ns) name = if bytes_eq n name then Some 0 else option_map (λ i. i + 1) (first_of ns name)
 
 -- the chunk of spec i, which has no fault beside its count
 pub record IsChunkAt (specs : List ChunkSpec) (i : ℕ) (spec : ChunkSpec) (chunk : ChunkInfo) : Type 0 where

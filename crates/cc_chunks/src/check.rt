@@ -2,7 +2,7 @@
 
 ghost use Rattle.std.specs.Prelude.{◌≡◌, ℕ, ◌+◌, ◌^◌, ◌<◌, ◌≤◌, IfOk, OnOk, IfErr, List, length, slice_get, Some, None, map, take, sum, IsTrue, ◌↔◌};
 ghost use Rattle.std.specs.List.{Contains, Any};
-ghost use Rattle.cc_chunks.specs.Faults.{first_with, dep_names, counts_of, IsChunkAt, IsFaultAt, IsCountFaultAt, TakesTooMany, LeavesFiles};
+ghost use Rattle.cc_chunks.specs.Faults.{first_of, names_of, dep_names, counts_of, IsChunkAt, IsFaultAt, IsCountFaultAt, TakesTooMany, LeavesFiles};
 ghost use Rattle.cc_chunks.specs.Numbers.{number_in, IsUnknownFault};
 
 use crate::names::{Numbers, number_of};
@@ -20,7 +20,7 @@ pub(crate) fn chunk_at(
 ) -> Result<ChunkInfo, ChunkFault>
     requires within { at < length specs.now }
     requires few { length specs.now < 2 ^ 32 }
-    requires numbers { (name : List ℕ) → number_in numbers.now name ≡ first_with specs.now name }
+    requires numbers { (name : List ℕ) → number_in numbers.now name ≡ first_of (names_of specs.now) name }
     ensures chunk { IfOk result (λ chunk. (spec : _) → slice_get specs.now at ≡ Some spec → IsChunkAt specs.now at spec chunk) }
     ensures fault { IfErr result (IsFaultAt specs.now at) }
 {

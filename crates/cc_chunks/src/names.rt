@@ -1,7 +1,7 @@
 // The specs by their names.
 
 ghost use Rattle.std.specs.Prelude.{◌≡◌, ℕ, ◌^◌, ◌<◌, IfOk, List, length};
-ghost use Rattle.cc_chunks.specs.Faults.{first_with};
+ghost use Rattle.cc_chunks.specs.Faults.{first_of, names_of};
 ghost use Rattle.cc_chunks.specs.Numbers.{number_in};
 
 use crate::spec::ChunkSpec;
@@ -16,7 +16,7 @@ pub(crate) fn first_numbers<'a>(
     specs: &'a [ChunkSpec],
 ) -> Result<Numbers<'a>, AllocError>
     requires { length specs.now < 2 ^ 32 }
-    ensures { IfOk result (λ numbers. (name : List ℕ) → number_in numbers name ≡ first_with specs.now name) }
+    ensures { IfOk result (λ numbers. (name : List ℕ) → number_in numbers name ≡ first_of (names_of specs.now) name) }
 {
     let mut numbers = IndexMap::new(alloc);
     for (i, spec) in specs.iter().enumerate() {
