@@ -5,3 +5,4 @@ pub mod ReachLaws
 pub mod TableLaws
 pub mod DeepestLaws
 pub mod NameLaws
+pub mod CheckLaws

@@ -30,7 +30,7 @@ pub(crate) fn chunk_at(
         return Err(ChunkFault::DoubleName(number));
     }
     let deps = dep_numbers(alloc, numbers, spec, number)?;
-    if deps.as_slice().iter().any(|dep| *dep >= number) {
+    if any_from(deps.as_slice(), number) {
         return Err(ChunkFault::LaterDep(number));
     }
     let text = spec.name.clone()?;
@@ -40,6 +40,14 @@ pub(crate) fn chunk_at(
     })
 }
 
+/// Whether one of the numbers is this or a greater one.
+fn any_from(deps: &[u32], number: u32) -> bool
+    ensures { IsTrue result ↔ Any (λ dep. number ≤ dep) deps.now }
+{
+    deps.iter().any(|dep| number <= *dep)
+}
+
+/// The numbers of the chunks that a spec depends on.
 fn dep_numbers(
     alloc: Global,
     numbers: &Numbers<'_>,
