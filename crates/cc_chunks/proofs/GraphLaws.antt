@@ -34,7 +34,7 @@ module _ (chunks : List ChunkInfo) where
   depends-down down a b (directly one) = down a b one
   depends-down down a b (through {c = c} one d) = let near = down a c one in let far = depends-down down c b d in omega arith
 
-deps_at-past : (chunks : List ChunkInfo) (a : ℕ) → length chunks ≤ a → deps_at chunks a ≡ []
+pub deps_at-past : (chunks : List ChunkInfo) (a : ℕ) → length chunks ≤ a → deps_at chunks a ≡ []
 unfolding deps_at deps_of
 deps_at-past chunks a high = ap deps_of (slice_get_past chunks a high)
 

@@ -6,3 +6,4 @@ pub mod TableLaws
 pub mod DeepestLaws
 pub mod NameLaws
 pub mod CheckLaws
+pub mod FaultLaws

@@ -91,12 +91,12 @@ counted chunks n k ws down within right count =
 
 -- ---- the table
 
-get-low : {X : Type 0} (xs ys : List X) (a : ℕ) → a < length xs → slice_get (xs ++ ys) a ≡ slice_get xs a
+pub get-low : {X : Type 0} (xs ys : List X) (a : ℕ) → a < length xs → slice_get (xs ++ ys) a ≡ slice_get xs a
 get-low [] ys a h = absurd (omega (arith, h))
 get-low (x ∷ xs) ys zero h = refl
 get-low (x ∷ xs) ys (suc a) h = get-low xs ys a (omega (arith, h))
 
-get-last : {X : Type 0} (xs : List X) (x : X) → slice_get (xs ++ x ∷ []) (length xs) ≡ Some x
+pub get-last : {X : Type 0} (xs : List X) (x : X) → slice_get (xs ++ x ∷ []) (length xs) ≡ Some x
 get-last [] x = refl
 get-last (y ∷ xs) x = get-last xs x
 

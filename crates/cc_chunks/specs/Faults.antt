@@ -56,11 +56,11 @@ pub record LeavesFiles (specs : List ChunkSpec) (files i : ℕ) : Type 0 where
 
 -- a fault that stands in the specs
 pub data Stands (specs : List ChunkSpec) (files : ℕ) : ChunkFault → Type 0 where
-  double_name : (i : ℕ) → IsDouble specs i → Stands specs files (DoubleName i)
-  unknown_dep : (i : ℕ) → HasUnknown specs i → Stands specs files (UnknownDep i)
-  later_dep : (i : ℕ) → HasLater specs i → Stands specs files (LaterDep i)
-  too_many : (i : ℕ) → TakesTooMany specs files i → Stands specs files (FileCount i)
-  left_over : (i : ℕ) → LeavesFiles specs files i → Stands specs files (FileCount i)
+  double_name : {i : ℕ} → IsDouble specs i → Stands specs files (DoubleName i)
+  unknown_dep : {i : ℕ} → HasUnknown specs i → Stands specs files (UnknownDep i)
+  later_dep : {i : ℕ} → HasLater specs i → Stands specs files (LaterDep i)
+  too_many : {i : ℕ} → TakesTooMany specs files i → Stands specs files (FileCount i)
+  left_over : {i : ℕ} → LeavesFiles specs files i → Stands specs files (FileCount i)
 
 -- faults go by spec, and within a spec in this order
 unfoldable pub rank : ChunkFault → ℕ
