@@ -128,8 +128,8 @@ pub down-more : (chunks : List ChunkInfo) (c : ChunkInfo) → DependsDown chunks
 down-more chunks c down new a b one =
     elim (cases_order a (length chunks)) [
       | inl last ↦
-        let is : deps_at (chunks ++ c ∷ []) a ≡ c.deps = deps_at-read (chunks ++ c ∷ []) a c (ap (slice_get (chunks ++ c ∷ [])) last ∙ get-last chunks c) in
-        subst (λ n. b < n) (sym last) (new b (subst (λ ds. Contains ds b) is one))
+          let is : deps_at (chunks ++ c ∷ []) a ≡ c.deps = deps_at-read (chunks ++ c ∷ []) a c (ap (slice_get (chunks ++ c ∷ [])) last ∙ get-last chunks c) in
+          subst (λ n. b < n) (sym last) (new b (subst (λ ds. Contains ds b) is one))
       | inr either ↦ elim either [
         | inl low ↦ down a b (subst (λ ds. Contains ds b) (deps_at-low chunks c a low) one)
         | inr high ↦ absurd (omega (arith, one.1, ap length (deps_at-past (chunks ++ c ∷ []) a (omega (arith, length-append chunks (c ∷ []), high)))))

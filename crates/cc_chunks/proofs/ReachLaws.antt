@@ -65,8 +65,8 @@ module _ (chunks : List ChunkInfo) where
     new-has b r =
         elim (reached-push ds d b r) [
           | inl early ↦
-            let there : has old b ≡ true = (gathers.right b).1 early in
-            inserted b ∙ or_right (eqb b d) (has both b) (united b (low_old b there) ∙ or_left (has old b) (has more b) there)
+              let there : has old b ≡ true = (gathers.right b).1 early in
+              inserted b ∙ or_right (eqb b d) (has both b) (united b (low_old b there) ∙ or_left (has old b) (has more b) there)
           | inr late ↦ elim late [
             | inl here ↦ inserted b ∙ or_left (eqb b d) (has both b) (eq-eqb b d (sym here))
             | inr far ↦ inserted b ∙ or_right (eqb b d) (has both b) (united b (low_far b far) ∙ or_right (has old b) (has more b) ((reach b).1 far))
@@ -113,9 +113,9 @@ are-more chunks table next room are new = record { within = omega (arith, length
     each a reach at =
         elim (cases_order a (length table)) [
           | inl last ↦
-            let is : Some next ≡ Some reach = sym (get-last table next) ∙ ap (slice_get (table ++ next ∷ [])) (sym last) ∙ at in
-            let same : next ≡ reach = cc in
-            subst (λ n. IsReach chunks n reach) (sym last) (subst (IsReach chunks (length table)) same new)
+              let is : Some next ≡ Some reach = sym (get-last table next) ∙ ap (slice_get (table ++ next ∷ [])) (sym last) ∙ at in
+              let same : next ≡ reach = cc in
+              subst (λ n. IsReach chunks n reach) (sym last) (subst (IsReach chunks (length table)) same new)
           | inr either ↦ elim either [
             | inl low ↦ are.right a reach (sym (get-low table (next ∷ []) a low) ∙ at)
             | inr high ↦ absurd (omega (arith, length-append table (next ∷ []), slice_get_within (table ++ next ∷ []) a reach at, high))

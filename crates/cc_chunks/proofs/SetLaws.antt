@@ -56,11 +56,11 @@ module _ (ws : List ℕ) (k w : ℕ) (read : w ≡ get_or ws (k / 64) 0) (room :
       elim (cases_eq j k) [
         | inl e ↦ has-it j (ap (λ n. n / 64) e) (ap (λ n. n % 64) e) ∙ ap (λ b. b || has ws j) (sym (eq-eqb j k e))
         | inr other ↦
-          let new : (eqb j k || has ws j) ≡ has ws j = ap (λ b. b || has ws j) (ne_eqb j k other) in
-          elim (cases_eq (j / 64) (k / 64)) [
-            | inl h ↦ has-beside j h (λ l. other (same_place j k h l)) ∙ sym new
-            | inr h ↦ has-apart j h ∙ sym new
-          ]
+            let new : (eqb j k || has ws j) ≡ has ws j = ap (λ b. b || has ws j) (ne_eqb j k other) in
+            elim (cases_eq (j / 64) (k / 64)) [
+              | inl h ↦ has-beside j h (λ l. other (same_place j k h l)) ∙ sym new
+              | inr h ↦ has-apart j h ∙ sym new
+            ]
       ]
 
 -- ---- the numbers of two sets

@@ -10,6 +10,8 @@ mod names;
 mod reach;
 mod set;
 mod spec;
+#[cfg(test)]
+mod tests;
 
 pub use graph::ChunkGraph;
 pub use spec::{ChunkFault, ChunkSpec};

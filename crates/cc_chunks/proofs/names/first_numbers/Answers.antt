@@ -21,14 +21,14 @@ loop-i-preserved c =
     let name = c.as_str-name.result.now in
     elim c.if-not-contains_key.branch [
       | then-not-contains_key+in_ok-insert w ↦
-        rw w.numbers-is
-        (numbers-new specs i spec name c.loop-i-test.true c.index-specs-i.is c.as_str-name.ensures.value (λ q. number_in c.loop-i.numbers q) c.loop-i.invariant
+          rw w.numbers-is
+          (numbers-new specs i spec name c.loop-i-test.true c.index-specs-i.is c.as_str-name.ensures.value (λ q. number_in c.loop-i.numbers q) c.loop-i.invariant
           (none-of (number_in c.loop-i.numbers name) (sym c.contains_key.ensures ∙ w.if-not-contains_key.true))
           (λ q. number_in w.insert.new.self q)
           (hash_map_updates_str name c.loop-i.numbers w.insert.new.self (Some i) w.in_ok-insert.ensures.updates))
       | else-not-contains_key w ↦
-        rw w.numbers-is
-        (numbers-known specs i spec name c.loop-i-test.true c.index-specs-i.is c.as_str-name.ensures.value (λ q. number_in c.loop-i.numbers q) c.loop-i.invariant
+          rw w.numbers-is
+          (numbers-known specs i spec name c.loop-i-test.true c.index-specs-i.is c.as_str-name.ensures.value (λ q. number_in c.loop-i.numbers q) c.loop-i.invariant
           (sym c.contains_key.ensures ∙ w.if-not-contains_key.false))
     ]
 

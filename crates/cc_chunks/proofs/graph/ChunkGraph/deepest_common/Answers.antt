@@ -13,11 +13,11 @@ loop-c-preserved c =
     let list = c.args.chunks.now in
     elim c.if-is_common.branch [
       | then-is_common w ↦
-        subst (λ (o : Option ℕ). BestBelow chunks list o (c.loop-c.c + 1)) (sym w.deepest-is)
-        (best-take chunks list c.loop-c.deepest c.loop-c.c w.deeper_of.result c.loop-c.invariant (c.is_common.ensures.0 w.if-is_common.true) w.deeper_of.ensures.one w.deeper_of.ensures.before w.deeper_of.ensures.before_earlier)
+          subst (λ (o : Option ℕ). BestBelow chunks list o (c.loop-c.c + 1)) (sym w.deepest-is)
+          (best-take chunks list c.loop-c.deepest c.loop-c.c w.deeper_of.result c.loop-c.invariant (c.is_common.ensures.0 w.if-is_common.true) w.deeper_of.ensures.one w.deeper_of.ensures.before w.deeper_of.ensures.before_earlier)
       | else-is_common w ↦
-        subst (λ (o : Option ℕ). BestBelow chunks list o (c.loop-c.c + 1)) (sym w.deepest-is)
-        (best-skip chunks list c.loop-c.deepest c.loop-c.c c.loop-c.invariant (λ common. true≢false (sym (c.is_common.ensures.1 common) ∙ w.if-is_common.false)))
+          subst (λ (o : Option ℕ). BestBelow chunks list o (c.loop-c.c + 1)) (sym w.deepest-is)
+          (best-skip chunks list c.loop-c.deepest c.loop-c.c c.loop-c.invariant (λ common. true≢false (sym (c.is_common.ensures.1 common) ∙ w.if-is_common.false)))
     ]
 
 pub returns-after-is_common : goal.returns-after-is_common
@@ -26,11 +26,11 @@ returns-after-is_common c =
     let list = c.args.chunks.now in
     let stepped : BestBelow chunks list c.if-is_common.deepest (c.loop-c.c + 1) = elim c.if-is_common.branch [
       | then-is_common w ↦
-        subst (λ (o : Option ℕ). BestBelow chunks list o (c.loop-c.c + 1)) (sym w.deepest-is)
-        (best-take chunks list c.loop-c.deepest c.loop-c.c w.deeper_of.result c.loop-c.invariant (c.is_common.ensures.0 w.if-is_common.true) w.deeper_of.ensures.one w.deeper_of.ensures.before w.deeper_of.ensures.before_earlier)
+          subst (λ (o : Option ℕ). BestBelow chunks list o (c.loop-c.c + 1)) (sym w.deepest-is)
+          (best-take chunks list c.loop-c.deepest c.loop-c.c w.deeper_of.result c.loop-c.invariant (c.is_common.ensures.0 w.if-is_common.true) w.deeper_of.ensures.one w.deeper_of.ensures.before w.deeper_of.ensures.before_earlier)
       | else-is_common w ↦
-        subst (λ (o : Option ℕ). BestBelow chunks list o (c.loop-c.c + 1)) (sym w.deepest-is)
-        (best-skip chunks list c.loop-c.deepest c.loop-c.c c.loop-c.invariant (λ common. true≢false (sym (c.is_common.ensures.1 common) ∙ w.if-is_common.false)))
+          subst (λ (o : Option ℕ). BestBelow chunks list o (c.loop-c.c + 1)) (sym w.deepest-is)
+          (best-skip chunks list c.loop-c.deepest c.loop-c.c c.loop-c.invariant (λ common. true≢false (sym (c.is_common.ensures.1 common) ∙ w.if-is_common.false)))
     ] in
     let down : DependsDown chunks = subst DependsDown (ap (λ g. g.chunks) c.self.view_is) c.self.invariant.down in
     let end : c.loop-c.c ≡ get_or list 0 0 = omega arith in
