@@ -1,5 +1,5 @@
 -- What the look-ups of one spec say of it.
-use Rattle.std.proofs.Common.{◌≡◌, ◌≢◌, ℕ, zero, suc, ◌+◌, ◌<◌, ◌≤◌, ◌⊎◌, ◌↔◌, Bool, true, false, cond, List, [], ◌∷◌, ◌++◌, length, map, get_or, take, drop, slice_get, Option, None, Some, is_some, Contains, Any, refl, sym, ap, subst, ◌∙◌, inl, inr, arith, add-one, true≢false}
+use Rattle.std.proofs.Common.{◌≡◌, ◌≢◌, ℕ, zero, suc, ◌+◌, ◌<◌, ◌≤◌, ◌⊎◌, true, false, cond, List, [], ◌∷◌, length, map, get_or, take, drop, slice_get, Option, None, Some, Contains, Any, refl, sym, ap, subst, ◌∙◌, inl, inr, arith, true≢false}
 use Rattle.std.specs.Option.{option_map, option_eq}
 use Rattle.std.specs.List.{AllZip}
 use Rattle.std.specs.Prelude.{nat_eq, not, Result, Ok, Err, IsErrAnd, IfErr}
@@ -8,7 +8,6 @@ use Rattle.std.specs.String.{string_bytes}
 use Rattle.std.specs.Str.{bytes_eq}
 use Rattle.std.proofs.lemmas.Bool.{cases_Bool, cases_lt, cases_order, eqb-true, eqb-false, not-true, not-false}
 use Rattle.std.proofs.lemmas.Slice.Eq.{bytes_eq-Decides}
-use Rattle.cc_ast.specs.declared.tables.ChunkInfo.{ChunkInfo}
 use Rattle.cc_chunks.specs.declared.spec.ChunkSpec.{ChunkSpec}
 use Rattle.cc_chunks.specs.Faults.{first_of, names_of, dep_names, IsDouble, HasUnknown, HasLater, IsChunkAt, IsFaultAt}
 use Rattle.cc_chunks.specs.Numbers.{IsUnknownFault}

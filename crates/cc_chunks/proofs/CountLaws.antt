@@ -1,5 +1,5 @@
 -- How many numbers below another are of a kind.
-use Rattle.std.proofs.Common.{◌≡◌, ℕ, zero, suc, ◌+◌, ◌<◌, ◌≤◌, ◌↔◌, refl, sym, ap, subst, ◌∙◌, arith, add-one}
+use Rattle.std.proofs.Common.{◌≡◌, ℕ, zero, suc, ◌+◌, ◌<◌, ◌↔◌, refl, sym, ap, subst, arith, add-one}
 use Rattle.cc_chunks.specs.Graph.{CountBelow, nothing, one_more, no_more}
 
 module _ (P : ℕ → Type 0) where

@@ -1,9 +1,9 @@
 -- The search for the deepest common chunk.
-use Rattle.std.proofs.Common.{◌≡◌, ◌≢◌, ℕ, suc, ◌+◌, ◌<◌, ◌≤◌, ◌⊎◌, List, [], ◌∷◌, length, get_or, Option, None, Some, refl, sym, ap, subst, ◌∙◌, inl, inr, arith}
+use Rattle.std.proofs.Common.{◌≡◌, ℕ, ◌+◌, ◌<◌, ◌≤◌, ◌⊎◌, List, length, get_or, Option, None, Some, sym, subst, inl, inr, arith}
 use Rattle.std.specs.Prelude.{MatchOption, IfSome}
 use Rattle.std.proofs.lemmas.Bool.{cases_order}
 use Rattle.cc_ast.specs.declared.tables.ChunkInfo.{ChunkInfo}
-use Rattle.cc_chunks.specs.Graph.{Depends, DependsDown, IsCommon, GoesBefore, IsDeepestCommon}
+use Rattle.cc_chunks.specs.Graph.{DependsDown, IsCommon, GoesBefore, IsDeepestCommon}
 use Rattle.cc_chunks.proofs.GraphLaws.{depends-down, before-through}
 
 module _ (chunks : List ChunkInfo) (list : List ℕ) where

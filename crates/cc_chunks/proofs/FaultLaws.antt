@@ -1,17 +1,16 @@
 -- The first fault, and the graph as it grows.
-use Rattle.std.proofs.Common.{◌≡◌, ◌≢◌, ℕ, zero, suc, ◌+◌, ◌*◌, ◌<◌, ◌≤◌, ◌⊎◌, List, [], ◌∷◌, ◌++◌, length, map, sum, get_or, take, slice_get, Option, None, Some, Contains, refl, sym, ap, subst, ◌∙◌, inl, inr, arith, add-one, length-append}
+use Rattle.std.proofs.Common.{◌≡◌, ◌≢◌, ℕ, ◌+◌, ◌*◌, ◌<◌, ◌≤◌, List, [], ◌∷◌, ◌++◌, length, map, sum, get_or, take, slice_get, Some, Contains, refl, sym, ap, subst, ◌∙◌, inl, inr, arith, add-one, length-append}
 use Rattle.std.specs.String.{string_bytes}
-use Rattle.std.proofs.Math.Seq.{take-length}
 use Rattle.std.proofs.lemmas.Bool.{cases_eq, cases_order}
-use Rattle.std.proofs.lemmas.List.{map-append, length-map}
+use Rattle.std.proofs.lemmas.List.{map-append}
 use Rattle.std.proofs.lemmas.List.Sums.{sum_by_push}
-use Rattle.std.proofs.lemmas.Option.{slice_get_within, slice_get_read}
+use Rattle.std.proofs.lemmas.Option.{slice_get_within}
 use Rattle.cc_ast.specs.declared.tables.ChunkInfo.{ChunkInfo}
 use Rattle.cc_chunks.specs.declared.spec.ChunkSpec.{ChunkSpec}
 use Rattle.cc_chunks.specs.declared.spec.ChunkFault.{ChunkFault}
 use Rattle.cc_chunks.specs.declared.spec.ChunkFault.TheVariants.{DoubleName, UnknownDep, LaterDep, FileCount, Memory}
-use Rattle.cc_chunks.specs.Graph.{Graph, deps_at, deps_of, DependsDown}
-use Rattle.cc_chunks.specs.Faults.{names_of, dep_names, counts_of, IsDouble, HasUnknown, HasLater, TakesTooMany, LeavesFiles, Stands, double_name, unknown_dep, later_dep, too_many, left_over, rank, IsFirst, IsGraphOf, IsChunkAt, IsFaultAt, IsCountFaultAt}
+use Rattle.cc_chunks.specs.Graph.{deps_at, deps_of, DependsDown}
+use Rattle.cc_chunks.specs.Faults.{names_of, dep_names, counts_of, IsDouble, HasUnknown, HasLater, TakesTooMany, LeavesFiles, Stands, double_name, unknown_dep, later_dep, too_many, left_over, rank, IsFirst, IsChunkAt, IsFaultAt, IsCountFaultAt}
 use Rattle.cc_chunks.proofs.GraphLaws.{deps_at-read, deps_at-past}
 use Rattle.cc_chunks.proofs.ReachLaws.{get-low, get-last}
 use Rattle.cc_chunks.proofs.NameLaws.{map-more}

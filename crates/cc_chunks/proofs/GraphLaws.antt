@@ -1,5 +1,5 @@
 -- Dependencies.
-use Rattle.std.proofs.Common.{◌≡◌, ℕ, suc, ◌+◌, ◌<◌, ◌≤◌, ◌⊎◌, ◌↔◌, List, [], ◌∷◌, length, get_or, take, slice_get, Some, Contains, refl, sym, ap, subst, ◌∙◌, inl, inr, arith}
+use Rattle.std.proofs.Common.{◌≡◌, ℕ, ◌<◌, ◌≤◌, ◌⊎◌, List, [], length, slice_get, Some, Contains, refl, ap, subst, inl, inr, arith}
 use Rattle.cc_ast.specs.declared.tables.ChunkInfo.{ChunkInfo}
 use Rattle.cc_chunks.specs.Graph.{deps_at, deps_of, Depends, directly, through, DependsDown, DependsOnCount, GoesBefore}
 use Rattle.std.proofs.lemmas.Bool.{cases_lt, cases_order}

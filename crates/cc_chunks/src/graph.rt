@@ -1,12 +1,13 @@
 // The graph.
 
-ghost use Rattle.std.specs.Prelude.{◌≡◌, ◌≢◌, ◌↔◌, ◌⊎◌, ℕ, ◌^◌, ◌<◌, IfOk, OnOk, IfErr, IsTrue, MatchOption, IfSome, Some, length, []};
+ghost use Rattle.std.specs.Prelude.{◌≡◌, ◌≢◌, ◌↔◌, ◌⊎◌, ℕ, ◌/◌, ◌%◌, ◌^◌, ◌<◌, IfOk, OnOk, IfErr, IsTrue, MatchOption, IfSome, Some, length, []};
 ghost use Rattle.std.specs.List.{All};
 ghost use Rattle.std.specs.Option.{ForSome};
 
 use crate::check::{check_count, chunk_at};
 use crate::names::first_numbers;
 use crate::reach::{Reach, table_of};
+use crate::set::{has_bit, with_bit};
 use crate::spec::{ChunkFault, ChunkSpec};
 use cc_ast::copy::table::copy_items;
 use cc_ast::program::Program;
@@ -39,6 +40,8 @@ impl ChunkGraph {
     ghost use Rattle.cc_chunks.specs.declared.spec.ChunkFault.TheVariants.{Memory};
     ghost use Rattle.cc_chunks.specs.declared.spec.ChunkFault.{ChunkFault};
     ghost use Rattle.cc_chunks.specs.Faults.{Stands, IsFirst, IsGraphOf};
+    ghost use Rattle.cc_chunks.specs.Sets as Sets;
+    ghost use Rattle.cc_chunks.specs.Tables.{IsCommonWord};
     ghost use Rattle.cc_chunks.specs.Graph.{Graph, Depends, DependsDown, IsCommon, IsDeepestCommon, DependsOnCount, GoesBefore};
 
     /// The graph of these specs, which share out `files` files in their order.
@@ -126,23 +129,54 @@ impl ChunkGraph {
         // earlier ones alone.
         let _ = &self.table;
         let mut deepest: Option<u32> = None;
+        let mut common = 0;
         for c in 0..=chunks[0] {
-            if self.is_common(chunks, c) {
+            common = self.common_at(chunks, c as usize, common);
+            if has_bit(common, c as usize) {
                 deepest = Some(self.deeper_of(deepest, c));
             }
         }
         deepest
     }
 
-    fn is_common(&self, chunks: &[u32], c: u32) -> bool
-        ensures { IsTrue result ↔ IsCommon self.now.chunks chunks.now c }
+    /// The word of the common chunks that `c` stands in, where `last` is that of the chunk before
+    /// it.
+    fn common_at(&self, chunks: &[u32], c: usize, last: u64) -> u64
+        requires in_graph { All (λ k. k < length self.now.chunks) chunks.now }
+        requires last { c % 64 ≢ 0 → IsCommonWord self.now.chunks chunks.now (c / 64) last }
+        ensures { IsCommonWord self.now.chunks chunks.now (c / 64) result }
     {
-        for k in chunks {
-            if *k != c && !self.depends(*k, c) {
-                return false;
-            }
+        if c % 64 == 0 {
+            self.common_word(chunks, c / 64)
+        } else {
+            last
         }
-        true
+    }
+
+    /// The word at a place of the set of the chunks that each of the list is or depends on.
+    fn common_word(&self, chunks: &[u32], at: usize) -> u64
+        requires in_graph { All (λ k. k < length self.now.chunks) chunks.now }
+        ensures { IsCommonWord self.now.chunks chunks.now at result }
+    {
+        let mut common = u64::MAX;
+        for k in chunks {
+            common &= self.reached_word(*k as usize, at);
+        }
+        common
+    }
+
+    /// The word at a place of the set of the chunks that `k` is or depends on.
+    fn reached_word(&self, k: usize, at: usize) -> u64
+        requires { k < length self.now.chunks }
+        ensures { (c : ℕ) → c / 64 ≡ at
+            → IsTrue (Sets.has_bit result c) ↔ ((k ≡ c) ⊎ Depends self.now.chunks k c) }
+    {
+        let word = self.table[k].set.word(at);
+        if k / 64 == at {
+            with_bit(word, k)
+        } else {
+            word
+        }
     }
 
     /// The one of a chunk and a later one that depends on more chunks, the first where they

@@ -1,7 +1,7 @@
 // Sets of numbers.
 
-ghost use Rattle.std.specs.Prelude.{◌≡◌, ◌==◌, ◌||◌, ℕ, ◌*◌, ◌<◌, ◌≤◌, IfOk, IsTrue, vec_len, false, slice_index};
-ghost use Rattle.cc_chunks.specs.Sets.{has};
+ghost use Rattle.std.specs.Prelude.{◌≡◌, ◌≢◌, ◌==◌, ◌||◌, true, ℕ, ◌%◌, ◌*◌, ◌<◌, ◌≤◌, IfOk, IsTrue, vec_len, false, slice_index};
+ghost use Rattle.cc_chunks.specs.Sets.{has, has_bit};
 ghost use Rattle.cc_chunks.specs.Graph.{CountBelow};
 
 use std::alloc::{AllocError, Global};
@@ -22,16 +22,18 @@ impl NumberSet {
         Ok(NumberSet { words })
     }
 
-    fn word(&self, at: usize) -> u64
+    /// The 64 bits of the numbers from 64 times this one on.
+    pub(crate) fn word(&self, at: usize) -> u64
         ensures { result ≡ slice_index self.now.words.items at }
     {
         self.words.get(at).copied().unwrap_or(0)
     }
 
+    #[tactic(auto, unfolding(crate::specs::Sets::has))]
     pub(crate) fn contains(&self, k: usize) -> bool
         ensures { result ≡ has self.now.words.items k }
     {
-        (self.word(k / 64) >> (k % 64)) & 1 == 1
+        has_bit(self.word(k / 64), k)
     }
 
     pub(crate) fn insert(&mut self, k: usize)
@@ -39,7 +41,8 @@ impl NumberSet {
         ensures room { vec_len self.new.words ≡ vec_len self.old.words }
         ensures numbers { (j : ℕ) → has self.new.words.items j ≡ ((j == k) || has self.old.words.items j) }
     {
-        self.words[k / 64] |= 1 << (k % 64);
+        let word = with_bit(self.words[k / 64], k);
+        self.words[k / 64] = word;
     }
 
     /// Adds the numbers of another set that there is room for.
@@ -65,4 +68,21 @@ impl NumberSet {
         }
         count
     }
+}
+
+/// Whether the word has the bit of a number.
+#[tactic(auto, using(crate::proofs::SetLaws::bit_laws))]
+pub(crate) fn has_bit(word: u64, k: usize) -> bool
+    ensures { result ≡ has_bit word k }
+{
+    (word >> (k % 64)) & 1 == 1
+}
+
+/// The word with the bit of a number.
+#[tactic(auto, using(crate::proofs::SetLaws::bit_laws))]
+pub(crate) fn with_bit(word: u64, k: usize) -> u64
+    ensures same { has_bit result k ≡ true }
+    ensures others { (j : ℕ) → j % 64 ≢ k % 64 → has_bit result j ≡ has_bit word j }
+{
+    word | (1 << (k % 64))
 }

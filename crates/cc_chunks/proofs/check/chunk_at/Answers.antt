@@ -1,4 +1,4 @@
-use Rattle.std.proofs.Common.{◌≡◌, ◌≤◌, sym, ap, refl, subst, ◌∙◌, List, ℕ, true≢false}
+use Rattle.std.proofs.Common.{◌≤◌, sym, refl, subst, ◌∙◌, List, ℕ, true≢false}
 use Rattle.std.specs.List.{Any}
 use Rattle.cc_chunks.specs.Faults.{IsFaultAt}
 use Rattle.cc_chunks.specs.Numbers.{number_in}

@@ -1,4 +1,4 @@
-use Rattle.std.proofs.Common.{◌≡◌, ◌*◌, ◌≤◌, vec_len, take, length}
+use Rattle.std.proofs.Common.{◌*◌, ◌≤◌, vec_len, take, length}
 use Rattle.cc_chunks.proofs.ReachLaws.{Gathers}
 use Rattle.cc_chunks.proofs.reach.reached.Given as goal
 

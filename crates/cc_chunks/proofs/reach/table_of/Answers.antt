@@ -1,5 +1,5 @@
-use Rattle.std.proofs.Common.{◌≡◌, ◌<◌, ◌∷◌, [], length, length-append, subst, sym, ◌∙◌, ap, arith}
-use Rattle.cc_chunks.specs.Tables.{AreReaches, IsReach, IsTable}
+use Rattle.std.proofs.Common.{◌<◌, ◌∷◌, [], length, length-append, subst, sym, ap, arith}
+use Rattle.cc_chunks.specs.Tables.{AreReaches, IsReach}
 use Rattle.cc_chunks.proofs.ReachLaws.{are-none, are-more}
 use Rattle.cc_chunks.proofs.reach.table_of.Goals as goal
 

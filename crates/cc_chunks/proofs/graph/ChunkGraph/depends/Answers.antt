@@ -1,4 +1,4 @@
-use Rattle.std.proofs.Common.{◌≡◌, ◌↔◌, IsTrue, false, slice_get, List, sym, subst, ap, ◌∙◌}
+use Rattle.std.proofs.Common.{◌↔◌, IsTrue, false, slice_get, List, subst, ap, ◌∙◌}
 use Rattle.cc_ast.specs.declared.tables.ChunkInfo.{ChunkInfo}
 use Rattle.cc_chunks.specs.Graph.{Depends}
 use Rattle.cc_chunks.proofs.TableLaws.{depends-read, depends-nowhere}

@@ -1,9 +1,9 @@
-use Rattle.std.proofs.Common.{◌≡◌, ◌≢◌, length, slice_get, Some, refl, sym, ap, ◌∙◌, arith}
+use Rattle.std.proofs.Common.{◌≡◌, ◌≢◌, length, slice_get, Some, refl, arith}
 use Rattle.std.proofs.lemmas.Option.{slice_get_read}
 use Rattle.cc_chunks.specs.declared.spec.ChunkFault.TheVariants.{Memory}
 use Rattle.cc_chunks.specs.Faults.{IsFirst}
 use Rattle.cc_chunks.proofs.CheckLaws.{err-on}
-use Rattle.cc_chunks.proofs.FaultLaws.{Built, built-none, built-more, summed-more, none-before_count, first-at, first-count, sound-end}
+use Rattle.cc_chunks.proofs.FaultLaws.{built-none, built-more, summed-more, none-before_count, first-at, first-count, sound-end}
 use Rattle.cc_chunks.proofs.graph.ChunkGraph.of.Goals as goal
 
 pub loop-i-init : goal.loop-i-init

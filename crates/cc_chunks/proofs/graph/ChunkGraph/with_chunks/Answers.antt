@@ -1,4 +1,4 @@
-use Rattle.std.proofs.Common.{subst, sym, ◌∙◌}
+use Rattle.std.proofs.Common.{subst, sym}
 use Rattle.cc_chunks.specs.Graph.{DependsDown}
 use Rattle.cc_chunks.proofs.graph.ChunkGraph.with_chunks.Goals as goal
 

@@ -1,5 +1,5 @@
-use Rattle.std.proofs.Common.{◌≡◌, arith, sym, ◌∙◌, IsTrue, true≢false}
-use Rattle.cc_chunks.specs.Graph.{CountBelow, nothing}
+use Rattle.std.proofs.Common.{arith, sym, ◌∙◌, IsTrue, true≢false}
+use Rattle.cc_chunks.specs.Graph.{nothing}
 use Rattle.cc_chunks.specs.Sets.{has}
 use Rattle.cc_chunks.proofs.CountLaws.{count-yes, count-no, count-to}
 use Rattle.cc_chunks.proofs.set.NumberSet.count_below.Goals as goal
