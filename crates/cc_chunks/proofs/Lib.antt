@@ -7,3 +7,4 @@ pub mod DeepestLaws
 pub mod NameLaws
 pub mod CheckLaws
 pub mod FaultLaws
+pub mod BitCounts

@@ -1,5 +1,5 @@
 -- The set of all that a chunk depends on, one direct dependency after the other.
-use Rattle.std.proofs.Common.{◌≡◌, ℕ, zero, suc, ◌+◌, ◌-◌, ◌*◌, ◌<◌, ◌≤◌, ◌⊎◌, ◌↔◌, true, false, ◌||◌, List, [], ◌∷◌, ◌++◌, length, get_or, slice_get, Option, None, Some, Contains, IsTrue, refl, sym, ap, subst, ◌∙◌, inl, inr, arith, true≢false, length-append}
+use Rattle.std.proofs.Common.{◌≡◌, ℕ, zero, suc, ◌*◌, ◌<◌, ◌≤◌, ◌⊎◌, ◌↔◌, true, false, ◌||◌, List, [], ◌∷◌, ◌++◌, length, get_or, slice_get, Option, None, Some, Contains, IsTrue, refl, sym, ap, subst, ◌∙◌, inl, inr, arith, true≢false, length-append}
 use Rattle.std.proofs.lemmas.Bool.{cases_lt, cases_order, or_cases, or_left, or_right, eqb-true, eq-eqb}
 use Rattle.std.proofs.lemmas.List.Elements.{Contains-get_or, Contains-push_cases, Contains-append_left, Contains-push}
 use Rattle.std.proofs.lemmas.Option.{slice_get-get_or, slice_get_within}
@@ -9,7 +9,7 @@ use Rattle.cc_chunks.specs.Graph.{deps_at, Depends, DependsDown, CountBelow, Dep
 use Rattle.cc_chunks.specs.Sets.{has}
 use Rattle.cc_chunks.specs.Tables.{IsReach, AreReaches}
 use Rattle.cc_chunks.specs.declared.reach.Reach.{Reach}
-use Rattle.cc_chunks.proofs.CountLaws.{count-to, count-beyond, count-same}
+use Rattle.cc_chunks.proofs.CountLaws.{count-moved, count-same}
 use Rattle.cc_chunks.proofs.SetLaws.{has-beyond}
 use Rattle.cc_chunks.proofs.GraphLaws.{ReachedBy, depends-down, deps_at-read}
 
@@ -84,10 +84,10 @@ pub dep-below : (chunks : List ChunkInfo) (n : ℕ) (ds : List ℕ) (i : ℕ) �
 dep-below chunks n ds i down are h = down n (get_or ds i 0) (subst (λ xs. Contains xs (get_or ds i 0)) are (Contains-get_or ds i 0 h))
 
 -- the count of a set that is right
-pub counted : (chunks : List ChunkInfo) (n k : ℕ) (ws : List ℕ) → DependsDown chunks → n < length chunks → ((b : ℕ) → IsTrue (has ws b) ↔ Depends chunks n b) → CountBelow (λ b. IsTrue (has ws b)) n k → DependsOnCount chunks n k
-counted chunks n k ws down within right count =
-    count-to (Depends chunks n) (n + (length chunks - n)) (length chunks) k (omega (arith, within))
-    (count-beyond (Depends chunks n) n (length chunks - n) k (λ b d. depends-down chunks down n b d) (count-same (λ b. IsTrue (has ws b)) (Depends chunks n) right n k count))
+pub counted : (chunks : List ChunkInfo) (n k : ℕ) (ws : List ℕ) (room : ℕ) → DependsDown chunks → n < length chunks → n ≤ room → ((b : ℕ) → IsTrue (has ws b) ↔ Depends chunks n b) → CountBelow (λ b. IsTrue (has ws b)) room k → DependsOnCount chunks n k
+counted chunks n k ws room down within fits right count =
+    count-moved (Depends chunks n) n room (length chunks) k (λ b d. depends-down chunks down n b d) fits (omega (arith, within))
+    (count-same (λ b. IsTrue (has ws b)) (Depends chunks n) room k (λ b low. right b) count)
 
 -- ---- the table
 

@@ -1,6 +1,6 @@
 // The table of all that each chunk depends on.
 
-ghost use Rattle.std.specs.Prelude.{◌≡◌, ◌↔◌, ℕ, ◌<◌, IfOk, IsTrue, length};
+ghost use Rattle.std.specs.Prelude.{◌≡◌, ◌↔◌, ℕ, ◌+◌, ◌*◌, ◌<◌, ◌≤◌, IfOk, IsTrue, vec_len, length};
 ghost use Rattle.cc_chunks.specs.Graph.{Depends, DependsDown};
 ghost use Rattle.cc_chunks.specs.Sets.{has};
 ghost use Rattle.cc_chunks.specs.Tables.{IsReach, AreReaches, IsTable};
@@ -37,15 +37,18 @@ fn next_reach(alloc: Global, chunks: &[ChunkInfo], table: &[Reach]) -> Result<Re
     ensures { IfOk result (IsReach chunks.now (length table.now)) }
 {
     let set = reached(alloc, chunks, table)?;
-    let count = set.count_below(table.len());
+    let count = set.count();
     Ok(Reach { set, count })
 }
 
+/// The chunks that the first chunk without an entry depends on.
 fn reached(alloc: Global, chunks: &[ChunkInfo], table: &[Reach]) -> Result<NumberSet, AllocError>
     requires next { length table.now < length chunks.now }
     requires down { DependsDown chunks.now }
     requires reaches { AreReaches chunks.now table.now }
-    ensures { IfOk result (λ set. (b : ℕ) → IsTrue (has set.words.items b) ↔ Depends chunks.now (length table.now) b) }
+    ensures room { IfOk result (λ set. length table.now ≤ 64 * vec_len set.words) }
+    ensures tight { IfOk result (λ set. 64 * vec_len set.words < length table.now + 64) }
+    ensures right { IfOk result (λ set. (b : ℕ) → IsTrue (has set.words.items b) ↔ Depends chunks.now (length table.now) b) }
 {
     let mut set = NumberSet::with_room(alloc, table.len())?;
     for dep in chunks[table.len()].deps.as_slice() {

@@ -1,6 +1,6 @@
 // Sets of numbers.
 
-ghost use Rattle.std.specs.Prelude.{◌≡◌, ◌≢◌, ◌==◌, ◌||◌, true, ℕ, ◌%◌, ◌*◌, ◌<◌, ◌≤◌, IfOk, IsTrue, vec_len, false, slice_index};
+ghost use Rattle.std.specs.Prelude.{◌≡◌, ◌≢◌, ◌==◌, ◌||◌, true, ℕ, ◌%◌, ◌^◌, ◌+◌, ◌*◌, ◌<◌, ◌≤◌, IfOk, IsTrue, vec_len, false, slice_index};
 ghost use Rattle.cc_chunks.specs.Sets.{has, has_bit};
 ghost use Rattle.cc_chunks.specs.Graph.{CountBelow};
 
@@ -16,6 +16,7 @@ impl NumberSet {
     /// The empty set, with room for the numbers below `size`.
     pub(crate) fn with_room(alloc: Global, size: usize) -> Result<NumberSet, AllocError>
         ensures room { IfOk result (λ set. size ≤ 64 * vec_len set.words) }
+        ensures tight { IfOk result (λ set. 64 * vec_len set.words < size + 64) }
         ensures empty { IfOk result (λ set. (k : ℕ) → has set.words.items k ≡ false) }
     {
         let words = vec![in alloc; 0u64; size.div_ceil(64)]?;
@@ -56,15 +57,14 @@ impl NumberSet {
         }
     }
 
-    /// How many numbers below `end` it has.
-    pub(crate) fn count_below(&self, end: usize) -> usize
-        ensures { CountBelow (λ k. IsTrue (has self.now.words.items k)) end result }
+    /// How many numbers it has.
+    pub(crate) fn count(&self) -> usize
+        requires { 64 * vec_len self.now.words < 2 ^ 64 }
+        ensures { CountBelow (λ k. IsTrue (has self.now.words.items k)) (64 * vec_len self.now.words) result }
     {
         let mut count = 0;
-        for k in 0..end {
-            if self.contains(k) {
-                count += 1;
-            }
+        for word in self.words.as_slice() {
+            count += word.count_ones() as usize;
         }
         count
     }

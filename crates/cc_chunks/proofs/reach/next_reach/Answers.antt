@@ -4,6 +4,6 @@ use Rattle.cc_chunks.proofs.reach.next_reach.Goals as goal
 
 pub returns : goal.returns
 returns c = record {
-  set = c.in_ok-set.ensures;
-  count = counted c.args.chunks.now (length c.args.table.now) c.count_below-count.result c.in_ok-set.set.words.items c.requires.down c.requires.next c.in_ok-set.ensures c.count_below-count.ensures;
+  set = c.in_ok-set.ensures.right;
+  count = counted c.args.chunks.now (length c.args.table.now) c.count-count.result c.in_ok-set.set.words.items _ c.requires.down c.requires.next c.in_ok-set.ensures.room c.in_ok-set.ensures.right c.count-count.ensures;
 }

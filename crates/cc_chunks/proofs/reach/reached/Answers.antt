@@ -20,7 +20,7 @@ insert-requires c =
     omega (arith, c.unite.ensures.room, below)
 
 pub loop-dep-init : goal.loop-dep-init
-loop-dep-init c = record { gathers = gathers-none c.args.chunks.now c.in_ok-set.set.words.items c.in_ok-set.ensures.empty; room = c.in_ok-set.ensures.room }
+loop-dep-init c = record { gathers = gathers-none c.args.chunks.now c.in_ok-set.set.words.items c.in_ok-set.ensures.empty; room = c.in_ok-set.ensures.room; tight = c.in_ok-set.ensures.tight }
 
 pub loop-dep-preserved : goal.loop-dep-preserved
 loop-dep-preserved c =
@@ -39,10 +39,11 @@ loop-dep-preserved c =
       gathers = subst (λ xs. Gathers chunks xs c.insert.new.self.words.items) (sym one_more)
           (gathers-more chunks c.requires.down (take i ds) c.loop-dep.set.words.items c.index-table-dep.result.set.words.items c.unite.new.self.words.items c.insert.new.self.words.items d (length table) below room same_room c.loop-dep.invariant.gathers entry.set (λ j low. c.unite.ensures.numbers j (omega (arith, c.loop-dep.set.words.ok.0, low))) c.insert.ensures.numbers);
       room = omega (arith, c.insert.ensures.room, c.unite.ensures.room, c.loop-dep.invariant.room);
+      tight = omega (arith, c.insert.ensures.room, c.unite.ensures.room, c.loop-dep.invariant.tight);
     }
 
-pub returns : goal.returns
-returns c =
+pub returns-clause-right : goal.returns-clause-right
+returns-clause-right c =
     let chunks = c.args.chunks.now in
     let ds = c.as_slice-dep-items.result.now in
     let are = deps-are chunks (length c.args.table.now) c.index-chunks-table.result ds c.requires.next c.as_slice-dep-items.ensures in
