@@ -10,7 +10,7 @@ use Rattle.cc_chunks.specs.declared.spec.ChunkSpec.{ChunkSpec}
 use Rattle.cc_chunks.specs.declared.spec.ChunkFault.{ChunkFault}
 use Rattle.cc_chunks.specs.declared.spec.ChunkFault.TheVariants.{DoubleName, UnknownDep, LaterDep, FileCount, Memory}
 use Rattle.cc_chunks.specs.Graph.{deps_at, deps_of, DependsDown}
-use Rattle.cc_chunks.specs.Faults.{names_of, dep_names, counts_of, IsDouble, HasUnknown, HasLater, TakesTooMany, LeavesFiles, Stands, double_name, unknown_dep, later_dep, too_many, left_over, rank, IsFirst, IsChunkAt, IsFaultAt, IsCountFaultAt}
+use Rattle.cc_chunks.specs.Faults.{names_of, dep_names, counts_of, IsDouble, HasUnknown, HasLater, TakesTooMany, LeavesFiles, HasFault, double_name, unknown_dep, later_dep, too_many, left_over, rank, IsFirstFault, IsChunkAt, IsFaultAt, IsCountFaultAt}
 use Rattle.cc_chunks.proofs.GraphLaws.{deps_at-read, deps_at-past}
 use Rattle.cc_chunks.proofs.ReachLaws.{get-low, get-last}
 use Rattle.cc_chunks.proofs.NameLaws.{map-more}
@@ -18,7 +18,7 @@ use Rattle.cc_chunks.proofs.NameLaws.{map-more}
 module _ (specs : List ChunkSpec) (files : ℕ) where
   -- each fault that stands has at least this rank
   pub record NoneBelow (r : ℕ) : Type 0 where
-    pub each : (f : ChunkFault) → Stands specs files f → r ≤ rank f
+    pub each : (f : ChunkFault) → HasFault specs files f → r ≤ rank f
 
   pub none-start : NoneBelow 0
   none-start = record { each = λ f s. omega arith }
@@ -28,7 +28,7 @@ module _ (specs : List ChunkSpec) (files : ℕ) where
     unfolding rank
     past-double none not = record { each = by }
       where
-        by : (f : ChunkFault) → Stands specs files f → 4 * i + 1 ≤ rank f
+        by : (f : ChunkFault) → HasFault specs files f → 4 * i + 1 ≤ rank f
         by (DoubleName j) (double_name s) = elim (cases_eq j i) [ inl e ↦ absurd (not (subst (IsDouble specs) e s)) | inr apart ↦ omega (arith, none.each (DoubleName j) (double_name s)) ]
         by (UnknownDep j) (unknown_dep s) = omega (arith, none.each (UnknownDep j) (unknown_dep s))
         by (LaterDep j) (later_dep s) = omega (arith, none.each (LaterDep j) (later_dep s))
@@ -40,7 +40,7 @@ module _ (specs : List ChunkSpec) (files : ℕ) where
     unfolding rank
     past-unknown none not = record { each = by }
       where
-        by : (f : ChunkFault) → Stands specs files f → 4 * i + 2 ≤ rank f
+        by : (f : ChunkFault) → HasFault specs files f → 4 * i + 2 ≤ rank f
         by (DoubleName j) (double_name s) = omega (arith, none.each (DoubleName j) (double_name s))
         by (UnknownDep j) (unknown_dep s) = elim (cases_eq j i) [ inl e ↦ absurd (not (subst (HasUnknown specs) e s)) | inr apart ↦ omega (arith, none.each (UnknownDep j) (unknown_dep s)) ]
         by (LaterDep j) (later_dep s) = omega (arith, none.each (LaterDep j) (later_dep s))
@@ -52,7 +52,7 @@ module _ (specs : List ChunkSpec) (files : ℕ) where
     unfolding rank
     past-later none not = record { each = by }
       where
-        by : (f : ChunkFault) → Stands specs files f → 4 * i + 3 ≤ rank f
+        by : (f : ChunkFault) → HasFault specs files f → 4 * i + 3 ≤ rank f
         by (DoubleName j) (double_name s) = omega (arith, none.each (DoubleName j) (double_name s))
         by (UnknownDep j) (unknown_dep s) = omega (arith, none.each (UnknownDep j) (unknown_dep s))
         by (LaterDep j) (later_dep s) = elim (cases_eq j i) [ inl e ↦ absurd (not (subst (HasLater specs) e s)) | inr apart ↦ omega (arith, none.each (LaterDep j) (later_dep s)) ]
@@ -64,7 +64,7 @@ module _ (specs : List ChunkSpec) (files : ℕ) where
     unfolding rank
     past-count none not neither = record { each = by }
       where
-        by : (f : ChunkFault) → Stands specs files f → 4 * (i + 1) ≤ rank f
+        by : (f : ChunkFault) → HasFault specs files f → 4 * (i + 1) ≤ rank f
         by (DoubleName j) (double_name s) = omega (arith, none.each (DoubleName j) (double_name s))
         by (UnknownDep j) (unknown_dep s) = omega (arith, none.each (UnknownDep j) (unknown_dep s))
         by (LaterDep j) (later_dep s) = omega (arith, none.each (LaterDep j) (later_dep s))
@@ -73,7 +73,7 @@ module _ (specs : List ChunkSpec) (files : ℕ) where
         by Memory s = elim s [ ]
 
     -- the first fault of this spec is the first of all
-    pub first-at : NoneBelow (4 * i) → (f : ChunkFault) → IsFaultAt specs i f → f ≢ Memory → IsFirst specs files f
+    pub first-at : NoneBelow (4 * i) → (f : ChunkFault) → IsFaultAt specs i f → f ≢ Memory → IsFirstFault specs files f
     unfolding rank
     first-at none (DoubleName j) h apart = record {
       stands = double_name (subst (IsDouble specs) (sym h.0) h.1);
@@ -90,7 +90,7 @@ module _ (specs : List ChunkSpec) (files : ℕ) where
     first-at none (FileCount j) h apart = absurd h
     first-at none Memory h apart = absurd (apart refl)
 
-    pub first-count : NoneBelow (4 * i + 3) → (f : ChunkFault) → IsCountFaultAt specs files i f → IsFirst specs files f
+    pub first-count : NoneBelow (4 * i + 3) → (f : ChunkFault) → IsCountFaultAt specs files i f → IsFirstFault specs files f
     unfolding rank
     first-count none (FileCount j) h = record {
       stands = elim h.1 [
@@ -105,7 +105,7 @@ module _ (specs : List ChunkSpec) (files : ℕ) where
     first-count none Memory h = absurd h
 
   -- a fault is one of a spec that is there
-  stands-within : (f : ChunkFault) → Stands specs files f → rank f < 4 * length specs
+  stands-within : (f : ChunkFault) → HasFault specs files f → rank f < 4 * length specs
   unfolding rank
   stands-within (DoubleName j) (double_name s) = omega (arith, slice_get_within specs j s.spec s.at)
   stands-within (UnknownDep j) (unknown_dep s) = omega (arith, slice_get_within specs j s.spec s.at)
@@ -114,7 +114,7 @@ module _ (specs : List ChunkSpec) (files : ℕ) where
   stands-within (FileCount j) (left_over s) = omega (arith, s.last)
   stands-within Memory s = elim s [ ]
 
-  pub none-at_all : NoneBelow (4 * length specs) → (f : ChunkFault) → Stands specs files f → ⊥
+  pub none-at_all : NoneBelow (4 * length specs) → (f : ChunkFault) → HasFault specs files f → ⊥
   none-at_all none f s = omega (arith, none.each f s, stands-within f s)
 
 -- ---- one chunk more
@@ -188,5 +188,5 @@ module _ (specs : List ChunkSpec) (i : ℕ) (spec : ChunkSpec) (within : i < len
     }
 
 -- the chunks of all specs
-pub sound-end : (specs : List ChunkSpec) (files i : ℕ) (chunks : List ChunkInfo) (counts : List ℕ) (taken : ℕ) → Built specs files i chunks counts taken → i ≡ length specs → (f : ChunkFault) → ¬ Stands specs files f
+pub sound-end : (specs : List ChunkSpec) (files i : ℕ) (chunks : List ChunkInfo) (counts : List ℕ) (taken : ℕ) → Built specs files i chunks counts taken → i ≡ length specs → (f : ChunkFault) → ¬ HasFault specs files f
 sound-end specs files i chunks counts taken built end = none-at_all specs files (subst (λ n. NoneBelow specs files (4 * n)) end built.none)

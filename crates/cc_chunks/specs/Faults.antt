@@ -55,12 +55,12 @@ pub record LeavesFiles (specs : List ChunkSpec) (files i : ℕ) : Type 0 where
   pub fewer : sum (counts_of specs) < files
 
 -- a fault that stands in the specs
-pub data Stands (specs : List ChunkSpec) (files : ℕ) : ChunkFault → Type 0 where
-  double_name : {i : ℕ} → IsDouble specs i → Stands specs files (DoubleName i)
-  unknown_dep : {i : ℕ} → HasUnknown specs i → Stands specs files (UnknownDep i)
-  later_dep : {i : ℕ} → HasLater specs i → Stands specs files (LaterDep i)
-  too_many : {i : ℕ} → TakesTooMany specs files i → Stands specs files (FileCount i)
-  left_over : {i : ℕ} → LeavesFiles specs files i → Stands specs files (FileCount i)
+pub data HasFault (specs : List ChunkSpec) (files : ℕ) : ChunkFault → Type 0 where
+  double_name : {i : ℕ} → IsDouble specs i → HasFault specs files (DoubleName i)
+  unknown_dep : {i : ℕ} → HasUnknown specs i → HasFault specs files (UnknownDep i)
+  later_dep : {i : ℕ} → HasLater specs i → HasFault specs files (LaterDep i)
+  too_many : {i : ℕ} → TakesTooMany specs files i → HasFault specs files (FileCount i)
+  left_over : {i : ℕ} → LeavesFiles specs files i → HasFault specs files (FileCount i)
 
 -- faults go by spec, and within a spec in this order
 unfoldable pub rank : ChunkFault → ℕ
@@ -71,9 +71,9 @@ rank (FileCount i) = 4 * i + 3
 rank Memory = 0
 
 -- a fault that stands, and the first of all that do
-pub record IsFirst (specs : List ChunkSpec) (files : ℕ) (fault : ChunkFault) : Type 0 where
-  pub stands : Stands specs files fault
-  pub first : (other : ChunkFault) → Stands specs files other → rank fault ≤ rank other
+pub record IsFirstFault (specs : List ChunkSpec) (files : ℕ) (fault : ChunkFault) : Type 0 where
+  pub stands : HasFault specs files fault
+  pub first : (other : ChunkFault) → HasFault specs files other → rank fault ≤ rank other
 
 -- ---- the graph of specs
 

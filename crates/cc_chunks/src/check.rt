@@ -4,6 +4,7 @@ ghost use Rattle.std.specs.Prelude.{◌≡◌, ℕ, ◌+◌, ◌^◌, ◌<◌, �
 ghost use Rattle.std.specs.List.{Contains, Any};
 ghost use Rattle.cc_chunks.specs.Faults.{first_of, names_of, dep_names, counts_of, IsChunkAt, IsFaultAt, IsCountFaultAt, TakesTooMany, LeavesFiles};
 ghost use Rattle.cc_chunks.specs.Numbers.{number_in, IsUnknownFault};
+ghost use Rattle.cc_chunks.specs.declared.spec.ChunkSpec as Spec;
 
 use crate::names::{Numbers, number_of};
 use crate::spec::{ChunkFault, ChunkSpec};
@@ -20,8 +21,10 @@ pub(crate) fn chunk_at(
 ) -> Result<ChunkInfo, ChunkFault>
     requires within { at < length specs.now }
     requires few { length specs.now < 2 ^ 32 }
-    requires numbers { (name : List ℕ) → number_in numbers.now name ≡ first_of (names_of specs.now) name }
-    ensures chunk { IfOk result (λ chunk. (spec : _) → slice_get specs.now at ≡ Some spec → IsChunkAt specs.now at spec chunk) }
+    requires numbers { (name : List ℕ) → number_in numbers.now name
+        ≡ first_of (names_of specs.now) name }
+    ensures chunk { IfOk result (λ chunk. (spec : Spec.ChunkSpec) → slice_get specs.now at ≡ Some spec
+        → IsChunkAt specs.now at spec chunk) }
     ensures fault { IfErr result (IsFaultAt specs.now at) }
 {
     let spec = &specs[at];
@@ -54,8 +57,10 @@ fn dep_numbers(
     spec: &ChunkSpec,
     number: u32,
 ) -> Result<Items<u32>, ChunkFault>
-    ensures known { IfOk result (λ deps. map (λ d. Some d) deps ≡ map (number_in numbers.now) (dep_names spec.now)) }
-    ensures unknown { IfErr result (IsUnknownFault number (Any (λ name. number_in numbers.now name ≡ None) (dep_names spec.now))) }
+    ensures known { IfOk result (λ deps. map (λ d. Some d) deps
+        ≡ map (number_in numbers.now) (dep_names spec.now)) }
+    ensures unknown { IfErr result (IsUnknownFault number
+        (Any (λ name. number_in numbers.now name ≡ None) (dep_names spec.now))) }
 {
     let mut deps = Items::new(alloc);
     for name in spec.deps.as_slice() {
@@ -79,7 +84,8 @@ pub(crate) fn check_count(
     requires few { length specs.now < 2 ^ 32 }
     requires taken { taken ≡ sum (take (at + 1) (counts_of specs.now)) }
     ensures enough { OnOk result (taken ≤ files) }
-    ensures sound { OnOk result ((¬ TakesTooMany specs.now files at) × (¬ LeavesFiles specs.now files at)) }
+    ensures sound { OnOk result ((¬ TakesTooMany specs.now files at)
+        × (¬ LeavesFiles specs.now files at)) }
     ensures fault { IfErr result (IsCountFaultAt specs.now files at) }
 {
     let wanted = u64::from(files);

@@ -36,22 +36,21 @@ impl Model for ChunkGraph {
 }
 
 impl ChunkGraph {
-    ghost use Rattle.cc_ast.specs.declared.tables.ChunkInfo.{ChunkInfo};
     ghost use Rattle.cc_chunks.specs.declared.spec.ChunkFault.TheVariants.{Memory};
     ghost use Rattle.cc_chunks.specs.declared.spec.ChunkFault.{ChunkFault};
-    ghost use Rattle.cc_chunks.specs.Faults.{Stands, IsFirst, IsGraphOf};
+    ghost use Rattle.cc_chunks.specs.Faults.{HasFault, IsFirstFault, IsGraphOf};
     ghost use Rattle.cc_chunks.specs.Sets as Sets;
     ghost use Rattle.cc_chunks.specs.Tables.{IsCommonWord};
-    ghost use Rattle.cc_chunks.specs.Graph.{Graph, Depends, DependsDown, IsCommon, IsDeepestCommon, DependsOnCount, GoesBefore};
+    ghost use Rattle.cc_chunks.specs.Graph.{Depends, DependsDown, IsCommon, IsDeepestCommon, DependsOnCount, GoesBefore};
 
     /// The graph of these specs, which share out `files` files in their order.
     pub fn of(alloc: Global, specs: &[ChunkSpec], files: u32) -> Result<ChunkGraph, ChunkFault>
         requires { length specs.now < 2 ^ 32 }
         ensures graph { IfOk result (IsGraphOf specs.now) }
-        ensures sound { OnOk result ((fault : ChunkFault) → ¬ Stands specs.now files fault) }
+        ensures sound { OnOk result ((fault : ChunkFault) → ¬ HasFault specs.now files fault) }
 
         // Of several faults the first is answered. Memory may be wanting at any time.
-        ensures fault { IfErr result (λ fault. fault ≢ Memory → IsFirst specs.now files fault) }
+        ensures fault { IfErr result (λ fault. fault ≢ Memory → IsFirstFault specs.now files fault) }
     {
         let numbers = first_numbers(alloc, specs)?;
         let mut chunks = Items::new(alloc);
@@ -101,7 +100,7 @@ impl ChunkGraph {
         self.chunks.as_slice()
     }
 
-    /// How many files each chunk takes, in the order of the files.
+    /// How many files each chunk takes, in the order of the files; none for a program's chunks.
     pub fn counts(&self) -> &[u32]
         ensures { result.now ≡ self.now.counts }
     {
@@ -118,7 +117,8 @@ impl ChunkGraph {
         }
     }
 
-    /// The chunk that each of the list is or depends on, and that itself depends on the most.
+    /// The chunk that each of the list is or depends on, and that itself depends on the most
+    /// chunks; of several such chunks the first.
     pub fn deepest_common(&self, chunks: &[u32]) -> Option<u32>
         requires some { 0 < length chunks.now }
         requires in_graph { All (λ k. k < length self.now.chunks) chunks.now }

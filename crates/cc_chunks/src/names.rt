@@ -16,7 +16,8 @@ pub(crate) fn first_numbers<'a>(
     specs: &'a [ChunkSpec],
 ) -> Result<Numbers<'a>, AllocError>
     requires { length specs.now < 2 ^ 32 }
-    ensures { IfOk result (λ numbers. (name : List ℕ) → number_in numbers name ≡ first_of (names_of specs.now) name) }
+    ensures { IfOk result (λ numbers. (name : List ℕ) → number_in numbers name
+        ≡ first_of (names_of specs.now) name) }
 {
     let mut numbers = IndexMap::new(alloc);
     for (i, spec) in specs.iter().enumerate() {

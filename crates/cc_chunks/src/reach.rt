@@ -48,7 +48,8 @@ fn reached(alloc: Global, chunks: &[ChunkInfo], table: &[Reach]) -> Result<Numbe
     requires reaches { AreReaches chunks.now table.now }
     ensures room { IfOk result (λ set. length table.now ≤ 64 * vec_len set.words) }
     ensures tight { IfOk result (λ set. 64 * vec_len set.words < length table.now + 64) }
-    ensures right { IfOk result (λ set. (b : ℕ) → IsTrue (has set.words.items b) ↔ Depends chunks.now (length table.now) b) }
+    ensures right { IfOk result (λ set. (b : ℕ) → IsTrue (has set.words.items b)
+        ↔ Depends chunks.now (length table.now) b) }
 {
     let mut set = NumberSet::with_room(alloc, table.len())?;
     for dep in chunks[table.len()].deps.as_slice() {

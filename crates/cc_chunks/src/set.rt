@@ -40,7 +40,8 @@ impl NumberSet {
     pub(crate) fn insert(&mut self, k: usize)
         requires { k < 64 * vec_len self.old.words }
         ensures room { vec_len self.new.words ≡ vec_len self.old.words }
-        ensures numbers { (j : ℕ) → has self.new.words.items j ≡ ((j == k) || has self.old.words.items j) }
+        ensures numbers { (j : ℕ) → has self.new.words.items j
+            ≡ ((j == k) || has self.old.words.items j) }
     {
         let word = with_bit(self.words[k / 64], k);
         self.words[k / 64] = word;
@@ -60,7 +61,8 @@ impl NumberSet {
     /// How many numbers it has.
     pub(crate) fn count(&self) -> usize
         requires { 64 * vec_len self.now.words < 2 ^ 64 }
-        ensures { CountBelow (λ k. IsTrue (has self.now.words.items k)) (64 * vec_len self.now.words) result }
+        ensures { CountBelow (λ k. IsTrue (has self.now.words.items k))
+            (64 * vec_len self.now.words) result }
     {
         let mut count = 0;
         for word in self.words.as_slice() {
