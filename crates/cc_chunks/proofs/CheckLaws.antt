@@ -85,7 +85,7 @@ found-none (n ∷ ns) q e c = elim (cases_Bool (bytes_eq n q)) [ inl t ↦ at_he
   where
     at_head : bytes_eq n q ≡ true → ⊥
     at_head t =
-        let first : Some 0 ≡ None = sym (ap (λ b. cond b (Some 0) (option_map (λ i. i + 1) (first_of ns q))) t) ∙ e in
+        let first : ◌≡◌ {A = Option ℕ} (Some 0) None = sym (ap (λ b. cond b (Some 0) (option_map (λ i. i + 1) (first_of ns q))) t) ∙ e in
         cc
 
     behind : bytes_eq n q ≡ false → (first_of ns q ≡ None → Contains ns q → ⊥) → ⊥
@@ -238,15 +238,19 @@ map-same f g same (x ∷ xs) = λ t. same x t ∷ map-same f g same xs t
 pub any-same : {X : Type 0} (f g : X → Option ℕ) → ((x : X) → f x ≡ g x) → (xs : List X) → Any (λ x. f x ≡ None) xs → Any (λ x. g x ≡ None) xs
 any-same f g same xs a = (a.0, a.1, a.2, a.3, sym (same a.1) ∙ a.4)
 
--- what the code knows once it has looked the spec's name up
-module _ (specs : List ChunkSpec) (i : ℕ) (spec : ChunkSpec) (read : spec ≡ get_or specs i spec) (within : i < length specs)
-    (number : List ℕ → Option ℕ) (numbers : (q : List ℕ) → number q ≡ first_of (names_of specs) q)
-    (o : Option ℕ) (name : List ℕ) (is : name ≡ string_bytes spec.name) (own : o ≡ number name) where
-  pub spec-at : slice_get specs i ≡ Some spec
-  spec-at = slice_get_read specs (length specs) i spec refl within read
+-- what the code knows of a spec once it has looked its name up: the answer is o
+pub record LookedUp (specs : List ChunkSpec) (i : ℕ) (spec : ChunkSpec) (number : List ℕ → Option ℕ) (o : Option ℕ) : Type 0 where
+  pub within : i < length specs
+  pub read : spec ≡ get_or specs i spec
+  pub numbers : (q : List ℕ) → number q ≡ first_of (names_of specs) q
+  pub own : o ≡ number (string_bytes spec.name)
+
+module _ {specs : List ChunkSpec} {i : ℕ} {spec : ChunkSpec} {number : List ℕ → Option ℕ} {o : Option ℕ} (known : LookedUp specs i spec number o) where
+  spec-at : slice_get specs i ≡ Some spec
+  spec-at = slice_get_read specs (length specs) i spec refl known.within known.read
 
   own-first : first_of (names_of specs) (string_bytes spec.name) ≡ o
-  own-first = sym (own ∙ numbers name ∙ ap (first_of (names_of specs)) is)
+  own-first = sym (known.own ∙ known.numbers (string_bytes spec.name))
 
   pub double-by : not (option_eq nat_eq o (Some i)) ≡ true → IsDouble specs i
   double-by h = double-from specs i spec spec-at o own-first (not-true (option_eq nat_eq o (Some i)) h)
@@ -259,11 +263,11 @@ module _ (specs : List ChunkSpec) (i : ℕ) (spec : ChunkSpec) (read : spec ≡ 
     single-by = single-from specs i spec spec-at first-by
 
     pub unknown-by : Any (λ q. number q ≡ None) (dep_names spec) → HasUnknown specs i
-    unknown-by a = unknown-from specs i spec spec-at (any-same number (first_of (names_of specs)) numbers (dep_names spec) a)
+    unknown-by a = unknown-from specs i spec spec-at (any-same number (first_of (names_of specs)) known.numbers (dep_names spec) a)
 
     module _ (ds : List ℕ) (deps : map (λ d. Some d) ds ≡ map number (dep_names spec)) where
       pairs : Paired (first_of (names_of specs)) ds (dep_names spec)
-      pairs = paired (first_of (names_of specs)) ds (dep_names spec) (deps ∙ map-same number (first_of (names_of specs)) numbers (dep_names spec))
+      pairs = paired (first_of (names_of specs)) ds (dep_names spec) (deps ∙ map-same number (first_of (names_of specs)) known.numbers (dep_names spec))
 
       pub known-by : HasUnknown specs i → ⊥
       known-by = known-from specs i spec spec-at ds pairs
