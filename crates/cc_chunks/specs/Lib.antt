@@ -1,0 +1,5 @@
+pub mod Graph
+pub mod Faults
+pub mod Sets
+pub mod Tables
+pub mod Numbers
