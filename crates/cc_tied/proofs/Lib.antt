@@ -38,3 +38,5 @@ pub mod AlikeReach
 pub mod AlikeParts
 pub mod AlikeStatements
 pub mod AlikeEnds
+pub mod InjectTable
+pub mod InjectPlaces
