@@ -40,3 +40,5 @@ pub mod AlikeStatements
 pub mod AlikeEnds
 pub mod InjectTable
 pub mod InjectPlaces
+pub mod InjectWorld
+pub mod InjectTie
