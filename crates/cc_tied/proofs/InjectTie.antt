@@ -72,10 +72,13 @@ module _ (F : Facts) where
     unfolding innermost
     env_top d = env_at no_up none_t d
 
--- the tables of the two programs are the same, but for the functions that globals are set to
+-- the tables of the two programs are the same, but for the functions that globals and paths are set to
+abbrev pub with_set : Tables → List (Path × ℕ) → Tables
+with_set S set' = record S { set = set' }
+
 module _ (F : Facts) (S : Tables) (set' : List (Path × ℕ)) where
   abbrev pub S' : Tables
-  S' = record S { set = set' }
+  S' = with_set S set'
 
   pub read_built : {c : Ctx} {r r' : Ref} → ReadI F S c r r' → built_of S r ≡ built_of S' r'
   unfolding built_of global_kind

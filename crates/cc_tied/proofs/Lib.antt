@@ -42,3 +42,4 @@ pub mod InjectTable
 pub mod InjectPlaces
 pub mod InjectWorld
 pub mod InjectTie
+pub mod InjectRules
