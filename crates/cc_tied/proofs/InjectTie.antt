@@ -1,23 +1,27 @@
 -- The tie for folding, inlining and local dead code: two checked runs whose objects and frames are tied by partial injections.
-use Rattle.std.proofs.Common.{◌≡◌, ◌⊎◌, ℕ, zero, suc, ◌<◌, Bool, true, false, List, [], ◌∷◌, length, Option, Some, None, refl, sym, ap, subst}
+use Rattle.std.proofs.Common.{◌≡◌, ◌⊎◌, ℕ, suc, ◌<◌, Bool, true, false, List, length, Option, Some, None, refl, subst}
 use Rattle.std.specs.Prelude.{slice_get, nat_eq}
 use Rattle.std.specs.List.{list_any}
 use Rattle.std.proofs.lemmas.Bool.{eq-eqb, eqb-true}
 use Rattle.cc_ast.specs.declared.tree.Ref.{Ref}
-use Rattle.cc_meaning.specs.Values.{Val, obj, Spot}
-use Rattle.cc_meaning.specs.State.{Code, Env, Path, Reply, State, Tables}
+use Rattle.cc_meaning.specs.Values.{obj}
+use Rattle.cc_meaning.specs.State.{Code, Obj, Env, Path, Reply, State, Tables}
 use Rattle.cc_meaning.specs.Monad.{paid}
 use Rattle.cc_meaning.specs.Store.{Access, quoted, runtime, flat_option, global_kind}
 use Rattle.cc_meaning.specs.SlotRules.{prototype_of_function}
 use Rattle.cc_meaning.specs.Script.{checked}
 use Rattle.cc_meaning.specs.Alike.{In}
-use Rattle.cc_tied.specs.Tied.{ListT, OptT, none_t, ValT, built_of}
+use Rattle.cc_tied.specs.Tied.{ListT, OptT, none_t, built_of}
 use Rattle.cc_tied.specs.Facts.{Level, Held, Facts, innermost, outward, called, Above, DeadAt, FixedAt}
 use Rattle.cc_tied.specs.Injection.{Pair, Table}
 use Rattle.cc_tied.proofs.Sim.{Tie, World, PayT, both_pay, neither, excuse}
 use Rattle.cc_tied.proofs.EqualModes.{SameEnd, same_end}
 use Rattle.cc_tied.proofs.InjectPlaces.{Places}
-use Rattle.cc_tied.proofs.InjectWorld.{Tabs, Ext, ext_same, ext_on, Mates, Mate, mates_more, Vals, val_more, opt_more, UpT, no_up, up_more, Codes, codes_more, ObjT, FrameT, KnownT}
+use Rattle.cc_tied.proofs.InjectWorld.{Tabs, Ext, ext_same, ext_on, Mates, Mate, mates_more, Vals, val_more, opt_more, UpT, no_up, up_more, Codes, ObjT, FrameT, KnownT}
+
+-- the prototype p of a function that stands in no pair stands in none, and it is there
+abbrev pub Owned : List (Pair (Option Code)) → List Obj → (m p : ℕ) → Type 0
+Owned ps os m p = Mate ps m ⊎ ((p < length os) × (Mate ps p → ⊥))
 
 -- where a part of a program stands: in the statements of a function, or of a chunk's own list, under so many catch clauses; or where nothing is known of the frames
 pub data Ctx : Type 0 where
@@ -90,7 +94,7 @@ module _ (F : Facts) (S : Tables) (set' : List (Path × ℕ)) where
     pub tables' : t.tables ≡ S'
     pub objs : Table (ObjT F S w) (λ y a. a.code ≡ None) w.objs w.spare s.objs t.objs
     -- the prototype of a function of the left alone isn't tied
-    pub owned : (m p : ℕ) → prototype_of_function (slice_get s.objs m) ≡ Some (obj p) → Mate w m ⊎ ((p < length s.objs) × (Mate w p → ⊥))
+    pub owned : (m p : ℕ) → prototype_of_function (slice_get s.objs m) ≡ Some (obj p) → Owned w.objs s.objs m p
     pub frames : Table (FrameT F S w) (λ y a. a ≡ y) w.frames w.alone s.frames t.frames
     pub globals : Places (Vals w) F.Unread s.globals t.globals
     pub known : (g : ℕ) (h : Held) → F.Known g h → KnownT w h (flat_option (slice_get s.globals g))

@@ -1,9 +1,9 @@
 -- What is tied in a world: objects and frames by partial injections, values by their objects.
-use Rattle.std.proofs.Common.{◌≡◌, ◌⊎◌, inl, inr, ℕ, ◌<◌, Bool, false, List, length, Option, Some, None, refl}
+use Rattle.std.proofs.Common.{◌≡◌, ℕ, false, List, Option, Some, None}
 use Rattle.std.specs.Prelude.{slice_get}
 use Rattle.cc_ast.specs.Syntax.{Prim}
 use Rattle.cc_ast.specs.declared.tables.Element.{Element}
-use Rattle.cc_meaning.specs.Values.{Val, prim, obj, out}
+use Rattle.cc_meaning.specs.Values.{Val, prim, obj}
 use Rattle.cc_meaning.specs.Names.{is_index}
 use Rattle.cc_meaning.specs.State.{Kind, dotted_kind, quoted_kind, keyed_kind, Slot, Code, Obj, Frame, Tables}
 use Rattle.cc_meaning.specs.Alike.{In}
@@ -47,18 +47,16 @@ abbrev pub Mates : Tabs → ℕ → ℕ → Type 0
 Mates w m n = (x : Option Code) × In (record { label = x; left = m; right = n }) w.objs
 
 -- an object of the left run that is tied to one of the right
-pub record Mate (w : Tabs) (m : ℕ) : Type 0 where
+pub record Mate (ps : List (Pair (Option Code))) (m : ℕ) : Type 0 where
+  pub label : Option Code
   pub right : ℕ
-  pub mates : Mates w m right
+  pub mates : In (record { label = label; left = m; right = right }) ps
 
 abbrev pub Vals : Tabs → Val → Val → Type 0
 Vals w = ValT (Mates w)
 
 pub mates_more : {v w : Tabs} → Ext v w → {m n : ℕ} → Mates v m n → Mates w m n
 mates_more l h = (h.0, l.objs _ h.1)
-
-pub mate_more : {v w : Tabs} → Ext v w → {m : ℕ} → Mate v m → Mate w m
-mate_more l h = record { right = h.right; mates = mates_more l h.mates }
 
 pub val_more : {v w : Tabs} → Ext v w → (a b : Val) → Vals v a b → Vals w a b
 val_more l a b prim_t = prim_t

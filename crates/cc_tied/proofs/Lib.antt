@@ -43,3 +43,6 @@ pub mod InjectPlaces
 pub mod InjectWorld
 pub mod InjectTie
 pub mod InjectRules
+pub mod InjectObjects
+pub mod InjectTypes
+pub mod InjectActs
