@@ -47,3 +47,4 @@ pub mod InjectObjects
 pub mod InjectTypes
 pub mod InjectActs
 pub mod InjectMade
+pub mod InjectStore
