@@ -48,3 +48,5 @@ pub mod InjectTypes
 pub mod InjectActs
 pub mod InjectMade
 pub mod InjectStore
+pub mod InjectWrites
+pub mod InjectAsked
