@@ -12,3 +12,4 @@ pub mod Marked
 pub mod Mono
 pub mod Shrinks
 pub mod Steps
+pub mod Small
