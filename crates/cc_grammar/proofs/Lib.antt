@@ -13,3 +13,5 @@ pub mod Mono
 pub mod Shrinks
 pub mod Steps
 pub mod Small
+pub mod SoundParts
+pub mod SoundLists
