@@ -15,3 +15,4 @@ pub mod Steps
 pub mod Small
 pub mod SoundParts
 pub mod SoundLists
+pub mod SoundPrimary
