@@ -16,3 +16,4 @@ pub mod Small
 pub mod SoundParts
 pub mod SoundLists
 pub mod SoundPrimary
+pub mod SoundExpressions
