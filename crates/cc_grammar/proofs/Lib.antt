@@ -17,3 +17,4 @@ pub mod SoundParts
 pub mod SoundLists
 pub mod SoundPrimary
 pub mod SoundExpressions
+pub mod SoundStatements
