@@ -18,3 +18,4 @@ pub mod SoundLists
 pub mod SoundPrimary
 pub mod SoundExpressions
 pub mod SoundStatements
+pub mod SoundJumps
