@@ -19,3 +19,4 @@ pub mod SoundPrimary
 pub mod SoundExpressions
 pub mod SoundStatements
 pub mod SoundJumps
+pub mod Sound
