@@ -12,3 +12,6 @@ pub mod Marked
 pub mod Mono
 pub mod Shrinks
 pub mod Steps
+pub mod Firsts
+pub mod Quiet
+pub mod OnSymbols
