@@ -15,3 +15,4 @@ pub mod Steps
 pub mod Firsts
 pub mod Quiet
 pub mod OnSymbols
+pub mod Ahead
