@@ -16,3 +16,4 @@ pub mod Firsts
 pub mod Quiet
 pub mod OnSymbols
 pub mod Ahead
+pub mod CompleteLists
