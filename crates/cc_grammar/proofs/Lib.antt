@@ -17,3 +17,4 @@ pub mod Quiet
 pub mod OnSymbols
 pub mod Ahead
 pub mod CompleteLists
+pub mod CompleteOperands
