@@ -20,3 +20,10 @@ pub mod SoundExpressions
 pub mod SoundStatements
 pub mod SoundJumps
 pub mod Sound
+pub mod Firsts
+pub mod Quiet
+pub mod OnSymbols
+pub mod Ahead
+pub mod CompleteLists
+pub mod CompleteOperands
+pub mod OnTokens
