@@ -18,3 +18,5 @@ pub mod OnSymbols
 pub mod Ahead
 pub mod CompleteLists
 pub mod CompleteOperands
+pub mod CompleteOperators
+pub mod CompleteExpressions
