@@ -38,3 +38,11 @@ pub mod AlikeReach
 pub mod AlikeParts
 pub mod AlikeStatements
 pub mod AlikeEnds
+pub mod InjectTable
+pub mod InjectPlaces
+pub mod InjectWorld
+pub mod InjectTie
+pub mod InjectRules
+pub mod InjectObjects
+pub mod InjectTypes
+pub mod InjectActs

@@ -4,3 +4,5 @@ pub mod Promises
 pub mod Rewrites
 pub mod Fine
 pub mod FoldExample
+pub mod Facts
+pub mod Injection

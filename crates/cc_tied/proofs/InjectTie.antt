@@ -1,0 +1,206 @@
+-- The tie for folding, inlining and local dead code: two checked runs whose objects and frames are tied by partial injections.
+use Rattle.std.proofs.Common.{◌≡◌, ◌⊎◌, ℕ, suc, ◌<◌, Bool, true, false, List, length, Option, Some, None, refl, subst}
+use Rattle.std.specs.Prelude.{slice_get, nat_eq}
+use Rattle.std.specs.List.{list_any}
+use Rattle.std.proofs.lemmas.Bool.{eq-eqb, eqb-true}
+use Rattle.cc_ast.specs.declared.tree.Ref.{Ref}
+use Rattle.cc_meaning.specs.Values.{obj}
+use Rattle.cc_meaning.specs.State.{Code, Obj, Env, Path, Reply, State, Tables}
+use Rattle.cc_meaning.specs.Monad.{paid}
+use Rattle.cc_meaning.specs.Store.{Access, quoted, runtime, flat_option, global_kind}
+use Rattle.cc_meaning.specs.SlotRules.{prototype_of_function}
+use Rattle.cc_meaning.specs.Script.{checked}
+use Rattle.cc_meaning.specs.Alike.{In}
+use Rattle.cc_tied.specs.Tied.{ListT, OptT, none_t, built_of}
+use Rattle.cc_tied.specs.Facts.{Level, Held, Facts, innermost, outward, called, Above, DeadAt, FixedAt}
+use Rattle.cc_tied.specs.Injection.{Pair, Table}
+use Rattle.cc_tied.proofs.Sim.{Tie, World, PayT, both_pay, neither, excuse}
+use Rattle.cc_tied.proofs.EqualModes.{SameEnd, same_end}
+use Rattle.cc_tied.proofs.InjectPlaces.{Places}
+use Rattle.cc_tied.proofs.InjectWorld.{Tabs, Ext, ext_same, ext_on, Mates, Mate, mates_more, Vals, val_more, opt_more, UpT, no_up, up_more, Codes, ObjT, FrameT, KnownT}
+
+-- the prototype p of a function that stands in no pair stands in none, and it is there
+abbrev pub Owned : List (Pair (Option Code)) → List Obj → (m p : ℕ) → Type 0
+Owned ps os m p = Mate ps m ⊎ ((p < length os) × (Mate ps p → ⊥))
+
+-- where a part of a program stands: in the statements of a function, or of a chunk's own list, under so many catch clauses; or where nothing is known of the frames
+pub data Ctx : Type 0 where
+  at : (function : Option ℕ) → (catches : ℕ) → Ctx
+  nowhere : Ctx
+
+abbrev pub in_catch : Ctx → Ctx
+in_catch (at o c) = at o (suc c)
+in_catch nowhere = nowhere
+
+-- what the left declares the right declares
+pub record DeclaresI (d d' : Option ℕ) : Type 0 where
+  pub keeps : (f : ℕ) → d ≡ Some f → d' ≡ Some f
+
+-- one key, or a text that the right has written
+pub data KeyI : Access → Access → Type 0 where
+  same_key : {a : Access} → KeyI a a
+  written_key : {t : List ℕ} → KeyI (runtime t) (quoted t)
+
+pub data ThisI : Ctx → Type 0 where
+  this_at : {o : Option ℕ} {c : ℕ} → ThisI (at o c)
+
+pub data EnvI (F : Facts) (S : Tables) (w : Tabs) : Ctx → Env → Env → Type 0 where
+  env_at : {o : Option ℕ} {c : ℕ} {g h : Env} → UpT F S w (innermost o c) g.at h.at → OptT (Vals w) g.this h.this → DeclaresI g.declares h.declares → EnvI F S w (at o c) g h
+  env_nowhere : {g h : Env} → DeclaresI g.declares h.declares → EnvI F S w nowhere g h
+
+module _ (F : Facts) where
+  pub data StandI : Ctx → ℕ → ℕ → Type 0 where
+    stands_at : {o : Option ℕ} {c f : ℕ} → (F.parent f).0 ≡ o → (F.parent f).1 ≡ c → StandI (at o c) f f
+
+  module _ (S : Tables) where
+    pub data ReadI : Ctx → Ref → Ref → Type 0 where
+      read_global : {o : Option ℕ} {c n : ℕ} → (F.Unread n → ⊥) → ReadI (at o c) (Ref.Global n) (Ref.Global n)
+      read_place : {o : Option ℕ} {c u n : ℕ} {l : Level} → Above F S (innermost o c) u l → (DeadAt F l n → ⊥) → ReadI (at o c) (Ref.Frame u n) (Ref.Frame u n)
+
+    pub data WriteI : Ctx → Ref → Ref → Type 0 where
+      write_global : {o : Option ℕ} {c n : ℕ} → ((h : Held) → F.Known n h → ⊥) → WriteI (at o c) (Ref.Global n) (Ref.Global n)
+      write_place : {o : Option ℕ} {c u n : ℕ} {l : Level} → Above F S (innermost o c) u l → (FixedAt F l n → ⊥) → WriteI (at o c) (Ref.Frame u n) (Ref.Frame u n)
+
+    pub env_more : {v w : Tabs} → Ext v w → {c : Ctx} {g h : Env} → EnvI F S v c g h → EnvI F S w c g h
+    env_more l (env_at u t d) = env_at (up_more F S l u) (opt_more l t) d
+    env_more l (env_nowhere d) = env_nowhere d
+
+    pub env_this : {w : Tabs} {c : Ctx} {g h : Env} → ThisI c → EnvI F S w c g h → OptT (Vals w) g.this h.this
+    env_this this_at (env_at u t d) = t
+
+    pub env_declares : {w : Tabs} {c : Ctx} {g h : Env} → EnvI F S w c g h → DeclaresI g.declares h.declares
+    env_declares (env_at u t d) = d
+    env_declares (env_nowhere d) = d
+
+    pub env_top : {w : Tabs} {d d' : Option ℕ} → DeclaresI d d' → EnvI F S w (at None 0) (record { at = None; this = None; declares = d }) (record { at = None; this = None; declares = d' })
+    unfolding innermost
+    env_top d = env_at no_up none_t d
+
+-- the tables of the two programs are the same, but for the functions that globals and paths are set to
+abbrev pub with_set : Tables → List (Path × ℕ) → Tables
+with_set S set' = record S { set = set' }
+
+module _ (F : Facts) (S : Tables) (set' : List (Path × ℕ)) where
+  abbrev pub S' : Tables
+  S' = with_set S set'
+
+  pub read_built : {c : Ctx} {r r' : Ref} → ReadI F S c r r' → built_of S r ≡ built_of S' r'
+  unfolding built_of global_kind
+  read_built (read_global n) = refl
+  read_built (read_place a d) = refl
+
+  pub record TiedI (w : Tabs) (s t : State) : Type 0 where
+    pub tables : s.tables ≡ S
+    pub tables' : t.tables ≡ S'
+    pub objs : Table (ObjT F S w) (λ y a. a.code ≡ None) w.objs w.spare s.objs t.objs
+    -- the prototype of a function of the left alone isn't tied
+    pub owned : (m p : ℕ) → prototype_of_function (slice_get s.objs m) ≡ Some (obj p) → Owned w.objs s.objs m p
+    pub frames : Table (FrameT F S w) (λ y a. a ≡ y) w.frames w.alone s.frames t.frames
+    pub globals : Places (Vals w) F.Unread s.globals t.globals
+    pub known : (g : ℕ) (h : Held) → F.Known g h → KnownT w h (flat_option (slice_get s.globals g))
+    pub loaded : s.loaded ≡ t.loaded
+    pub failed : s.failed ≡ t.failed
+    -- the left may have made objects of more classes
+    pub constructed : (c : ℕ) → list_any (λ d. nat_eq d c) t.constructed ≡ true → list_any (λ d. nat_eq d c) s.constructed ≡ true
+    pub handles : ListT (Mates w) s.handles t.handles
+    pub replies : s.replies ≡ t.replies
+    pub budget : s.budget ≡ t.budget
+
+  pub with_budget : {w : Tabs} {s t : State} (b c : ℕ) → b ≡ c → TiedI w s t → TiedI w (record s { budget = b }) (record t { budget = c })
+  with_budget b c e h = record { tables = h.tables; tables' = h.tables'; objs = h.objs; owned = h.owned; frames = h.frames; globals = h.globals; known = h.known; loaded = h.loaded; failed = h.failed; constructed = h.constructed; handles = h.handles; replies = h.replies; budget = e }
+
+  pay_one : {w : Tabs} {s t : State} → TiedI w s t → (o : Option ℕ) → PayT (TiedI w) ⊥ ⊥ s t o o
+  pay_one h None = neither
+  pay_one h (Some b) = both_pay (with_budget b b refl h)
+
+  pub pay_tied : {w : Tabs} {s t : State} → TiedI w s t → PayT (TiedI w) ⊥ ⊥ s t (paid 1 s.budget) (paid 1 t.budget)
+  pay_tied {w = w} {s = s} {t = t} h = subst (λ z. PayT (TiedI w) ⊥ ⊥ s t (paid 1 s.budget) (paid 1 z)) h.budget (pay_one h (paid 1 s.budget))
+
+  pub replied : {w : Tabs} {s t : State} (rs : List Reply) → TiedI w s t → TiedI w (record s { replies = rs }) (record t { replies = rs })
+  replied rs h = record { tables = h.tables; tables' = h.tables'; objs = h.objs; owned = h.owned; frames = h.frames; globals = h.globals; known = h.known; loaded = h.loaded; failed = h.failed; constructed = h.constructed; handles = h.handles; replies = refl; budget = h.budget }
+
+  -- ---- objects one to one
+
+  once_by : {w : Tabs} {s t : State} → TiedI w s t → (p q : Pair (Option Code)) → In p w.objs → In q w.objs → (x y : Bool) → nat_eq p.left q.left ≡ x → nat_eq p.right q.right ≡ y → x ≡ y
+  once_by ti p q h k true true e f = refl
+  once_by ti p q h k true false e f = let d : p ≡ q = ti.objs.left_one p q h k (eqb-true _ _ e) in let r : nat_eq q.right q.right ≡ true = eq-eqb q.right q.right refl in let j : nat_eq q.right q.right ≡ false = subst (λ z. nat_eq z.right q.right ≡ false) d f in absurd (cc)
+  once_by ti p q h k false true e f = let d : p ≡ q = ti.objs.right_one p q h k (eqb-true _ _ f) in let r : nat_eq q.left q.left ≡ true = eq-eqb q.left q.left refl in let j : nat_eq q.left q.left ≡ false = subst (λ z. nat_eq z.left q.left ≡ false) d e in absurd (cc)
+  once_by ti p q h k false false e f = refl
+
+  pub once : {w : Tabs} {s t : State} → TiedI w s t → {m n p q : ℕ} → Mates w m n → Mates w p q → nat_eq m p ≡ nat_eq n q
+  once ti h k = once_by ti _ _ h.1 k.1 _ _ refl refl
+
+  -- ---- the tie
+
+  abbrev pub inject : Tie
+  inject = record {
+    J = checked;
+    J' = checked;
+    tables = S;
+    tables' = S';
+    W = Tabs;
+    Ext = Ext;
+    same = ext_same;
+    ext = λ l k. ext_on l k;
+    Excused = Unit {0};
+    Short = λ w p. ⊥;
+    Ahead = ⊥;
+    Steps = λ v p w. Unit {0};
+    short_more = λ h l. h;
+    short_back = λ h l. l;
+    steps_none = tt;
+    steps_on = λ h l. tt;
+    EndT = SameEnd;
+    end_spent = same_end;
+    end_waits = same_end;
+    Ctx = Ctx;
+    outer = λ c. at None 0;
+    inside = λ f f'. at (Some f) 0;
+    in_catch = in_catch;
+    SpotT = λ i j. Unit {0};
+    spot_turn = λ n. tt;
+    faults = λ i r. excuse tt;
+    FunT = λ f f'. f ≡ f';
+    StandT = StandI F;
+    ReadT = ReadI F S;
+    WriteT = WriteI F S;
+    ThisT = ThisI;
+    DocT = λ d d'. d ≡ d';
+    DeclaresT = DeclaresI;
+    FlatT = λ p p'. p ≡ p';
+    QuotedT = λ t. Unit {0};
+    WrittenT = λ t. Unit {0};
+    read_built = λ h. read_built h;
+    declares_none = record { keeps = λ f e. e };
+    O = Mates;
+    NewT = Vals;
+    RunsT = λ w m n. Codes F S w;
+    KeyT = λ w x. KeyI;
+    UpT = λ w f f' a b. UpT F S w (outward F S (called f)) a b;
+    EnvT = λ c w. EnvI F S w c;
+    LoadedT = λ w c. Unit {0};
+    O_later = λ l h. mates_more l h;
+    new_later = λ l h. val_more l _ _ h;
+    key_later = λ l h. h;
+    up_later = λ l h. up_more F S l h;
+    env_later = λ l h. env_more F S l h;
+    loaded_later = λ l h. h;
+    new_value = λ h. h;
+    runs_code = λ h. h;
+    key_runtime = λ x t. same_key;
+    key_quoted = λ x h. same_key;
+    key_written = λ x h. written_key;
+    env_top = λ l d. env_top F S d;
+    env_this = λ h e. env_this F S h e;
+    env_declares = λ e. env_declares F S e;
+    Tied = TiedI;
+    tied_tables = λ h. (h.tables, h.tables');
+    tied_pay = λ h. pay_tied h;
+    tied_once = λ h e d. once h e d;
+    tied_handles = λ h. h.handles;
+    tied_replies = λ h. h.replies;
+    tied_replied = λ rs h. replied rs h;
+  }
+
+  abbrev pub WorldI : Type 0
+  WorldI = World inject
