@@ -46,3 +46,4 @@ pub mod InjectRules
 pub mod InjectObjects
 pub mod InjectTypes
 pub mod InjectActs
+pub mod Left
