@@ -38,6 +38,7 @@ pub mod AlikeReach
 pub mod AlikeParts
 pub mod AlikeStatements
 pub mod AlikeEnds
+pub mod Left
 pub mod InjectTable
 pub mod InjectPlaces
 pub mod InjectWorld

@@ -1,0 +1,8 @@
+//! The laws of the reading function. The functions here state them, and do nothing.
+
+ghost use Rattle.cc_grammar.specs.Laws.{IsSmall};
+
+/// A tree has at most four expressions, statements and declarators for each token of its list.
+pub fn trees_are_small()
+    ensures { IsSmall }
+{}
