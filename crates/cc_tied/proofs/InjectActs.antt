@@ -102,6 +102,10 @@ module _ (F : Facts) (S : Tables) (set' : List (Path × ℕ)) where
   refused_left i true r m s = broken_t tt
   refused_left i false r m s = broken_t tt
 
+  pub stopped_left : {A B : Type 0} {Q : W → A → B → Type 0} {w : W} (r : ℕ) (i : Spot) (m' : M B) → Sim T {A = A} Q w (stop (broken r i)) m'
+  unfolding stop
+  stopped_left r i m' s t ti le le' = broken_t tt
+
   -- in two states: where the left act breaks no rule, the right one breaks none
   judged_at : {A B : Type 0} {Q : W → A → B → Type 0} {w : W} (i i' : Spot) (a a' : Act) (m : M A) (m' : M B) (s t : State) → (least_broken s.tables s a ≡ None → (least_broken t.tables t a' ≡ None) × ResT T Q w (m s) (m' t)) → ResT T Q w (judged checked i a m s) (judged checked i' a' m' t)
   unfolding judged allowed

@@ -3,7 +3,7 @@
 use Rattle.std.proofs.Common.{◌≡◌, ℕ, zero, suc, ◌≤◌, ◌+◌, List, [], Option, Some, None, refl, sym, ap, subst, arith, ◌∙◌}
 use Rattle.cc_meaning.specs.Values.{Spot}
 use Rattle.cc_meaning.specs.State.{State}
-use Rattle.cc_meaning.specs.Monad.{Said, marks, End, spent, broken, Res, ok, threw, over, said, M, ret, after, ◌>>=◌, paid, pay_from, pay}
+use Rattle.cc_meaning.specs.Monad.{Said, marks, spent, broken, Res, ok, over, said, M, ret, after, ◌>>=◌, paid, pay_from, pay}
 use Rattle.cc_tied.proofs.Sim.{Tie, World, Later, now, later, ResT, Sim, broken_t, over_t, said_none, said_t}
 
 module _ (T : Tie) (excused : T.Excused) where

@@ -51,3 +51,5 @@ pub mod InjectMade
 pub mod InjectStore
 pub mod InjectWrites
 pub mod InjectAsked
+pub mod InjectBuilt
+pub mod InjectUses
