@@ -54,12 +54,12 @@ module _ (F : Facts) where
 
   module _ (S : Tables) where
     pub data ReadI : Ctx → Ref → Ref → Type 0 where
-      read_global : {o : Option ℕ} {c n : ℕ} → (F.Unread n → ⊥) → ReadI (at o c) (Ref.Global n) (Ref.Global n)
-      read_place : {o : Option ℕ} {c u n : ℕ} {l : Level} → Above F S (innermost o c) u l → (DeadAt F l n → ⊥) → ReadI (at o c) (Ref.Frame u n) (Ref.Frame u n)
+      reads_global : {o : Option ℕ} {c n : ℕ} → (F.Unread n → ⊥) → ReadI (at o c) (Ref.Global n) (Ref.Global n)
+      reads_place : {o : Option ℕ} {c u n : ℕ} {l : Level} → Above F S (innermost o c) u l → (DeadAt F l n → ⊥) → ReadI (at o c) (Ref.Frame u n) (Ref.Frame u n)
 
     pub data WriteI : Ctx → Ref → Ref → Type 0 where
-      write_global : {o : Option ℕ} {c n : ℕ} → ((h : Held) → F.Known n h → ⊥) → WriteI (at o c) (Ref.Global n) (Ref.Global n)
-      write_place : {o : Option ℕ} {c u n : ℕ} {l : Level} → Above F S (innermost o c) u l → (FixedAt F l n → ⊥) → WriteI (at o c) (Ref.Frame u n) (Ref.Frame u n)
+      writes_global : {o : Option ℕ} {c n : ℕ} → ((h : Held) → F.Known n h → ⊥) → WriteI (at o c) (Ref.Global n) (Ref.Global n)
+      writes_place : {o : Option ℕ} {c u n : ℕ} {l : Level} → Above F S (innermost o c) u l → (FixedAt F l n → ⊥) → WriteI (at o c) (Ref.Frame u n) (Ref.Frame u n)
 
     pub env_more : {v w : Tabs} → Ext v w → {c : Ctx} {g h : Env} → EnvI F S v c g h → EnvI F S w c g h
     env_more l (env_at u t d) = env_at (up_more F S l u) (opt_more l t) d
@@ -86,8 +86,8 @@ module _ (F : Facts) (S : Tables) (set' : List (Path × ℕ)) where
 
   pub read_built : {c : Ctx} {r r' : Ref} → ReadI F S c r r' → built_of S r ≡ built_of S' r'
   unfolding built_of global_kind
-  read_built (read_global n) = refl
-  read_built (read_place a d) = refl
+  read_built (reads_global n) = refl
+  read_built (reads_place a d) = refl
 
   pub record TiedI (w : Tabs) (s t : State) : Type 0 where
     pub tables : s.tables ≡ S

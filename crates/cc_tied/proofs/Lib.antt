@@ -53,3 +53,4 @@ pub mod InjectWrites
 pub mod InjectAsked
 pub mod InjectBuilt
 pub mod InjectUses
+pub mod InjectFrames
