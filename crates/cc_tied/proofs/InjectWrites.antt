@@ -259,12 +259,16 @@ module _ (F : Facts) (S : Tables) (set' : List (Path × ℕ)) where
       (none_least (field_none F S set' ti o k c c _ _ v u.0 r.0)
       (none_least (slots_none S set' k c (slots_at F S w at) u.0) (prototype_none ti at c v d d' j u.1))))
 
+  pub out_none : (s t : State) (n : ℕ) {a b : Access} → KeyI a b → (x y : Val) (d d' : Bool) → write_rule S s (out n) a x d ≡ None → write_rule R t (out n) b y d' ≡ None
+  unfolding write_rule
+  out_none s t n k x y d d' e = let p = least_none _ _ e in none_least (subst (λ z. rule_if (list_eq z name_proto) 2 ≡ None) (name_same S set' k) p.0) (outside_none S set' k p.1)
+
   pub write_none : {w : Tabs} {s t : State} → Tied w s t → {x y : Val} → Vals w x y → {a b : Access} → KeyI a b → {u v : Val} → Vals w u v → (d d' : Bool) → (d ≡ true → d' ≡ true) → write_rule S s x a u d ≡ None → write_rule R t y b v d' ≡ None
   unfolding write_rule
   write_none {t = t} ti (obj_t {n = n} o) {a = a} {b = b} k {v = v} h d d' j e =
       let p = least_none _ _ e in
       none_least (subst (λ z. rule_if (list_eq z name_proto) 2 ≡ None) (name_same S set' k) p.0) (subst (λ z. object_write R t n b z v d' ≡ None) (name_same S set' k) (object_write_none ti o k (name_of S a) h d d' j p.1))
-  write_none ti out_t k h d d' j e = let p = least_none _ _ e in none_least (subst (λ z. rule_if (list_eq z name_proto) 2 ≡ None) (name_same S set' k) p.0) (outside_none S set' k p.1)
+  write_none {s = s} {t = t} ti (out_t {n = n}) k {u = u} {v = v} h d d' j e = out_none s t n k u v d d' e
   write_none ti prim_t k h d d' j e = absurd (cc)
 
   -- ---- the write

@@ -54,3 +54,5 @@ pub mod InjectAsked
 pub mod InjectBuilt
 pub mod InjectUses
 pub mod InjectFrames
+pub mod InjectCalls
+pub mod InjectUpkeep
