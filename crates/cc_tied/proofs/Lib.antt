@@ -56,3 +56,4 @@ pub mod InjectUses
 pub mod InjectFrames
 pub mod InjectCalls
 pub mod InjectUpkeep
+pub mod InjectEnds
