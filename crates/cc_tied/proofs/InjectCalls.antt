@@ -126,7 +126,7 @@ module _ (F : Facts) (S : Tables) (set' : List (Path × ℕ)) where
       sim_tables T _ _ (sim_as T (λ v l m n q. env_at (call_up f u u' vs q.pair) (opt_more q.later th) (record { keeps = λ z e. e })) (push_t (call_label f u u' vs) (of_call f) u u' (places_in f vs) (places_in f us) (call_places f h k)))
 
   pub frame_t : {w : W} {a b : Code} {th th' : Option Val} {vs us : List Val} → Codes F S w.w a b → OptT (Vals w.w) th th' → ListT (Vals w.w) vs us → Sim T (λ v m n. EnvI F S v.w (at (Some a.function) 0) (record { at = Some m; this = th; declares = None }) (record { at = Some n; this = th'; declares = None })) w (call_frame checked a vs) (call_frame checked b us)
-  frame_t {w = w} {a = a} {b = b} {th = th} {th' = th'} {vs = vs} {us = us} c h k = subst (λ z. Sim T (λ v m n. EnvI F S v.w (at (Some a.function) 0) (record { at = Some m; this = th; declares = None }) (record { at = Some n; this = th'; declares = None })) w (call_frame checked a vs) (call_frame checked (record { function = z; up = b.up; site = b.site }) us)) c.function (frame_one a.function a.site b.site c.up h k)
+  frame_t {w = w} {a = a} {b = b} {th = th} {th' = th'} {vs = vs} {us = us} c h k = subst (λ z. Sim T (λ v m n. EnvI F S v.w (at (Some a.function) 0) (record { at = Some m; this = th; declares = None }) (record { at = Some n; this = th'; declares = None })) w (call_frame checked a vs) (call_frame checked (record { function = z; up = b.up; site = b.site }) us)) c.function.same (frame_one a.function a.site b.site c.up h k)
 
   -- ---- flat paths and casts
 
@@ -203,7 +203,7 @@ module _ (F : Facts) (S : Tables) (set' : List (Path × ℕ)) where
   enter_one {w = w} i i' f {x = x} {y = y} {vs = vs} {us = us} h k = judged_i F S set' i i' (enters f x vs) (enters f y us) _ _ (λ s t ti e. enter_none ti f h k e) (sim_tables T _ _ (subst (λ z. Sim T Done w (receive_each (params_in (function_doc S f)) vs) (receive_each (params_in z) us)) (function_doc_same S set' f) (receive_each_t F S set' (params_in (function_doc S f)) k)))
 
   pub enter_t : {w : W} (i i' : Spot) {a b : Code} {x y : Option Val} {vs us : List Val} → Codes F S w.w a b → OptT (Vals w.w) x y → ListT (Vals w.w) vs us → Sim T Done w (entering checked i a.function x vs) (entering checked i' b.function y us)
-  enter_t {w = w} i i' {a = a} {x = x} {y = y} {vs = vs} {us = us} c h k = subst (λ z. Sim T Done w (entering checked i a.function x vs) (entering checked i' z y us)) c.function (enter_one i i' a.function h k)
+  enter_t {w = w} i i' {a = a} {x = x} {y = y} {vs = vs} {us = us} c h k = subst (λ z. Sim T Done w (entering checked i a.function x vs) (entering checked i' z y us)) c.function.same (enter_one i i' a.function h k)
 
   builds_same : {w : Tabs} {s t : State} → Tied w s t → (o : Option ℕ) (built : Bool) {x y : Val} → Vals w x y → builds_well S s o built x ≡ builds_well R t o built y
   unfolding builds_well is_prim

@@ -178,7 +178,7 @@ module _ (F : Facts) (S : Tables) (set' : List (Path × ℕ)) where
     up_cast = λ {w} {d} {d'} {x} {y} {i} {i'} s q v. subst (λ z. Sim T Done w (cast_to checked i d x) (cast_to checked i' z y)) q (cast_t F S set' i i' d v);
     up_code = λ ti o. code_t ti o;
     up_enters = λ i c t vs. enter_t F S set' _ _ c t vs;
-    up_leaves = λ {w} {f} {f'} {x} {y} {i} {i'} s q built v. subst (λ z. Sim T Done w (leaving checked i f built x) (leaving checked i' z built y)) q (leave_t F S set' i i' f built v);
+    up_leaves = λ {w} {f} {f'} {x} {y} {i} {i'} s q built v. subst (λ z. Sim T Done w (leaving checked i f built x) (leaving checked i' z built y)) q.same (leave_t F S set' i i' f built v);
     up_show = λ x. show_t x;
     up_loading = λ i c. loading_t _ _ c;
     up_failed = λ l ti. failed_t _ ti;

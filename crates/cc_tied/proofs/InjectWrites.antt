@@ -165,7 +165,7 @@ module _ (F : Facts) (S : Tables) (set' : List (Path × ℕ)) where
   same_function : {w : Tabs} {c d : Option Code} → OptT (Codes F S w) c d → (f : ℕ) → has_function c f ≡ has_function d f
   unfolding has_function
   same_function none_t f = refl
-  same_function (some_t h) f = ap (λ z. nat_eq z f) h.function
+  same_function (some_t h) f = ap (λ z. nat_eq z f) h.function.same
 
   prototype_is : (o : Obj) (f p : ℕ) → has_function o.code f ≡ true → is_object (find_slot o.slots name_prototype) p ≡ true → prototype_of_function (Some o) ≡ Some (obj p)
   unfolding prototype_of_function
@@ -243,7 +243,7 @@ module _ (F : Facts) (S : Tables) (set' : List (Path × ℕ)) where
   unfolding code_rule
   code_none ti a b at none_t n v d d' k e = refl
   code_none {s = s} {t = t} ti a b at (some_t {a = c} {b = c'} h) n {x = x} {y = y} v d d' k e =
-      pick_rule (list_eq n name_prototype) (λ q. none_unless 12 (subst (λ z. declares_well R t (Some b) z y d' ≡ true) (class_same c.function ∙ ap (λ z. class_of_function R z) h.function) (declares_true ti at (class_of_function S c.function) v d d' k (unless_none _ 12 q)))) e
+      pick_rule (list_eq n name_prototype) (λ q. none_unless 12 (subst (λ z. declares_well R t (Some b) z y d' ≡ true) (class_same c.function ∙ ap (λ z. class_of_function R z) h.function.same) (declares_true ti at (class_of_function S c.function) v d d' k (unless_none _ 12 q)))) e
 
   prototype_none : {w : Tabs} {s t : State} → Tied w s t → {a b : Option Obj} → ObjAt F S w a b → (n : List ℕ) {x y : Val} → Vals w x y → (d d' : Bool) → (d ≡ true → d' ≡ true) → prototype_rule S s a n x d ≡ None → prototype_rule R t b n y d' ≡ None
   unfolding prototype_rule
@@ -295,7 +295,7 @@ module _ (F : Facts) (S : Tables) (set' : List (Path × ℕ)) where
   is_code_same : {w : Tabs} {c d : Option Code} → OptT (Codes F S w) c d → (f : ℕ) → is_code_of c f ≡ is_code_of d f
   unfolding is_code_of
   is_code_same none_t f = refl
-  is_code_same (some_t h) f = ap (λ z. nat_eq z f) h.function
+  is_code_same (some_t h) f = ap (λ z. nat_eq z f) h.function.same
 
   declared : {w : Tabs} {s t : State} → Tied w s t → {m n : ℕ} → Mates w m n → (d d' : Option ℕ) → ((f : ℕ) → d ≡ Some f → d' ≡ Some f) → declares_on s d (obj m) ≡ true → declares_on t d' (obj n) ≡ true
   unfolding declares_on code_at
