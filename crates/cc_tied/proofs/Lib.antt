@@ -58,3 +58,5 @@ pub mod InjectCalls
 pub mod InjectUpkeep
 pub mod InjectEnds
 pub mod FineParts
+pub mod InjectFacts
+pub mod InjectPass

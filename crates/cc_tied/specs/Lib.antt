@@ -6,3 +6,4 @@ pub mod Fine
 pub mod FoldExample
 pub mod Facts
 pub mod Injection
+pub mod PlainFacts
