@@ -60,3 +60,4 @@ pub mod InjectEnds
 pub mod FineParts
 pub mod InjectFacts
 pub mod InjectPass
+pub mod InjectRewrites
