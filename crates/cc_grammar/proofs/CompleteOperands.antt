@@ -34,7 +34,7 @@ no_literal (k.name n) v e = refl
 no_literal (k.due k.variable) v e = refl
 no_literal _ v e = cc
 
-variable_head : (x : Kind) (v : List ℕ) → variable_of x ≡ Some v → head_of x ≡ r.is_variable v
+pub variable_head : (x : Kind) (v : List ℕ) → variable_of x ≡ Some v → head_of x ≡ r.is_variable v
 unfolding head_of
 variable_head x v e = ap (λ o. head_by o (variable_of x) x) (no_literal x v e) ∙ ap (λ o. head_by None o x) e
 
@@ -80,7 +80,7 @@ any_done (Ok p) = ok tt
 any_done (Err x) = err
 
 module _ (d n : ℕ) (inner : In) (all : CompleteInner d n inner) where
-  by_head : (b : Bool) (xs : Symbols) {z : Outcome Symbols (Sized RawExpr)} (x : Head) → head_of (look xs).kind ≡ x → s.primary_by d n inner b x xs ≡ z → s.primary d n inner b xs ≡ z
+  pub by_head : (b : Bool) (xs : Symbols) {z : Outcome Symbols (Sized RawExpr)} (x : Head) → head_of (look xs).kind ≡ x → s.primary_by d n inner b x xs ≡ z → s.primary d n inner b xs ≡ z
   unfolding r.primary
   by_head b xs x e h = ap (λ y. s.primary_by d n inner b y xs) e ∙ h
 

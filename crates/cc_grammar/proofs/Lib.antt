@@ -20,3 +20,5 @@ pub mod CompleteLists
 pub mod CompleteOperands
 pub mod CompleteOperators
 pub mod CompleteExpressions
+pub mod CompleteClauses
+pub mod CompleteStatements
