@@ -22,3 +22,5 @@ pub mod CompleteOperators
 pub mod CompleteExpressions
 pub mod CompleteClauses
 pub mod CompleteStatements
+pub mod Complete
+pub mod OneReading
