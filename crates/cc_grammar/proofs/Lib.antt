@@ -27,3 +27,5 @@ pub mod Ahead
 pub mod CompleteLists
 pub mod CompleteOperands
 pub mod OnTokens
+pub mod Copies
+pub mod CopySteps
