@@ -12,6 +12,14 @@ pub mod Marked
 pub mod Mono
 pub mod Shrinks
 pub mod Steps
+pub mod Small
+pub mod SoundParts
+pub mod SoundLists
+pub mod SoundPrimary
+pub mod SoundExpressions
+pub mod SoundStatements
+pub mod SoundJumps
+pub mod Sound
 pub mod Firsts
 pub mod Quiet
 pub mod OnSymbols
@@ -24,3 +32,6 @@ pub mod CompleteClauses
 pub mod CompleteStatements
 pub mod Complete
 pub mod OneReading
+pub mod OnTokens
+pub mod Copies
+pub mod CopySteps
