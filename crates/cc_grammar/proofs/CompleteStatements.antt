@@ -20,7 +20,8 @@ use Rattle.cc_grammar.proofs.Steps.{step, opened, chosen_at, skipped_at, kind_at
 use Rattle.cc_grammar.proofs.Firsts.{clash, opens, begins, no_label, Starts, plainly, with_name, starts}
 use Rattle.cc_grammar.proofs.Quiet.{Quiet, looser, at_end, end_colon}
 use Rattle.cc_grammar.proofs.CompleteLists.{Reads, CompleteInner, body_read, function_read}
-use Rattle.cc_grammar.proofs.CompleteOperands.{variable_head, by_head}
+use Rattle.cc_grammar.proofs.CompleteOperands.{variable_head}
+use Rattle.cc_grammar.proofs.Stopping.{by_head}
 use Rattle.cc_grammar.proofs.CompleteExpressions.{expr_read}
 use Rattle.cc_grammar.proofs.CompleteClauses.{all_declarators_read, head_read, for_read, for_in_target_read, for_in_var_read, all_cases_read, block_in_read, catch_read, finally_read, catch_at, finally_at, no_catch_at}
 use Rattle.cc_grammar.proofs.OnSymbols as s
@@ -114,7 +115,7 @@ module _ (d n : ℕ) (inner : In) (all : CompleteInner d n inner) where
   by_name : (v : List ℕ) (xs : Symbols) → (look xs).kind ≡ k.name v → refused_name v ≡ None → s.expr_of d n inner true 0 xs ≡ s.after_head d n inner true 0 (raw.var (g.at xs) v, 0) (rest xs)
   unfolding r.expr_of
   by_name v xs e f = ap (λ o. s.expr_by d n inner true 0 o xs) (ap prefix_of e)
-      ∙ step (s.after_head d n inner true 0) (by_head d n inner all true xs (r.is_variable v) (variable_head (look xs).kind v (ap variable_of e ∙ ap (λ c. allowed c v) f)) refl) refl
+      ∙ step (s.after_head d n inner true 0) (by_head d n inner true xs (r.is_variable v) (variable_head (look xs).kind v (ap variable_of e ∙ ap (λ c. allowed c v) f)) refl) refl
 
   simple_read : (c : Context) {h : ℕ} {xs ys zs : Symbols} {e : RawExpr} → reals xs < n → h ≤ d → opens_no_expression (look xs).kind ≡ false → E h true 0 xs e ys → Ends ys zs
       → Reads h (s.stmt_of d n inner c xs) (raw.simple (g.at xs) e ∷ []) zs

@@ -24,6 +24,7 @@ pub mod Firsts
 pub mod Quiet
 pub mod OnSymbols
 pub mod Ahead
+pub mod Stopping
 pub mod CompleteLists
 pub mod CompleteOperands
 pub mod CompleteOperators
