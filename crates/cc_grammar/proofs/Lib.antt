@@ -32,6 +32,7 @@ pub mod CompleteExpressions
 pub mod CompleteClauses
 pub mod CompleteStatements
 pub mod Complete
+pub mod Alike
 pub mod OneReading
 pub mod OnTokens
 pub mod Copies
