@@ -24,8 +24,16 @@ pub mod Firsts
 pub mod Quiet
 pub mod OnSymbols
 pub mod Ahead
+pub mod Stopping
 pub mod CompleteLists
 pub mod CompleteOperands
 pub mod OnTokens
 pub mod CompleteOperators
 pub mod CompleteExpressions
+pub mod CompleteClauses
+pub mod CompleteStatements
+pub mod Complete
+pub mod Alike
+pub mod OneReading
+pub mod Copies
+pub mod CopySteps
