@@ -153,6 +153,22 @@ pub split_outcome : {A : Type 0} {late : Bool} {F : Symbols → L → Type 0} (b
 split_outcome true p q h l = h refl
 split_outcome false p q h l = l refl
 
+-- where there is no token
+pub at_end : {A : Type 0} {late : Bool} {F : Symbols → L → Type 0} {p : Symbols → Outcome Symbols A} {o : Outcome L A} (q : Symbols → Outcome Symbols A) → Starts late F p [] o → q [] ≡ p [] → Starts late F q [] o
+at_end q (halts_end e) h = halts_end (h ∙ e)
+
+-- a reader that takes nothing where a test is true
+pub fork_shows : {A : Type 0} {late : Bool} (b : Lexeme → Bool) (a : A) (q : Symbols → Outcome Symbols A) (Q : L → Outcome L A) (ts : L)
+    → (b (look_token ts) ≡ false → Chosen late Shows b false q Q ts) → Copies late Shows (λ xs. cond (b (look xs)) (λ i. Ok (a, i)) q xs) ts (cond (b (look_token ts)) (λ i. Ok (a, i)) Q ts)
+fork_shows {late} b a q Q ts h = by (b (look_token ts)) refl where
+  by : (v : Bool) → b (look_token ts) ≡ v → Copies late Shows (λ xs. cond (b (look xs)) (λ i. Ok (a, i)) q xs) ts (cond v (λ i. Ok (a, i)) Q ts)
+  by true e = read end (λ xs f. ap (λ v. cond v (λ i. Ok (a, i)) q xs) (ap b f.1 ∙ e)) tt (kept_end late ts)
+  by false e = subst (λ v. Copies late Shows (λ xs. cond (b (look xs)) (λ i. Ok (a, i)) q xs) ts (cond v (λ i. Ok (a, i)) Q ts)) e
+      (decide b (λ v xs. cond v (λ i. Ok (a, i)) q xs) (λ v us. cond v (λ i. Ok (a, i)) Q us) ts shows (λ v f. given v f)) where
+    given : (v : Bool) → b (look_token ts) ≡ v → Chosen late Shows b v (λ xs. cond v (λ i. Ok (a, i)) q xs) (λ us. cond v (λ i. Ok (a, i)) Q us) ts
+    given true f = let both : true ≡ false = sym f ∙ e in absurd (cc)
+    given false f = h f
+
 -- ---- single tokens
 
 pub fails_here : {A : Type 0} (late : Bool) {F : Symbols → L → Type 0} (d : Due) (ts : L) → Starts {A = A} late F (λ xs. Err (fault d (look xs), xs)) ts (Err (fault d (look_token ts), ts))

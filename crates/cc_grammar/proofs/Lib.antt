@@ -29,3 +29,4 @@ pub mod CompleteOperands
 pub mod OnTokens
 pub mod Copies
 pub mod CopySteps
+pub mod CopyLists
