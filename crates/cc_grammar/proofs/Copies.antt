@@ -140,7 +140,7 @@ Shows xs us = (lexemes_of xs ≡ us) × (look xs ≡ look_token us)
 pub data Headed {A : Type 0} (late : Bool) (F : Symbols → L → Type 0) (q : Symbols → Outcome Symbols A) (t : Lexeme) (us : L) : Outcome L A → Type 0 where
   goes : {o : Outcome L A} → Copies late F q us o → Headed late F q t us o
   goes_in : {o : Outcome L A} → is_mark mark.OpenBrace t.kind ≡ true → Copies false F q us o → Headed late F q t us o
-  halts : {c : Fault} → ((xs : Symbols) → q xs ≡ Err (c, real t ∷ xs)) → Headed late F q t us (Err (c, t ∷ us))
+  halts : {c : Fault} → q (map real us) ≡ Err (c, real t ∷ map real us) → Headed late F q t us (Err (c, t ∷ us))
 
 -- a reader that takes a token first, or stops
 pub data Starts {A : Type 0} (late : Bool) (F : Symbols → L → Type 0) (q : Symbols → Outcome Symbols A) : L → Outcome L A → Type 0 where
@@ -161,7 +161,7 @@ braced {late} t b (stop w e j k) = stop (take t w) e j (kept_brace late t w b)
 pub went : {A : Type 0} {late : Bool} {F : Symbols → L → Type 0} {q : Symbols → Outcome Symbols A} {t : Lexeme} {us : L} {o : Outcome L A} → Headed late F (λ xs. q (real t ∷ xs)) t us o → Copies late F q (t ∷ us) o
 went {t} (goes h) = taken t h
 went {t} (goes_in b h) = braced t b h
-went {late} {t} {us} (halts h) = stop end (h (map real us)) tt (kept_end late (t ∷ us))
+went {late} {t} {us} (halts h) = stop end h tt (kept_end late (t ∷ us))
 
 pub started : {A : Type 0} {late : Bool} {F : Symbols → L → Type 0} {q : Symbols → Outcome Symbols A} {ts : L} {o : Outcome L A} → Starts late F q ts o → Copies late F q ts o
 started (starts h) = went h

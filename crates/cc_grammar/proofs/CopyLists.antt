@@ -62,7 +62,7 @@ module _ (d turns : ℕ) (inner : In) (outer : t.In) (alike : CopyInner inner ou
       (λ e. goes (copies_pure true (before, h) us))
       (λ _. split (is_element t.kind) _ _ _ _
         (λ e. goes (copies_after _ _ quiet (started (expects true mark.CloseBracket us)) (λ _ vs. copies_pure true (before, h) vs)))
-        (λ _. split (is_mark mark.Comma t.kind) _ _ _ _ (λ _. halts (λ xs. refl))
+        (λ _. split (is_mark mark.Comma t.kind) _ _ _ _ (λ _. halts refl)
           (λ _. goes_after _ _ quiet (head_of_start (alike.expr true 1 (t ∷ us))) (λ x us. comma_or true mark.CloseBracket _ _ _ us (elements_copy m (before ++ x.0 ∷ []) (max h x.1)))))))
 
   no_accessor : (b : Bool) → (b && false) ≡ false
@@ -117,7 +117,7 @@ module _ (d turns : ℕ) (inner : In) (outer : t.In) (alike : CopyInner inner ou
     by : (b : Bool) → is_mark mark.OpenBrace u.kind ≡ b → Headed true Quiet (λ xs. and_then (cond {A = Outcome Symbols (Unit {0})} b (Ok (tt, xs)) (Err (r.fault r.a_token u, real u ∷ xs))) (λ _ i. and_then (s.body d turns inner of_function i) (λ b j. Ok (f b, j)))) u us
         (and_then (cond {A = Outcome L (Unit {0})} b (Ok (tt, us)) (Err (r.fault r.a_token u, u ∷ us))) (λ _ i. and_then (t.body d turns outer of_function i) (λ b j. Ok (f b, j))))
     by true e = goes_in e (copies_after _ _ quiet (body_copy of_function us) (λ b vs. copies_pure false (f b) vs))
-    by false e = halts (λ xs. refl)
+    by false e = halts refl
 
   pub function_copy : (ts : L) → Starts true Quiet (s.function d turns inner) ts (t.function d turns outer ts)
   unfolding r.function

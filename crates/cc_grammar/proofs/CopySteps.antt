@@ -68,7 +68,7 @@ module _ {A B : Type 0} (q : Symbols → Outcome Symbols A) (g : A → Symbols �
       → Starts late F (g a) us o → Copies late F Both ts o
   goes_first {late} fits w e j k (starts {t} (goes h)) = goes_to {b = late} fits t w e j (λ vs v l. kept_join late w (take t v) k (kept_take late t v l)) h
   goes_first {late} fits w e j k (starts {t} (goes_in b h)) = goes_to {b = false} fits t w e j (λ vs v l. kept_join late w (take t v) k (kept_brace late t v b)) h
-  goes_first {us} fits w e j k (starts {us = vs} (halts f)) = stop w (ap (λ x. and_then x g) (e (map real us) (shows_real us)) ∙ f (map real vs)) (just_after q g w j) k
+  goes_first {us} fits w e j k (starts (halts f)) = stop w (ap (λ x. and_then x g) (e (map real us) (shows_real us)) ∙ f) (just_after q g w j) k
   goes_first {us} fits w e j k (halts_end f) = stop w (ap (λ x. and_then x g) (e [] (shows_real [])) ∙ f) (just_after q g w j) k
 
   -- where the second takes a token first, none may be inserted between
@@ -81,7 +81,7 @@ pub goes_after : {A B : Type 0} {late : Bool} {F : Symbols → L → Type 0} (q 
     → Headed late Quiet q t ts o → ((a : A) (us : L) → Copies late F (g a) us (f a us)) → Headed late F (λ xs. and_then (q xs) g) t ts (and_then o f)
 goes_after q g fits (goes h) l = goes (copies_after q g fits h l)
 goes_after q g fits (goes_in b h) l = goes_in b (copies_after q g fits h (λ a us. loosened (l a us)))
-goes_after q g fits (halts f) l = halts (λ xs. ap (λ x. and_then x g) (f xs))
+goes_after q g fits (halts f) l = halts (ap (λ x. and_then x g) f)
 
 pub starts_after : {A B : Type 0} {late : Bool} {F : Symbols → L → Type 0} (q : Symbols → Outcome Symbols A) (g : A → Symbols → Outcome Symbols B) {ts : L} {o : Outcome L A} {f : A → L → Outcome L B} → Fits F
     → Starts late Quiet q ts o → ((a : A) (us : L) → Copies late F (g a) us (f a us)) → Starts late F (λ xs. and_then (q xs) g) ts (and_then o f)
@@ -173,22 +173,22 @@ fork_shows {late} b a q Q ts h = by (b (look_token ts)) refl where
 
 pub fails_here : {A : Type 0} (late : Bool) {F : Symbols → L → Type 0} (d : Due) (ts : L) → Starts {A = A} late F (λ xs. Err (fault d (look xs), xs)) ts (Err (fault d (look_token ts), ts))
 fails_here late d [] = halts_end refl
-fails_here late d (t ∷ us) = starts (halts (λ xs. refl))
+fails_here late d (t ∷ us) = starts (halts refl)
 
 pub stops_here : {A : Type 0} (late : Bool) {F : Symbols → L → Type 0} (c : Cause) (ts : L) → Starts {A = A} late F (λ xs. Err (record { cause = c; place = (look xs).place }, xs)) ts (Err (record { cause = c; place = (look_token ts).place }, ts))
 stops_here late c [] = halts_end refl
-stops_here late c (t ∷ us) = starts (halts (λ xs. refl))
+stops_here late c (t ∷ us) = starts (halts refl)
 
 pub refuses_here : {A : Type 0} (late : Bool) {F : Symbols → L → Type 0} (x : Fault) (ts : L) → Starts {A = A} late F (λ xs. Err (x, xs)) ts (Err (x, ts))
 refuses_here late x [] = halts_end refl
-refuses_here late x (t ∷ us) = starts (halts (λ xs. refl))
+refuses_here late x (t ∷ us) = starts (halts refl)
 
 -- a token of which a test is true
 tested : (late : Bool) (p : Kind → Bool) → p (k.stop None) ≡ false → (ts : L)
     → Starts {A = Unit {0}} late Quiet (λ xs. cond (p (look xs).kind) (Ok (tt, rest xs)) (Err (fault r.a_token (look xs), xs))) ts (cond (p (look_token ts).kind) (Ok (tt, rest_tokens ts)) (Err (fault r.a_token (look_token ts), ts)))
 tested late p n [] = subst (λ b. Starts {A = Unit {0}} late Quiet (λ xs. cond (p (look xs).kind) (Ok (tt, rest xs)) (Err (fault r.a_token (look xs), xs))) [] (cond b (Ok (tt, [])) (Err (fault r.a_token (look_token []), [])))) (sym n)
     (halts_end (ap (λ b. cond b (Ok (tt, [])) (Err (fault r.a_token (look_token []), []))) n))
-tested late p n (t ∷ us) = starts (split_outcome (p t.kind) (λ xs. Ok (tt, xs)) (λ xs. Err (fault r.a_token t, real t ∷ xs)) (λ e. goes (copies_pure late tt us)) (λ e. halts (λ xs. refl)))
+tested late p n (t ∷ us) = starts (split_outcome (p t.kind) (λ xs. Ok (tt, xs)) (λ xs. Err (fault r.a_token t, real t ∷ xs)) (λ e. goes (copies_pure late tt us)) (λ _. halts refl))
 
 pub expects : (late : Bool) (m : Mark) (ts : L) → Starts late Quiet (s.expect m) ts (t.expect m ts)
 unfolding r.expect

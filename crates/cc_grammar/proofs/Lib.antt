@@ -30,3 +30,4 @@ pub mod OnTokens
 pub mod Copies
 pub mod CopySteps
 pub mod CopyLists
+pub mod CopyAhead
