@@ -136,11 +136,19 @@ Quiet xs us = lexemes_of xs ≡ us
 abbrev pub Shows : Symbols → L → Type 0
 Shows xs us = (lexemes_of xs ≡ us) × (look xs ≡ look_token us)
 
--- A reader that takes a token first, or stops at it.
+-- A reader that goes on with a token, or stops at it: q reads behind the token.
+pub data Headed {A : Type 0} (late : Bool) (F : Symbols → L → Type 0) (q : Symbols → Outcome Symbols A) (t : Lexeme) (us : L) : Outcome L A → Type 0 where
+  goes : {o : Outcome L A} → Copies late F q us o → Headed late F q t us o
+  goes_in : {o : Outcome L A} → is_mark mark.OpenBrace t.kind ≡ true → Copies false F q us o → Headed late F q t us o
+  halts : {c : Fault} → q (map real us) ≡ Err (c, real t ∷ map real us) → Headed late F q t us (Err (c, t ∷ us))
+
+-- a reader that takes a token first, or stops
 pub data Starts {A : Type 0} (late : Bool) (F : Symbols → L → Type 0) (q : Symbols → Outcome Symbols A) : L → Outcome L A → Type 0 where
-  begins : {t : Lexeme} {us : L} {o : Outcome L A} → Copies late F (λ xs. q (real t ∷ xs)) us o → Starts late F q (t ∷ us) o
-  opens : {t : Lexeme} {us : L} {o : Outcome L A} → is_mark mark.OpenBrace t.kind ≡ true → Copies false F (λ xs. q (real t ∷ xs)) us o → Starts late F q (t ∷ us) o
-  fails : {c : Fault} {ts : L} → ((xs : Symbols) → look xs ≡ look_token ts → q xs ≡ Err (c, xs)) → Starts late F q ts (Err (c, ts))
+  starts : {t : Lexeme} {us : L} {o : Outcome L A} → Headed late F (λ xs. q (real t ∷ xs)) t us o → Starts late F q (t ∷ us) o
+  halts_end : {c : Fault} → q [] ≡ Err (c, []) → Starts late F q [] (Err (c, []))
+
+pub head_of_start : {A : Type 0} {late : Bool} {F : Symbols → L → Type 0} {q : Symbols → Outcome Symbols A} {t : Lexeme} {us : L} {o : Outcome L A} → Starts late F q (t ∷ us) o → Headed late F (λ xs. q (real t ∷ xs)) t us o
+head_of_start (starts h) = h
 
 pub taken : {A : Type 0} {late : Bool} {F : Symbols → L → Type 0} {q : Symbols → Outcome Symbols A} {us : L} {o : Outcome L A} (t : Lexeme) → Copies late F (λ xs. q (real t ∷ xs)) us o → Copies late F q (t ∷ us) o
 taken {late} t (read w e j k) = read (take t w) e j (kept_take late t w k)
@@ -150,10 +158,14 @@ pub braced : {A : Type 0} {late : Bool} {F : Symbols → L → Type 0} {q : Symb
 braced {late} t b (read w e j k) = read (take t w) e j (kept_brace late t w b)
 braced {late} t b (stop w e j k) = stop (take t w) e j (kept_brace late t w b)
 
+pub went : {A : Type 0} {late : Bool} {F : Symbols → L → Type 0} {q : Symbols → Outcome Symbols A} {t : Lexeme} {us : L} {o : Outcome L A} → Headed late F (λ xs. q (real t ∷ xs)) t us o → Copies late F q (t ∷ us) o
+went {t} (goes h) = taken t h
+went {t} (goes_in b h) = braced t b h
+went {late} {t} {us} (halts h) = stop end h tt (kept_end late (t ∷ us))
+
 pub started : {A : Type 0} {late : Bool} {F : Symbols → L → Type 0} {q : Symbols → Outcome Symbols A} {ts : L} {o : Outcome L A} → Starts late F q ts o → Copies late F q ts o
-started (begins {t} h) = taken t h
-started (opens {t} b h) = braced t b h
-started {late} (fails {ts} h) = stop end (h (map real ts) (look_real ts)) tt (kept_end late ts)
+started (starts h) = went h
+started {late} (halts_end e) = stop end e tt (kept_end late [])
 
 kept_any : (late : Bool) {ts us : L} (w : Copy ts us) → Late w → Kept late w
 kept_any true w h = h
@@ -168,10 +180,14 @@ pub loosened : {A : Type 0} {late : Bool} {F : Symbols → L → Type 0} {q : Sy
 loosened (read w e j k) = read w e j tt
 loosened (stop w e j k) = stop w e j tt
 
+relaxed_head : {A : Type 0} {F : Symbols → L → Type 0} {q : Symbols → Outcome Symbols A} {t : Lexeme} {us : L} {o : Outcome L A} (late : Bool) → Headed true F q t us o → Headed late F q t us o
+relaxed_head late (goes h) = goes (relaxed late h)
+relaxed_head late (goes_in b h) = goes_in b h
+relaxed_head late (halts h) = halts h
+
 pub relaxed_start : {A : Type 0} {F : Symbols → L → Type 0} {q : Symbols → Outcome Symbols A} {ts : L} {o : Outcome L A} (late : Bool) → Starts true F q ts o → Starts late F q ts o
-relaxed_start late (begins h) = begins (relaxed late h)
-relaxed_start late (opens b h) = opens b h
-relaxed_start late (fails h) = fails h
+relaxed_start late (starts h) = starts (relaxed_head late h)
+relaxed_start late (halts_end h) = halts_end h
 
 just_same : {A : Type 0} {ts us : L} (p q : Symbols → Outcome Symbols A) (w : Copy ts us) → ((xs : Symbols) → lexemes_of xs ≡ ts → q xs ≡ p xs) → Just p w → Just q w
 just_same {ts} p q w h j = each_map (λ vs xs. StopsAt p vs xs × (lexemes_of xs ≡ ts)) (StopsAt q) w (λ vs xs m. h xs m.1 ∙ m.0) (each_both (StopsAt p) (λ vs xs. lexemes_of xs ≡ ts) w j (each_lexemes w))

@@ -4,12 +4,12 @@ use Rattle.std.proofs.Common.{refl, sym, ap, ◌∙◌, subst, inl, inr}
 use Rattle.cc_lexer.specs.declared.token.Mark.{Mark}
 use Rattle.cc_lexer.specs.declared.token.Mark.TheVariants as mark
 use Rattle.cc_grammar.specs.declared.word.Word.{Word}
-use Rattle.cc_grammar.specs.Symbols.{Kind, Lexeme, Symbols, real, inserted, look, rest, semicolon, lexemes_of, is_mark, is_word}
+use Rattle.cc_grammar.specs.Symbols.{Kind, Lexeme, Symbols, real, inserted, look, rest, semicolon, nothing, lexemes_of, is_mark, is_word}
 use Rattle.cc_grammar.specs.Symbols as k
 use Rattle.cc_grammar.specs.Fronts.{offends, is_end}
 use Rattle.cc_grammar.specs.Reading.{Outcome, Fault, Due, Cause, fault, and_then, look_token, rest_tokens, semicolon_symbol, semicolon_token}
 use Rattle.cc_grammar.specs.Reading as r
-use Rattle.cc_grammar.proofs.Copies.{L, Copy, end, take, insert, put, join, put_join, lexemes_real, put_lexemes, look_real, shown, Each, each_map, each_both, each_join, each_lexemes, StopsAt, Just, Kept, kept_join, kept_end, kept_take, kept_brace, Copies, read, stop, Quiet, Shows, Starts, begins, opens, fails, taken, braced, started, loosened, same_copies}
+use Rattle.cc_grammar.proofs.Copies.{L, Copy, end, take, insert, put, join, put_join, lexemes_real, put_lexemes, look_real, shown, Each, each_map, each_both, each_join, each_lexemes, StopsAt, Just, Kept, kept_join, kept_end, kept_take, kept_brace, Copies, read, stop, Quiet, Shows, Headed, goes, goes_in, halts, Starts, starts, halts_end, went, started, loosened, same_copies}
 use Rattle.cc_grammar.proofs.OnSymbols as s
 use Rattle.cc_grammar.proofs.OnTokens as t
 
@@ -66,9 +66,10 @@ module _ {A B : Type 0} (q : Symbols → Outcome Symbols A) (g : A → Symbols �
 
   goes_first : {late : Bool} {F : Symbols → L → Type 0} {ts us : L} {a : A} {o : Outcome L B} → Fits F → (w : Copy ts us) → ((xs : Symbols) → Shows xs us → q (put w xs) ≡ Ok (a, xs)) → Just q w → Kept late w
       → Starts late F (g a) us o → Copies late F Both ts o
-  goes_first {late} fits w e j k (begins {t} h) = goes_to {b = late} fits t w e j (λ vs v l. kept_join late w (take t v) k (kept_take late t v l)) h
-  goes_first {late} fits w e j k (opens {t} b h) = goes_to {b = false} fits t w e j (λ vs v l. kept_join late w (take t v) k (kept_brace late t v b)) h
-  goes_first {us} fits w e j k (fails f) = stop w (ap (λ x. and_then x g) (e (map real us) (shows_real us)) ∙ f (map real us) (look_real us)) (just_after q g w j) k
+  goes_first {late} fits w e j k (starts {t} (goes h)) = goes_to {b = late} fits t w e j (λ vs v l. kept_join late w (take t v) k (kept_take late t v l)) h
+  goes_first {late} fits w e j k (starts {t} (goes_in b h)) = goes_to {b = false} fits t w e j (λ vs v l. kept_join late w (take t v) k (kept_brace late t v b)) h
+  goes_first {us} fits w e j k (starts (halts f)) = stop w (ap (λ x. and_then x g) (e (map real us) (shows_real us)) ∙ f) (just_after q g w j) k
+  goes_first {us} fits w e j k (halts_end f) = stop w (ap (λ x. and_then x g) (e [] (shows_real [])) ∙ f) (just_after q g w j) k
 
   -- where the second takes a token first, none may be inserted between
   pub copies_then : {late : Bool} {F : Symbols → L → Type 0} {ts : L} {o : Outcome L A} {f : A → L → Outcome L B} → Fits F → Copies late Shows q ts o → ((a : A) (us : L) → Starts late F (g a) us (f a us))
@@ -76,11 +77,16 @@ module _ {A B : Type 0} (q : Symbols → Outcome Symbols A) (g : A → Symbols �
   copies_then fits (read {a} {us} w e j k) h = goes_first fits w e j k (h a us)
   copies_then fits (stop w e j k) h = stop w (ap (λ x. and_then x g) e) (just_after q g w j) k
 
+pub goes_after : {A B : Type 0} {late : Bool} {F : Symbols → L → Type 0} (q : Symbols → Outcome Symbols A) (g : A → Symbols → Outcome Symbols B) {t : Lexeme} {ts : L} {o : Outcome L A} {f : A → L → Outcome L B} → Fits F
+    → Headed late Quiet q t ts o → ((a : A) (us : L) → Copies late F (g a) us (f a us)) → Headed late F (λ xs. and_then (q xs) g) t ts (and_then o f)
+goes_after q g fits (goes h) l = goes (copies_after q g fits h l)
+goes_after q g fits (goes_in b h) l = goes_in b (copies_after q g fits h (λ a us. loosened (l a us)))
+goes_after q g fits (halts f) l = halts (ap (λ x. and_then x g) f)
+
 pub starts_after : {A B : Type 0} {late : Bool} {F : Symbols → L → Type 0} (q : Symbols → Outcome Symbols A) (g : A → Symbols → Outcome Symbols B) {ts : L} {o : Outcome L A} {f : A → L → Outcome L B} → Fits F
     → Starts late Quiet q ts o → ((a : A) (us : L) → Copies late F (g a) us (f a us)) → Starts late F (λ xs. and_then (q xs) g) ts (and_then o f)
-starts_after q g fits (begins {t} h) l = begins (copies_after (λ xs. q (real t ∷ xs)) g fits h l)
-starts_after q g fits (opens {t} b h) l = opens b (copies_after (λ xs. q (real t ∷ xs)) g fits h (λ a us. loosened (l a us)))
-starts_after q g fits (fails f) l = fails (λ xs e. ap (λ x. and_then x g) (f xs e))
+starts_after q g fits (starts {t} h) l = starts (goes_after (λ xs. q (real t ∷ xs)) g fits h l)
+starts_after q g fits (halts_end f) l = halts_end (ap (λ x. and_then x g) f)
 
 pub quiet : Fits Quiet
 quiet xs us h = h
@@ -94,9 +100,14 @@ copies_pure late a ts = read end (λ xs h. refl) tt (kept_end late ts)
 -- ---- decisions by the next token
 
 -- Either the reader takes it or stops at it, or it decides as an inserted semicolon does.
-pub data Chosen {A X : Type 0} (late : Bool) (F : Symbols → L → Type 0) (b : Lexeme → X) (v : X) (p : Symbols → Outcome Symbols A) (ts : L) (o : Outcome L A) : Type 0 where
-  by_token : Starts late F p ts o → Chosen late F b v p ts o
-  by_none : b semicolon ≡ v → Copies late F p ts o → Chosen late F b v p ts o
+pub data Chosen {A X : Type 0} (late : Bool) (F : Symbols → L → Type 0) (b : Lexeme → X) (v : X) (p : Symbols → Outcome Symbols A) (P : L → Outcome L A) (ts : L) : Type 0 where
+  by_token : Starts late F p ts (P ts) → Chosen late F b v p P ts
+  by_taking : ¬ (b nothing ≡ v) → ((t : Lexeme) (us : L) → b t ≡ v → Headed late F (λ xs. p (real t ∷ xs)) t us (P (t ∷ us))) → Chosen late F b v p P ts
+  by_none : b semicolon ≡ v → Copies late F p ts (P ts) → Chosen late F b v p P ts
+
+-- nothing is no token of which a test is true
+pub absent : ¬ (◌≡◌ {A = Bool} false true)
+absent e = cc
 
 silent : {X : Type 0} (b : Lexeme → X) (v : X) (ts : L) → b (look_token ts) ≡ v → b semicolon ≡ v → (xs : Symbols) → lexemes_of xs ≡ ts → b (look xs) ≡ v
 silent b v ts e h xs l = by (shown xs ts l) where
@@ -104,54 +115,80 @@ silent b v ts e h xs l = by (shown xs ts l) where
   by (inl q) = ap b q ∙ e
   by (inr q) = ap b q ∙ h
 
--- where two readers agree on what shows the first token
-same_start : {A : Type 0} {late : Bool} {F : Symbols → L → Type 0} {p : Symbols → Outcome Symbols A} {ts : L} {o : Outcome L A} (q : Symbols → Outcome Symbols A)
-    → Fits F → Starts late F p ts o → ((xs : Symbols) → look xs ≡ look_token ts → q xs ≡ p xs) → Starts late F q ts o
-same_start q fits (begins {t} c) h = begins (same_copies (λ xs. q (real t ∷ xs)) fits c (λ xs _. h (real t ∷ xs) refl))
-same_start q fits (opens {t} b c) h = opens b (same_copies (λ xs. q (real t ∷ xs)) fits c (λ xs _. h (real t ∷ xs) refl))
-same_start q fits (fails f) h = fails (λ xs e. h xs e ∙ f xs e)
-
-pub decide_first : {A X : Type 0} {late : Bool} {F : Symbols → L → Type 0} (b : Lexeme → X) (P : X → Symbols → Outcome Symbols A) {ts : L} {o : Outcome L A} → Fits F
+same_start : {A X : Type 0} {late : Bool} {F : Symbols → L → Type 0} (b : Lexeme → X) (P : X → Symbols → Outcome Symbols A) {ts : L} {o : Outcome L A}
     → Starts late F (P (b (look_token ts))) ts o → Starts late F (λ xs. P (b (look xs)) xs) ts o
-decide_first b P fits c = same_start (λ xs. P (b (look xs)) xs) fits c (λ xs e. ap (λ l. P (b l) xs) e)
+same_start b P (starts h) = starts h
+same_start b P (halts_end e) = halts_end e
 
-pub decide : {A X : Type 0} {late : Bool} {F : Symbols → L → Type 0} (b : Lexeme → X) (P : X → Symbols → Outcome Symbols A) (ts : L) {o : Outcome L A} → Fits F
-    → Chosen late F b (b (look_token ts)) (P (b (look_token ts))) ts o → Copies late F (λ xs. P (b (look xs)) xs) ts o
-decide b P ts fits (by_token c) = started (decide_first b P fits c)
-decide b P ts fits (by_none m c) = same_copies (λ xs. P (b (look xs)) xs) fits c (λ xs l. ap (λ v. P v xs) (silent b (b (look_token ts)) ts refl m xs l))
+-- a decision by a table
+pub decide : {A X : Type 0} {late : Bool} {F : Symbols → L → Type 0} (b : Lexeme → X) (P : X → Symbols → Outcome Symbols A) (Q : X → L → Outcome L A) (ts : L) → Fits F
+    → ((v : X) → b (look_token ts) ≡ v → Chosen late F b v (P v) (Q v) ts) → Copies late F (λ xs. P (b (look xs)) xs) ts (Q (b (look_token ts)) ts)
+decide {A} {X} {late} {F} b P Q ts fits h = by ts (h (b (look_token ts)) refl) where
+  by : (ts : L) → Chosen late F b (b (look_token ts)) (P (b (look_token ts))) (Q (b (look_token ts))) ts → Copies late F (λ xs. P (b (look xs)) xs) ts (Q (b (look_token ts)) ts)
+  by ts (by_token c) = started (same_start b P c)
+  by [] (by_taking n c) = absurd (n refl)
+  by (t ∷ us) (by_taking n c) = went (c t us refl)
+  by ts (by_none m c) = same_copies (λ xs. P (b (look xs)) xs) fits c (λ xs l. ap (λ v. P v xs) (silent b (b (look_token ts)) ts refl m xs l))
+
+pub decide_first : {A X : Type 0} {late : Bool} {F : Symbols → L → Type 0} (b : Lexeme → X) (P : X → Symbols → Outcome Symbols A) (Q : X → L → Outcome L A) (ts : L)
+    → ((v : X) → b (look_token ts) ≡ v → Starts late F (P v) ts (Q v ts)) → Starts late F (λ xs. P (b (look xs)) xs) ts (Q (b (look_token ts)) ts)
+decide_first b P Q ts h = same_start b P (h (b (look_token ts)) refl)
 
 -- a choice between two readers
-pub fork_first : {A : Type 0} {late : Bool} {F : Symbols → L → Type 0} (b : Lexeme → Bool) (p q : Symbols → Outcome Symbols A) (P Q : L → Outcome L A) (ts : L) → Fits F
-    → (b (look_token ts) ≡ true → Starts late F p ts (P ts)) → (b (look_token ts) ≡ false → Starts late F q ts (Q ts)) → Starts late F (λ xs. cond (b (look xs)) p q xs) ts (cond (b (look_token ts)) P Q ts)
-fork_first {late} {F} b p q P Q ts fits h l = decide_first b (λ v xs. cond v p q xs) fits (by (b (look_token ts)) refl) where
-  by : (v : Bool) → b (look_token ts) ≡ v → Starts late F (λ xs. cond v p q xs) ts (cond v P Q ts)
+pub fork : {A : Type 0} {late : Bool} {F : Symbols → L → Type 0} (b : Lexeme → Bool) (p q : Symbols → Outcome Symbols A) (P Q : L → Outcome L A) (ts : L) → Fits F
+    → (b (look_token ts) ≡ true → Chosen late F b true p P ts) → (b (look_token ts) ≡ false → Chosen late F b false q Q ts) → Copies late F (λ xs. cond (b (look xs)) p q xs) ts (cond (b (look_token ts)) P Q ts)
+fork {late} {F} b p q P Q ts fits h l = decide b (λ v xs. cond v p q xs) (λ v us. cond v P Q us) ts fits by where
+  by : (v : Bool) → b (look_token ts) ≡ v → Chosen late F b v (λ xs. cond v p q xs) (λ us. cond v P Q us) ts
   by true e = h e
   by false e = l e
 
-pub fork : {A : Type 0} {late : Bool} {F : Symbols → L → Type 0} (b : Lexeme → Bool) (p q : Symbols → Outcome Symbols A) (P Q : L → Outcome L A) (ts : L) → Fits F
-    → (b (look_token ts) ≡ true → Chosen late F b true p ts (P ts)) → (b (look_token ts) ≡ false → Chosen late F b false q ts (Q ts)) → Copies late F (λ xs. cond (b (look xs)) p q xs) ts (cond (b (look_token ts)) P Q ts)
-fork {late} {F} b p q P Q ts fits h l = decide b (λ v xs. cond v p q xs) ts fits (by (b (look_token ts)) refl) where
-  by : (v : Bool) → b (look_token ts) ≡ v → Chosen late F b v (λ xs. cond v p q xs) ts (cond v P Q ts)
-  by true e = h e
-  by false e = l e
+-- a choice that doesn't hang on what follows
+pub split : {A : Type 0} {late : Bool} {F : Symbols → L → Type 0} (b : Bool) (p q : Symbols → Outcome Symbols A) (P Q : L → Outcome L A) {f : Symbols → Symbols} {t : Lexeme} {us ts : L}
+    → (b ≡ true → Headed late F (λ xs. p (f xs)) t us (P ts)) → (b ≡ false → Headed late F (λ xs. q (f xs)) t us (Q ts)) → Headed late F (λ xs. cond b p q (f xs)) t us (cond b P Q ts)
+split true p q P Q h l = h refl
+split false p q P Q h l = l refl
+
+pub split_outcome : {A : Type 0} {late : Bool} {F : Symbols → L → Type 0} (b : Bool) (p q : Symbols → Outcome Symbols A) {t : Lexeme} {us : L} {o u : Outcome L A}
+    → (b ≡ true → Headed late F p t us o) → (b ≡ false → Headed late F q t us u) → Headed late F (λ xs. cond b (p xs) (q xs)) t us (cond b o u)
+split_outcome true p q h l = h refl
+split_outcome false p q h l = l refl
+
+-- where there is no token
+pub at_end : {A : Type 0} {late : Bool} {F : Symbols → L → Type 0} {p : Symbols → Outcome Symbols A} {o : Outcome L A} (q : Symbols → Outcome Symbols A) → Starts late F p [] o → q [] ≡ p [] → Starts late F q [] o
+at_end q (halts_end e) h = halts_end (h ∙ e)
+
+-- a reader that takes nothing where a test is true
+pub fork_shows : {A : Type 0} {late : Bool} (b : Lexeme → Bool) (a : A) (q : Symbols → Outcome Symbols A) (Q : L → Outcome L A) (ts : L)
+    → (b (look_token ts) ≡ false → Chosen late Shows b false q Q ts) → Copies late Shows (λ xs. cond (b (look xs)) (λ i. Ok (a, i)) q xs) ts (cond (b (look_token ts)) (λ i. Ok (a, i)) Q ts)
+fork_shows {late} b a q Q ts h = by (b (look_token ts)) refl where
+  by : (v : Bool) → b (look_token ts) ≡ v → Copies late Shows (λ xs. cond (b (look xs)) (λ i. Ok (a, i)) q xs) ts (cond v (λ i. Ok (a, i)) Q ts)
+  by true e = read end (λ xs f. ap (λ v. cond v (λ i. Ok (a, i)) q xs) (ap b f.1 ∙ e)) tt (kept_end late ts)
+  by false e = subst (λ v. Copies late Shows (λ xs. cond (b (look xs)) (λ i. Ok (a, i)) q xs) ts (cond v (λ i. Ok (a, i)) Q ts)) e
+      (decide b (λ v xs. cond v (λ i. Ok (a, i)) q xs) (λ v us. cond v (λ i. Ok (a, i)) Q us) ts shows (λ v f. given v f)) where
+    given : (v : Bool) → b (look_token ts) ≡ v → Chosen late Shows b v (λ xs. cond v (λ i. Ok (a, i)) q xs) (λ us. cond v (λ i. Ok (a, i)) Q us) ts
+    given true f = let both : true ≡ false = sym f ∙ e in absurd (cc)
+    given false f = h f
 
 -- ---- single tokens
 
 pub fails_here : {A : Type 0} (late : Bool) {F : Symbols → L → Type 0} (d : Due) (ts : L) → Starts {A = A} late F (λ xs. Err (fault d (look xs), xs)) ts (Err (fault d (look_token ts), ts))
-fails_here late d ts = fails (λ xs e. ap (λ t. Err (fault d t, xs)) e)
+fails_here late d [] = halts_end refl
+fails_here late d (t ∷ us) = starts (halts refl)
 
 pub stops_here : {A : Type 0} (late : Bool) {F : Symbols → L → Type 0} (c : Cause) (ts : L) → Starts {A = A} late F (λ xs. Err (record { cause = c; place = (look xs).place }, xs)) ts (Err (record { cause = c; place = (look_token ts).place }, ts))
-stops_here late c ts = fails (λ xs e. ap (λ t. Err (record { cause = c; place = t.place }, xs)) e)
+stops_here late c [] = halts_end refl
+stops_here late c (t ∷ us) = starts (halts refl)
+
+pub refuses_here : {A : Type 0} (late : Bool) {F : Symbols → L → Type 0} (x : Fault) (ts : L) → Starts {A = A} late F (λ xs. Err (x, xs)) ts (Err (x, ts))
+refuses_here late x [] = halts_end refl
+refuses_here late x (t ∷ us) = starts (halts refl)
 
 -- a token of which a test is true
 tested : (late : Bool) (p : Kind → Bool) → p (k.stop None) ≡ false → (ts : L)
     → Starts {A = Unit {0}} late Quiet (λ xs. cond (p (look xs).kind) (Ok (tt, rest xs)) (Err (fault r.a_token (look xs), xs))) ts (cond (p (look_token ts).kind) (Ok (tt, rest_tokens ts)) (Err (fault r.a_token (look_token ts), ts)))
 tested late p n [] = subst (λ b. Starts {A = Unit {0}} late Quiet (λ xs. cond (p (look xs).kind) (Ok (tt, rest xs)) (Err (fault r.a_token (look xs), xs))) [] (cond b (Ok (tt, [])) (Err (fault r.a_token (look_token []), [])))) (sym n)
-    (fails (λ xs h. ap (λ u. cond (p u.kind) (Ok (tt, rest xs)) (Err (fault r.a_token u, xs))) h ∙ ap (λ b. cond b (Ok (tt, rest xs)) (Err (fault r.a_token (look_token []), xs))) n))
-tested late p n (t ∷ us) = by (p t.kind) refl where
-  by : (v : Bool) → p t.kind ≡ v → Starts {A = Unit {0}} late Quiet (λ xs. cond (p (look xs).kind) (Ok (tt, rest xs)) (Err (fault r.a_token (look xs), xs))) (t ∷ us) (cond v (Ok (tt, us)) (Err (fault r.a_token t, t ∷ us)))
-  by true e = begins (read end (λ xs h. ap (λ b. cond b (Ok (tt, xs)) (Err (fault r.a_token t, real t ∷ xs))) e) tt (kept_end late us))
-  by false e = fails (λ xs h. ap (λ u. cond (p u.kind) (Ok (tt, rest xs)) (Err (fault r.a_token u, xs))) h ∙ ap (λ b. cond b (Ok (tt, rest xs)) (Err (fault r.a_token t, xs))) e)
+    (halts_end (ap (λ b. cond b (Ok (tt, [])) (Err (fault r.a_token (look_token []), []))) n))
+tested late p n (t ∷ us) = starts (split_outcome (p t.kind) (λ xs. Ok (tt, xs)) (λ xs. Err (fault r.a_token t, real t ∷ xs)) (λ e. goes (copies_pure late tt us)) (λ _. halts refl))
 
 pub expects : (late : Bool) (m : Mark) (ts : L) → Starts late Quiet (s.expect m) ts (t.expect m ts)
 unfolding r.expect

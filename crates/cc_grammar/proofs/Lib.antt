@@ -37,3 +37,5 @@ pub mod Alike
 pub mod OneReading
 pub mod Copies
 pub mod CopySteps
+pub mod CopyLists
+pub mod CopyAhead
