@@ -1,0 +1,8 @@
+//! The rules of conforming programs as tests. `judge` answers for an act that is about to happen
+//! the least rule that it breaks, exactly as the meaning tells it. Nothing takes memory.
+#![tactic(auto)]
+
+pub mod act;
+mod docs;
+mod names;
+mod rules;
