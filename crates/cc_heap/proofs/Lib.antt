@@ -1,0 +1,4 @@
+pub mod SlotLaws
+pub mod PlaceLaws
+pub mod NameLaws
+pub mod ElementLaws
