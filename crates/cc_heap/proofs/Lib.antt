@@ -2,3 +2,4 @@ pub mod SlotLaws
 pub mod PlaceLaws
 pub mod NameLaws
 pub mod ElementLaws
+pub mod LookUpLaws

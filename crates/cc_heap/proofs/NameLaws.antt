@@ -1,10 +1,11 @@
 -- Index names read digit by digit, and the names of the methods of arrays.
-use Rattle.std.proofs.Common.{◌≡◌, ◌≢◌, ℕ, zero, suc, ◌+◌, ◌-◌, ◌*◌, ◌<◌, ◌≤◌, Bool, true, false, ◌||◌, List, [], ◌∷◌, length, get_or, drop, Option, Some, None, is_some, if◌then◌else◌, nat_le, refl, ap, ◌∙◌, inl, inr, arith, drop-cons}
+use Rattle.std.proofs.Common.{◌≡◌, ◌≢◌, ℕ, suc, ◌+◌, ◌-◌, ◌*◌, ◌<◌, ◌≤◌, Bool, true, false, ◌||◌, List, [], ◌∷◌, length, get_or, drop, Option, Some, None, is_some, if◌then◌else◌, nat_le, refl, ap, ◌∙◌, inl, inr, arith, drop-cons}
 use Rattle.std.proofs.lemmas.Bool.{ne_eqb, le-leb, lt-leb, and_from, and_left, and_right, cases_Bool}
 use Rattle.cc_meaning.specs.Operators.{list_eq}
 use Rattle.cc_meaning.specs.Names.{is_digit, digits_after, alone, decimal_value, up_to_greatest_index, index_value, name_push, name_unshift, name_pop, name_shift, name_slice, name_concat, name_join, name_indexOf}
 use Rattle.cc_meaning.specs.Builtins.{ArrayUse, array_methods, array_method, method_of}
 use Rattle.cc_heap.proofs.SlotLaws.{flipped}
+use Rattle.cc_heap.proofs.LookUpLaws.{drop-all}
 
 -- ---- index names
 
@@ -75,12 +76,6 @@ module _ (t : List ℕ) (i n : ℕ) (within : i < length t) where
 
   pub read-great : 48 ≤ unit → unit ≤ 57 → 4294967294 < n * 10 + (unit - 48) → read_on n (drop i t) ≡ None
   read-great h k g = read-digit h k ∙ too-great (n * 10 + (unit - 48)) (drop (i + 1) t) g
-
-drop-all : (t : List ℕ) (i : ℕ) → length t ≤ i → drop i t ≡ []
-drop-all [] zero h = refl
-drop-all [] (suc i) h = refl
-drop-all (x ∷ t) zero h = absurd (omega arith)
-drop-all (x ∷ t) (suc i) h = drop-all t i (omega arith)
 
 pub read-all : (t : List ℕ) (i n : ℕ) → length t ≤ i → n ≤ 4294967294 → read_on n (drop i t) ≡ Some n
 read-all t i n h k = rw (drop-all t i h) (no-more n k)

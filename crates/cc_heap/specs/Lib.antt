@@ -2,3 +2,4 @@ pub mod Store
 pub mod Kinds
 pub mod Table
 pub mod Bridge
+pub mod Found

@@ -11,6 +11,8 @@ ghost use Rattle.cc_heap.specs.Bridge.{held_of};
 ghost use Rattle.cc_heap.specs.Kinds.{code_of, frame_kind_of};
 ghost use Rattle.cc_heap.specs.Store.{code_in, element_in, empty_store, frame_kind_in, slot_named, value_if_found, wanted_in};
 
+mod look_up;
+
 use crate::code::{Code, FrameKind};
 use crate::frame::Frame;
 use crate::object::Object;
@@ -83,15 +85,22 @@ impl Heap {
         }
     }
 
-    /// The object's prototype at this place of its chain, where 0 is the nearest.
+    /// The object's prototypes from the nearest on.
     #[tactic(auto, unfolding(cc_meaning::specs::Store::chain_in))]
+    pub fn chain(&self, object: usize) -> &[usize]
+        ensures { result.now ≡ chain_in (slice_get self.now.objs object) }
+    {
+        match self.object(object) {
+            Some(object) => object.chain(),
+            None => &[],
+        }
+    }
+
+    /// The object's prototype at this place of its chain, where 0 is the nearest.
     pub fn chain_at(&self, object: usize, place: usize) -> Option<usize>
         ensures { result ≡ slice_get (chain_in (slice_get self.now.objs object)) place }
     {
-        match self.object(object) {
-            Some(object) => at(object.chain(), place).copied(),
-            None => None,
-        }
+        at(self.chain(object), place).copied()
     }
 
     /// The object's prototype (ECMA-262 5.1, 8.6.2).
