@@ -1,0 +1,5 @@
+pub mod SlotLaws
+pub mod PlaceLaws
+pub mod NameLaws
+pub mod ElementLaws
+pub mod LookUpLaws

@@ -1,0 +1,5 @@
+pub mod Store
+pub mod Kinds
+pub mod Table
+pub mod Bridge
+pub mod Found
