@@ -1,10 +1,11 @@
 //! Classes and types: which class extends or implements which, and what is of a type. `subtype`
-//! and `instance_of` answer exactly the definitions of specs/Types.antt, and take no memory.
+//! and `instance_of`, `reaches` and `extends` answer exactly the definitions of specs/Types.antt,
+//! and take no memory.
 #![tactic(auto)]
 
 mod search;
 
-ghost use Rattle.std.specs.Prelude.{◌≡◌, ℕ, ◌<◌, length, IsTrue, ◌↔◌};
+ghost use Rattle.std.specs.Prelude.{◌≡◌, ℕ, ◌<◌, length, slice_get, IsTrue, ◌↔◌};
 ghost use Rattle.std.specs.List.{All};
 ghost use Rattle.cc_types.specs.Types.{Ancestor, IsInstance};
 ghost use Rattle.cc_types.specs.Types as Types;
@@ -48,4 +49,44 @@ pub fn instance_of(classes: &[Class], class: u32, type_set: &TypeSet) -> bool
         }
     }
     false
+}
+
+/// What `subtype` tells, of any two numbers: one past the table is no class, though a class may
+/// name it.
+pub fn reaches(classes: &[Class], a: u32, b: u32) -> bool
+    ensures { result ≡ Types.subtype classes.now a b }
+{
+    let count = classes.len();
+    if (a as usize) < count && (b as usize) < count {
+        subtype(classes, a, b)
+    } else {
+        search::climbs(classes, count, a, b)
+    }
+}
+
+#[tactic(auto, unfolding(crate::specs::Types::extended_by))]
+fn extended(classes: &[Class], class: u32) -> Option<u32>
+    ensures { result ≡ Types.extended_by (slice_get classes.now class) }
+{
+    match sqlite_items::at(classes, class as usize) {
+        Some(class) => class.extends,
+        None => None,
+    }
+}
+
+/// Whether the class with number `b` is `a`, or is reached from it by a chain of extends alone.
+pub fn extends(classes: &[Class], a: u32, b: usize) -> bool
+    ensures { result ≡ Types.extends classes.now a b }
+{
+    let mut at = a;
+    for _step in 0..classes.len() {
+        if at as usize == b {
+            return true;
+        }
+        match extended(classes, at) {
+            Some(parent) => at = parent,
+            None => return false,
+        }
+    }
+    at as usize == b
 }
