@@ -11,6 +11,7 @@ ghost use Rattle.cc_heap.specs.Bridge.{held_of};
 ghost use Rattle.cc_heap.specs.Kinds.{code_of, frame_kind_of};
 ghost use Rattle.cc_heap.specs.Store.{code_in, element_in, empty_store, frame_kind_in, slot_named, value_if_found, wanted_in};
 
+mod classes;
 mod look_up;
 
 use crate::code::{Code, FrameKind};
@@ -53,6 +54,11 @@ impl Heap {
             frames: Vec::new(alloc),
             constructed: IndexSet::new(alloc),
         }
+    }
+
+    /// Where the heap takes its memory.
+    pub fn allocator(&self) -> Global {
+        self.alloc
     }
 
     fn object(&self, object: usize) -> Option<&Object>

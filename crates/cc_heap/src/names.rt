@@ -9,7 +9,7 @@ ghost use Rattle.cc_meaning.specs.Operators.{list_eq};
 const GREATEST_INDEX: u64 = 4_294_967_294;
 
 /// Whether a name is this text of ASCII characters.
-pub(crate) fn is_spelled(name: &[u16], text: &[u8]) -> bool
+pub fn is_spelled(name: &[u16], text: &[u8]) -> bool
     ensures { result ≡ list_eq name.now text.now }
 {
     if name.len() != text.len() {
@@ -24,7 +24,7 @@ pub(crate) fn is_spelled(name: &[u16], text: &[u8]) -> bool
 }
 
 /// The index that a name writes, where it writes one.
-pub(crate) fn index_of(name: &[u16]) -> Option<usize>
+pub fn index_of(name: &[u16]) -> Option<usize>
     ensures { result ≡ index_value name.now }
 {
     if name.is_empty() {
@@ -47,7 +47,7 @@ pub(crate) fn index_of(name: &[u16]) -> Option<usize>
 }
 
 /// Whether arrays have a built-in method of this name.
-pub(crate) fn is_array_method(name: &[u16]) -> bool
+pub fn is_array_method(name: &[u16]) -> bool
     ensures { result ≡ is_some (array_method name.now) }
 {
     is_spelled(name, b"push")
