@@ -1,5 +1,5 @@
 -- The act of the meaning for which one of src/ stands.
-use Rattle.std.specs.Prelude.{ℕ, List, map}
+use Rattle.std.specs.Prelude.{map}
 use Rattle.std.specs.Option.{option_map}
 use Rattle.cc_value.specs.Bridge.{value_of}
 use Rattle.cc_meaning.specs.Builtins.{text_char_at, text_char_code_at, text_index_of, text_last_index_of, text_slice, text_substring, math_max, math_min, math_abs, array_push, array_unshift, array_pop, array_shift, array_slice, array_concat, array_join, array_index_of}

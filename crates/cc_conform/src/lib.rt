@@ -6,3 +6,4 @@ pub mod act;
 mod docs;
 mod names;
 mod rules;
+mod types;

@@ -1,4 +1,4 @@
-use Rattle.std.proofs.Common.{◌≡◌, ◌∙◌, Option, slice_get, ap}
+use Rattle.std.proofs.Common.{◌∙◌, Option, slice_get, ap}
 use Rattle.cc_ast.specs.declared.tables.SiteDoc.{SiteDoc}
 use Rattle.cc_meaning.specs.Shapes.{tables_of}
 use Rattle.cc_meaning.specs.Typed.{doc_at, vars_in}

@@ -1,4 +1,4 @@
-use Rattle.std.proofs.Common.{◌≡◌, ◌∙◌, ℕ, Some, slice_get, ap, sym}
+use Rattle.std.proofs.Common.{◌∙◌, ℕ, Some, slice_get, ap, sym}
 use Rattle.cc_ast.specs.Syntax.{Scope, Program}
 use Rattle.cc_meaning.specs.Shapes.{tables_of}
 use Rattle.cc_meaning.specs.Typed.{doc_at}

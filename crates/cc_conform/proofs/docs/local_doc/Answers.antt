@@ -1,4 +1,4 @@
-use Rattle.std.proofs.Common.{◌≡◌, ◌∙◌, ◌-◌, ℕ, slice_get, ap}
+use Rattle.std.proofs.Common.{◌∙◌, ◌-◌, ℕ, slice_get, ap}
 use Rattle.cc_meaning.specs.Shapes.{tables_of}
 use Rattle.cc_meaning.specs.Typed.{doc_at, function_doc, vars_in, variable_doc}
 use Rattle.cc_conform.proofs.docs.local_doc.Goals as goal

@@ -1,4 +1,4 @@
-use Rattle.std.proofs.Common.{◌≡◌, ◌∙◌, slice_get, ap, sym}
+use Rattle.std.proofs.Common.{◌∙◌, slice_get, ap, sym}
 use Rattle.cc_ast.specs.Syntax.{Scope, Program}
 use Rattle.cc_conform.proofs.DocLemmas.{params-Some, params-None}
 use Rattle.cc_conform.proofs.docs.param_count.Goals as goal

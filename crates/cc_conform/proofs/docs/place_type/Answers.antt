@@ -1,4 +1,4 @@
-use Rattle.std.proofs.Common.{◌≡◌, ◌∙◌, List, Option, slice_get, ap}
+use Rattle.std.proofs.Common.{◌∙◌, List, Option, slice_get, ap}
 use Rattle.cc_ast.specs.declared.tables.TypeSet.{TypeSet}
 use Rattle.cc_meaning.specs.Store.{flat_option}
 use Rattle.cc_conform.proofs.docs.place_type.Goals as goal
