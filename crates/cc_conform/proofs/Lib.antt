@@ -1,3 +1,4 @@
 pub mod Loops
 pub mod DocLemmas
 pub mod TypeLemmas
+pub mod SlotLemmas

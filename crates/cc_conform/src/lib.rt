@@ -6,4 +6,5 @@ pub mod act;
 mod docs;
 mod names;
 mod rules;
+mod slots;
 mod types;
