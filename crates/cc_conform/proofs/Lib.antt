@@ -2,3 +2,4 @@ pub mod Loops
 pub mod DocLemmas
 pub mod TypeLemmas
 pub mod SlotLemmas
+pub mod FieldLemmas

@@ -1,9 +1,11 @@
 -- The act of the meaning for which one of src/ stands.
-use Rattle.std.specs.Prelude.{map}
+use Rattle.std.specs.Prelude.{◌≡◌, map}
 use Rattle.std.specs.Option.{option_map}
 use Rattle.cc_value.specs.Bridge.{value_of}
 use Rattle.cc_meaning.specs.Builtins.{text_char_at, text_char_code_at, text_index_of, text_last_index_of, text_slice, text_substring, math_max, math_min, math_abs, array_push, array_unshift, array_pop, array_shift, array_slice, array_concat, array_join, array_index_of}
 use Rattle.cc_meaning.specs.Store.{Access, dotted, quoted, runtime, Use, of_array, of_text, of_math, string_of_value, from_codes, create_object, has_own, call_with}
+use Rattle.cc_meaning.specs.State.{State}
+use Rattle.cc_heap.specs.Store.{Store}
 use Rattle.cc_meaning.specs.Typed.{Variable, global, local, flat}
 use Rattle.cc_meaning.specs.Rules.{Op, unary_op, binary_op, built_op}
 use Rattle.cc_meaning.specs.Judge.{Act, operates, reads, writes, removes, probes, walks, calls, enters, leaves, takes, keeps, reads_this, casts, hosts, calls_inner, answers_with}
@@ -74,3 +76,12 @@ act_of (A.Cast wanted value) = casts wanted (value_of value)
 act_of (A.Host given on name threw) = hosts given (option_map value_of on) name threw
 act_of (A.Inner given) = calls_inner given
 act_of (A.Reply given) = answers_with given
+
+-- a state with what a heap holds
+abbrev pub with_store : State → Store → State
+with_store s h = record s { objs = h.objs; constructed = h.constructed }
+
+-- a heap holds the objects of a state, and the classes constructed
+pub record Holds (s : State) (h : Store) : Type 0 where
+  pub objs : s.objs ≡ h.objs
+  pub constructed : s.constructed ≡ h.constructed

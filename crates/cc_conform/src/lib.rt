@@ -4,6 +4,7 @@
 
 pub mod act;
 mod docs;
+mod fields;
 mod names;
 mod rules;
 mod slots;

@@ -28,7 +28,7 @@ fn reaches_any(classes: &[Class], class: u32, wanted: &[u32]) -> bool
 {
     wanted
         .iter()
-        .any(|above| cc_types::reaches(classes, class, *above))
+        .any(|above| cc_types::reaches(classes, class, *above as usize))
 }
 
 #[tactic(auto, unfolding(cc_meaning::specs::Typed::class_of_any))]

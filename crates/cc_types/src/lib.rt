@@ -28,7 +28,7 @@ pub fn subtype(classes: &[Class], a: u32, b: u32) -> bool
     } else if count <= 1_048_576 {
         search::is_above::<1048576>(classes, a, b)
     } else {
-        search::climbs(classes, count, a, b)
+        search::climbs(classes, count, a, b as usize)
     }
 }
 
@@ -51,16 +51,15 @@ pub fn instance_of(classes: &[Class], class: u32, type_set: &TypeSet) -> bool
     false
 }
 
-/// What `subtype` tells, of any two numbers: one past the table is no class, though a class may
-/// name it.
-pub fn reaches(classes: &[Class], a: u32, b: u32) -> bool
+/// What `subtype` tells, of any number and any place: one past the table is no class, though a
+/// class may name it.
+pub fn reaches(classes: &[Class], a: u32, b: usize) -> bool
     ensures { result ≡ Types.subtype classes.now a b }
 {
     let count = classes.len();
-    if (a as usize) < count && (b as usize) < count {
-        subtype(classes, a, b)
-    } else {
-        search::climbs(classes, count, a, b)
+    match u32::try_from(b) {
+        Ok(above) if (a as usize) < count && b < count => subtype(classes, a, above),
+        _ => search::climbs(classes, count, a, b),
     }
 }
 

@@ -1,6 +1,6 @@
 use Rattle.cc_types.specs.Types.{subtype}
 use Rattle.cc_types.proofs.reaches.Goals as goal
 
-pub returns-else-a-count : goal.returns-else-a-count
+pub returns-in_default : goal.returns-in_default
 unfolding subtype
-returns-else-a-count c = c.climbs.ensures
+returns-in_default c = c.climbs.ensures
