@@ -3,3 +3,5 @@ pub mod PlaceLaws
 pub mod NameLaws
 pub mod ElementLaws
 pub mod LookUpLaws
+pub mod ObjectLaws
+pub mod ChangeLaws

@@ -12,6 +12,7 @@ ghost use Rattle.cc_heap.specs.Kinds.{code_of, frame_kind_of};
 ghost use Rattle.cc_heap.specs.Store.{code_in, element_in, empty_store, frame_kind_in, slot_named, value_if_found, wanted_in};
 
 mod look_up;
+mod write;
 
 use crate::code::{Code, FrameKind};
 use crate::frame::Frame;
