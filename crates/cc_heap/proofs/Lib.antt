@@ -5,3 +5,4 @@ pub mod ElementLaws
 pub mod LookUpLaws
 pub mod ObjectLaws
 pub mod ChangeLaws
+pub mod OperatorLaws

@@ -12,6 +12,7 @@ ghost use Rattle.cc_heap.specs.Kinds.{code_of, frame_kind_of};
 ghost use Rattle.cc_heap.specs.Store.{code_in, element_in, empty_store, frame_kind_in, slot_named, value_if_found, wanted_in};
 
 mod look_up;
+mod operate;
 mod write;
 
 use crate::code::{Code, FrameKind};
@@ -54,6 +55,11 @@ impl Heap {
             frames: Vec::new(alloc),
             constructed: IndexSet::new(alloc),
         }
+    }
+
+    /// Where the heap takes its memory.
+    pub fn allocator(&self) -> Global {
+        self.alloc
     }
 
     fn object(&self, object: usize) -> Option<&Object>
@@ -159,7 +165,7 @@ impl Heap {
         ensures value { option_map (λ slot. slot.now.value) result ≡ find_slot (slots_in (slice_get self.now.objs object)) name.now }
     {
         match self.object(object) {
-            Some(object) => object.slots().get(name),
+            Some(object) => object.slots().get(name.list.as_slice()),
             None => None,
         }
     }

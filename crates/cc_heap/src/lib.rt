@@ -6,7 +6,7 @@
 pub mod code;
 mod frame;
 pub mod heap;
-mod names;
+pub mod names;
 mod object;
 pub mod slot;
 mod slots;

@@ -8,8 +8,11 @@ ghost use Rattle.cc_meaning.specs.Operators.{list_eq};
 /// The greatest index of an element (ECMA-262 5.1, 15.4).
 const GREATEST_INDEX: u64 = 4_294_967_294;
 
+/// `prototype`
+pub(crate) const PROTOTYPE: [u16; 9] = [112, 114, 111, 116, 111, 116, 121, 112, 101];
+
 /// Whether a name is this text of ASCII characters.
-pub(crate) fn is_spelled(name: &[u16], text: &[u8]) -> bool
+pub fn is_spelled(name: &[u16], text: &[u8]) -> bool
     ensures { result ≡ list_eq name.now text.now }
 {
     if name.len() != text.len() {
@@ -24,7 +27,7 @@ pub(crate) fn is_spelled(name: &[u16], text: &[u8]) -> bool
 }
 
 /// The index that a name writes, where it writes one.
-pub(crate) fn index_of(name: &[u16]) -> Option<usize>
+pub fn index_of(name: &[u16]) -> Option<usize>
     ensures { result ≡ index_value name.now }
 {
     if name.is_empty() {
@@ -47,7 +50,7 @@ pub(crate) fn index_of(name: &[u16]) -> Option<usize>
 }
 
 /// Whether arrays have a built-in method of this name.
-pub(crate) fn is_array_method(name: &[u16]) -> bool
+pub fn is_array_method(name: &[u16]) -> bool
     ensures { result ≡ is_some (array_method name.now) }
 {
     is_spelled(name, b"push")

@@ -4,6 +4,8 @@ ghost use Rattle.std.specs.Prelude.{◌≡◌, OnErr, OnOk, Some, is_some, map};
 ghost use Rattle.std.specs.List.{list_any};
 ghost use Rattle.std.specs.Option.{option_map};
 ghost use Rattle.cc_meaning.specs.Acts.{drop_own};
+ghost use Rattle.cc_meaning.specs.Rules.{prototype_object};
+ghost use Rattle.cc_meaning.specs.SlotRules.{prototype_of_function};
 ghost use Rattle.cc_meaning.specs.State.{bare};
 ghost use Rattle.cc_meaning.specs.Store.{find_element, find_own, find_slot, put_own, set_element};
 ghost use Rattle.cc_meaning.specs.Typed.{entered_in, same_element};
@@ -13,8 +15,8 @@ ghost use Rattle.cc_heap.specs.Kinds.{code_of, kind_of};
 ghost use Rattle.cc_heap.specs.Store.{element_place, hides};
 
 use crate::code::Code;
-use crate::names::{index_of, is_array_method, is_spelled};
-use crate::slot::{Held, SlotKind};
+use crate::names::{PROTOTYPE, index_of, is_array_method, is_spelled};
+use crate::slot::{Held, Slot, SlotKind};
 use crate::slots::Slots;
 use cc_ast::tables::Element;
 use cc_ast::units::Units;
@@ -104,10 +106,23 @@ impl Object {
     {
         match self.element_named(name) {
             Some(held) => Some(held),
-            None => match self.slots.get(name) {
+            None => match self.slots.get(name.list.as_slice()) {
                 Some(slot) => Some(Held::Value(&slot.value)),
                 None => None,
             },
+        }
+    }
+
+    /// The object that a function has as its prototype (ECMA-262 5.1, 15.3.5.2).
+    pub(crate) fn prototype(&self) -> Option<usize>
+        ensures { result ≡ prototype_object (prototype_of_function (Some self.now)) }
+    {
+        if self.code.is_none() {
+            return None;
+        }
+        match self.slots.get(&PROTOTYPE) {
+            Some(slot) => object_in(slot),
+            None => None,
         }
     }
 
@@ -228,6 +243,15 @@ fn put_item(items: &mut Items<Value>, place: usize, value: Value) -> Result<(), 
         items.push(value)?;
     }
     Ok(())
+}
+
+fn object_in(slot: &Slot) -> Option<usize>
+    ensures { result ≡ prototype_object (Some slot.now.value) }
+{
+    match &slot.value {
+        Value::Object(number) => Some(*number),
+        _ => None,
+    }
 }
 
 fn is_same_element(a: &Element, b: &Element) -> bool

@@ -56,10 +56,10 @@ impl Slots {
         }
     }
 
-    pub(crate) fn get(&self, name: &Units) -> Option<&Slot>
+    pub(crate) fn get(&self, name: &[u16]) -> Option<&Slot>
         ensures { option_copied result ≡ slot_named self.now name.now }
     {
-        self.by_name.get(name.list.as_slice())
+        self.by_name.get(name)
     }
 
     /// Puts a value under a name. A slot that is there keeps its place and its kind.
