@@ -3,3 +3,6 @@ pub mod PlaceLaws
 pub mod NameLaws
 pub mod ElementLaws
 pub mod LookUpLaws
+pub mod ObjectLaws
+pub mod ChangeLaws
+pub mod OperatorLaws

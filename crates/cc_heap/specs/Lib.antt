@@ -3,3 +3,4 @@ pub mod Kinds
 pub mod Table
 pub mod Bridge
 pub mod Found
+pub mod Answers

@@ -2,7 +2,7 @@
 use Rattle.std.specs.Prelude.{ℕ, Bool, List, [], ◌∷◌, Option, None, Some, is_some, ◌&&◌, slice_get}
 use Rattle.cc_meaning.specs.Values.{Val}
 use Rattle.cc_meaning.specs.Operators.{list_eq}
-use Rattle.cc_meaning.specs.Names.{name_call}
+use Rattle.cc_meaning.specs.Names.{index_value, name_call}
 use Rattle.cc_meaning.specs.Builtins.{array_method}
 use Rattle.cc_meaning.specs.State.{Code, Obj, Slot, FrameKind, Frame}
 use Rattle.cc_meaning.specs.Monad.{pick}
@@ -36,6 +36,11 @@ element_in (Some vs) n = slice_get vs n
 abbrev pub wanted_in : Option Obj → List Element
 wanted_in None = []
 wanted_in (Some o) = o.wanted
+
+-- the place that a name is of an array's elements
+abbrev pub element_place : Option (List Val) → List ℕ → Option ℕ
+element_place None n = None
+element_place (Some vs) n = index_value n
 
 -- the slot with this name
 abbrev pub slot_named : List Slot → List ℕ → Option Slot

@@ -1,6 +1,6 @@
 // A frame.
 
-ghost use Rattle.std.specs.Prelude.{◌≡◌, Some};
+ghost use Rattle.std.specs.Prelude.{◌≡◌, IfOk, None, Some, replicate, slice_set};
 ghost use Rattle.std.specs.Option.{option_map};
 ghost use Rattle.cc_meaning.specs.Acts.{place_in};
 ghost use Rattle.cc_value.specs.Bridge.{value_of};
@@ -9,6 +9,7 @@ ghost use Rattle.cc_heap.specs.Kinds.{frame_kind_of};
 use crate::code::FrameKind;
 use cc_value::value::Value;
 use sqlite_items::Items;
+use std::alloc::{AllocError, Global};
 use std::marker::Model;
 
 /// A frame (ECMA-262 5.1, 10.2.1.1): a place that wasn't set has no value.
@@ -52,5 +53,30 @@ impl Frame {
             Some(place) => place.as_ref(),
             None => None,
         }
+    }
+
+    /// Sets a place, where it is there.
+    pub(crate) fn write(&mut self, at: usize, value: Value)
+        ensures { self.new ≡ record self.old { values = slice_set self.old.values at (Some (value_of value)) } }
+    {
+        if at < self.places.len() {
+            self.places.set(at, Some(value));
+        }
+    }
+
+    /// A frame with so many places, none of which is set.
+    pub(crate) fn with_places(
+        alloc: Global,
+        kind: FrameKind,
+        up: Option<usize>,
+        size: u32,
+    ) -> Result<Frame, AllocError>
+        ensures { IfOk result (λ f. f ≡ record { kind = frame_kind_of kind; up = up; values = replicate size None }) }
+    {
+        let mut places = Items::new(alloc);
+        for _ in 0..size {
+            places.push(None)?;
+        }
+        Ok(Frame { kind, up, places })
     }
 }

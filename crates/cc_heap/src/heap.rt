@@ -13,6 +13,8 @@ ghost use Rattle.cc_heap.specs.Store.{code_in, element_in, empty_store, frame_ki
 
 mod classes;
 mod look_up;
+mod operate;
+mod write;
 
 use crate::code::{Code, FrameKind};
 use crate::frame::Frame;
@@ -164,7 +166,7 @@ impl Heap {
         ensures value { option_map (λ slot. slot.now.value) result ≡ find_slot (slots_in (slice_get self.now.objs object)) name.now }
     {
         match self.object(object) {
-            Some(object) => object.slots().get(name),
+            Some(object) => object.slots().get(name.list.as_slice()),
             None => None,
         }
     }

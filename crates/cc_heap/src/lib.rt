@@ -10,3 +10,5 @@ pub mod names;
 mod object;
 pub mod slot;
 mod slots;
+#[cfg(test)]
+mod tests;

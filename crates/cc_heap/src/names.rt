@@ -8,6 +8,9 @@ ghost use Rattle.cc_meaning.specs.Operators.{list_eq};
 /// The greatest index of an element (ECMA-262 5.1, 15.4).
 const GREATEST_INDEX: u64 = 4_294_967_294;
 
+/// `prototype`
+pub(crate) const PROTOTYPE: [u16; 9] = [112, 114, 111, 116, 111, 116, 121, 112, 101];
+
 /// Whether a name is this text of ASCII characters.
 pub fn is_spelled(name: &[u16], text: &[u8]) -> bool
     ensures { result ≡ list_eq name.now text.now }

@@ -1,6 +1,6 @@
 // The slots of an object, in order of creation.
 
-ghost use Rattle.std.specs.Prelude.{◌≡◌, [], length, slice_get, OnOk, OnErr, is_some};
+ghost use Rattle.std.specs.Prelude.{◌≡◌, [], length, slice_get, OnOk, OnErr, is_some, None};
 ghost use Rattle.std.specs.Option.{option_copied, option_map};
 ghost use Rattle.cc_meaning.specs.Store.{find_slot, set_slot, drop_slot};
 ghost use Rattle.cc_value.specs.Bridge.{value_of};
@@ -56,9 +56,48 @@ impl Slots {
         }
     }
 
-    pub(crate) fn get(&self, name: &Units) -> Option<&Slot>
+    pub(crate) fn get(&self, name: &[u16]) -> Option<&Slot>
         ensures { option_copied result ≡ slot_named self.now name.now }
     {
-        self.by_name.get(name.list.as_slice())
+        self.by_name.get(name)
+    }
+
+    /// Puts a value under a name. A slot that is there keeps its place and its kind.
+    pub(crate) fn put(
+        &mut self,
+        alloc: Global,
+        name: Units,
+        kind: SlotKind,
+        value: Value,
+    ) -> Result<(), AllocError>
+        ensures put { OnOk result (self.new ≡ set_slot self.old name (kind_of kind) (value_of value)) }
+        ensures err { OnErr result (self.new ≡ self.old) }
+    {
+        match self.by_name.get_mut(name.list.as_slice()) {
+            Some(slot) => {
+                slot.value = value;
+                Ok(())
+            }
+            None => self.add(alloc, Slot { name, kind, value }),
+        }
+    }
+
+    // A slot of a name that isn't there.
+    fn add(&mut self, alloc: Global, slot: Slot) -> Result<(), AllocError>
+        requires { slot_named self.old slot.name ≡ None }
+        ensures put { OnOk result (self.new ≡ set_slot self.old slot.name slot.kind slot.value) }
+        ensures err { OnErr result (self.new ≡ self.old) }
+    {
+        let key = Vec::from_slice(alloc, slot.name.list.as_slice())?;
+        self.by_name.insert(key, slot)?;
+        Ok(())
+    }
+
+    /// Removes the slot of a name, and tells whether there was one.
+    pub(crate) fn remove(&mut self, name: &Units) -> bool
+        ensures slots { self.new ≡ drop_slot self.old name.now }
+        ensures had { result ≡ is_some (find_slot self.old name.now) }
+    {
+        self.by_name.shift_remove(name.list.as_slice()).is_some()
     }
 }

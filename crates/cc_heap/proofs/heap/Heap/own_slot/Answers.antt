@@ -9,7 +9,7 @@ use Rattle.cc_heap.proofs.heap.Heap.own_slot.Goals as goal
 pub returns-in-Some-clause-slot : goal.returns-in-Some-clause-slot
 unfolding slots_in
 returns-in-Some-clause-slot c =
-    c.get.ensures ∙ ap (λ (xs : List Slot). slot_named xs c.args.name.now) (c.slots.ensures ∙ sym (ap slots_in (sym c.object.ensures ∙ ap option_copied c.in-Some.is)))
+    c.get.ensures ∙ ap (slot_named c.slots.result.now) (c.as_slice.ensures.value ∙ c.name.view_is) ∙ ap (λ (xs : List Slot). slot_named xs c.args.name.now) (c.slots.ensures ∙ sym (ap slots_in (sym c.object.ensures ∙ ap option_copied c.in-Some.is)))
 
 pub returns-in-Some-clause-value : goal.returns-in-Some-clause-value
 returns-in-Some-clause-value c =

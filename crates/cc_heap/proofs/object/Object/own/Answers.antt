@@ -17,7 +17,7 @@ unfolding find_own first_of
 returns-in-Some-get c =
     let n = c.args.name.now in
     let none : find_element c.args.self.now.elements n ≡ None = sym c.element_named.ensures ∙ ap (option_map held_of) c.in-None.is in
-    let named : slot_named c.args.self.now.slots n ≡ Some c.in-Some-get.slot.now = ap (λ (o : Obj). slot_named o.slots n) (sym c.self.view_is) ∙ sym c.get.ensures ∙ ap option_copied c.in-Some-get.is in
+    let named : slot_named c.args.self.now.slots n ≡ Some c.in-Some-get.slot.now = ap (λ (o : Obj). slot_named o.slots n) (sym c.self.view_is) ∙ sym (c.get.ensures ∙ ap (slot_named c.self.inside.slots) (c.as_slice.ensures.value ∙ c.name.view_is)) ∙ ap option_copied c.in-Some-get.is in
     let slot = sym (find_named c.args.self.now.slots n) ∙ ap (option_map (λ (s : Slot). s.value)) named ∙ ap (λ (s : Slot). Some s.value) (sym c.slot.view_is) in
     sym (λ i. first_of (none i) (slot i))
 
@@ -26,6 +26,6 @@ unfolding find_own first_of
 returns-in-None-get c =
     let n = c.args.name.now in
     let none : find_element c.args.self.now.elements n ≡ None = sym c.element_named.ensures ∙ ap (option_map held_of) c.in-None.is in
-    let named : slot_named c.args.self.now.slots n ≡ None = ap (λ (o : Obj). slot_named o.slots n) (sym c.self.view_is) ∙ sym c.get.ensures ∙ ap option_copied c.in-None-get.is in
+    let named : slot_named c.args.self.now.slots n ≡ None = ap (λ (o : Obj). slot_named o.slots n) (sym c.self.view_is) ∙ sym (c.get.ensures ∙ ap (slot_named c.self.inside.slots) (c.as_slice.ensures.value ∙ c.name.view_is)) ∙ ap option_copied c.in-None-get.is in
     let slot = sym (find_named c.args.self.now.slots n) ∙ ap (option_map (λ (s : Slot). s.value)) named in
     sym (λ i. first_of (none i) (slot i))
