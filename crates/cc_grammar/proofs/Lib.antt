@@ -33,6 +33,7 @@ pub mod CompleteClauses
 pub mod CompleteStatements
 pub mod Complete
 pub mod Alike
+pub mod AlikeExpressions
 pub mod OneReading
 pub mod OnTokens
 pub mod Copies
