@@ -80,7 +80,7 @@ opened_alike (suc m) (suc u) count lt = alike_look _ _ (λ t. alike_fork (is_mar
 
 -- ---- behind the look ahead
 
-at_zero : {v : Bool} {i j : Symbols} → s.closed 0 i ≡ Ok (v, j) → i ≡ j
+pub at_zero : {v : Bool} {i j : Symbols} → s.closed 0 i ≡ Ok (v, j) → i ≡ j
 unfolding r.closed
 at_zero {v} {i} {j} e = let pairs : ◌≡◌ {A = Bool × Symbols} (not (goes_on (look i)), i) (v, j) = cc in ap (λ (p : Bool × Symbols). p.1) pairs
 

@@ -34,6 +34,9 @@ pub mod CompleteStatements
 pub mod Complete
 pub mod Alike
 pub mod AlikeExpressions
+pub mod Following
+pub mod AlikeStatements
+pub mod NoFront
 pub mod OneReading
 pub mod OnTokens
 pub mod Copies
