@@ -110,6 +110,9 @@ alike_pure a = record { decides = λ before t. stops before a (λ xs. refl) (λ 
 pub alike_err : {A : Type 0} (c d : Fault) → Alike {A = A} (λ i. Err (c, i)) (λ i. Err (d, i))
 alike_err c d = record { decides = λ before t. barred (λ xs. is_err); walks = whole }
 
+pub alike_refuse : {A : Type 0} (c : Construct) (p : Place) → Alike {A = A} (r.refuse Symbols look rest semicolon_symbol c p) (r.refuse Symbols look rest semicolon_symbol c p)
+alike_refuse c p = alike_err (record { cause = refused c; place = p }) (record { cause = refused c; place = p })
+
 pub alike_look : {A : Type 0} (p q : Lexeme → s.Reader A) → ((x : Lexeme) → Alike (p x) (q x)) → Alike (λ i. p (look i) i) (λ i. q (look i) i)
 alike_look p q h = record {
   decides = elim [ [] ↦ λ t. seen [] t (lexeme_of t) (λ xs. refl) ((h (lexeme_of t)).decides [] t) | m ∷ before ↦ λ t. seen (m ∷ before) t (lexeme_of m) (λ xs. refl) ((h (lexeme_of m)).decides (m ∷ before) t) ];

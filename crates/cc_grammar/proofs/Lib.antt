@@ -34,6 +34,10 @@ pub mod CompleteClauses
 pub mod CompleteStatements
 pub mod Complete
 pub mod Alike
+pub mod AlikeExpressions
+pub mod Following
+pub mod AlikeStatements
+pub mod NoFront
 pub mod OneReading
 pub mod Copies
 pub mod CopySteps
