@@ -20,7 +20,7 @@ just_after q f w j = each_map (StopsAt q) (StopsAt (λ xs. and_then (q xs) f)) w
 each_shown : {us vs : L} (t : Lexeme) (v : Copy us vs) → Each (λ ws xs. Shows xs (t ∷ us)) (take t v)
 each_shown {us} t v = each_map (λ ws xs. lexemes_of xs ≡ us) (λ ws xs. Shows (real t ∷ xs) (t ∷ us)) v (λ ws xs h. (ap (λ vs. t ∷ vs) h, refl)) (each_lexemes v)
 
-shows_real : (us : L) → Shows (map real us) us
+pub shows_real : (us : L) → Shows (map real us) us
 shows_real us = (lexemes_real us, look_real us)
 
 -- which symbols may follow are those with the tokens that follow
@@ -147,6 +147,11 @@ pub split : {A : Type 0} {late : Bool} {F : Symbols → L → Type 0} (b : Bool)
     → (b ≡ true → Headed late F (λ xs. p (f xs)) t us (P ts)) → (b ≡ false → Headed late F (λ xs. q (f xs)) t us (Q ts)) → Headed late F (λ xs. cond b p q (f xs)) t us (cond b P Q ts)
 split true p q P Q h l = h refl
 split false p q P Q h l = l refl
+
+pub split_copies : {A : Type 0} {late : Bool} {F : Symbols → L → Type 0} (b : Bool) (p q : Symbols → Outcome Symbols A) (P Q : L → Outcome L A) {ts : L}
+    → (b ≡ true → Copies late F p ts (P ts)) → (b ≡ false → Copies late F q ts (Q ts)) → Copies late F (λ xs. cond b p q xs) ts (cond b P Q ts)
+split_copies true p q P Q f h = f refl
+split_copies false p q P Q f h = h refl
 
 pub split_outcome : {A : Type 0} {late : Bool} {F : Symbols → L → Type 0} (b : Bool) (p q : Symbols → Outcome Symbols A) {t : Lexeme} {us : L} {o u : Outcome L A}
     → (b ≡ true → Headed late F p t us o) → (b ≡ false → Headed late F q t us u) → Headed late F (λ xs. cond b (p xs) (q xs)) t us (cond b o u)

@@ -31,3 +31,5 @@ pub mod Copies
 pub mod CopySteps
 pub mod CopyLists
 pub mod CopyAhead
+pub mod CopyPrimary
+pub mod CopyExpressions
