@@ -94,7 +94,7 @@ quiet xs us h = h
 pub shows : Fits Shows
 shows xs us h = h.0
 
-pub copies_pure : {A : Type 0} (late : Bool) (a : A) (ts : L) → Copies late Quiet (λ xs. Ok (a, xs)) ts (Ok (a, ts))
+pub copies_pure : {A : Type 0} {F : Symbols → L → Type 0} (late : Bool) (a : A) (ts : L) → Copies late F (λ xs. Ok (a, xs)) ts (Ok (a, ts))
 copies_pure late a ts = read end (λ xs h. refl) tt (kept_end late ts)
 
 -- ---- decisions by the next token
@@ -161,6 +161,12 @@ split_outcome false p q h l = l refl
 -- where there is no token
 pub at_end : {A : Type 0} {late : Bool} {F : Symbols → L → Type 0} {p : Symbols → Outcome Symbols A} {o : Outcome L A} (q : Symbols → Outcome Symbols A) → Starts late F p [] o → q [] ≡ p [] → Starts late F q [] o
 at_end q (halts_end e) h = halts_end (h ∙ e)
+
+-- by whether there is a token
+pub copies_first : {A B : Type 0} {late : Bool} {F : Symbols → L → Type 0} (g : A → Symbols → Outcome Symbols B) (f : A → L → Outcome L B) → ((a : A) → Starts late F (g a) [] (f a []))
+    → ((a : A) (t : Lexeme) (us : L) → Headed late F (λ xs. g a (real t ∷ xs)) t us (f a (t ∷ us))) → (a : A) (us : L) → Copies late F (g a) us (f a us)
+copies_first g f e h a [] = started (e a)
+copies_first g f e h a (t ∷ us) = went (h a t us)
 
 -- a reader that takes nothing where a test is true
 pub fork_shows : {A : Type 0} {late : Bool} (b : Lexeme → Bool) (a : A) (q : Symbols → Outcome Symbols A) (Q : L → Outcome L A) (ts : L)

@@ -33,3 +33,4 @@ pub mod CopyLists
 pub mod CopyAhead
 pub mod CopyPrimary
 pub mod CopyExpressions
+pub mod CopyStatements
