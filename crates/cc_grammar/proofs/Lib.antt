@@ -34,3 +34,4 @@ pub mod CopyAhead
 pub mod CopyPrimary
 pub mod CopyExpressions
 pub mod CopyStatements
+pub mod CopyJumps
