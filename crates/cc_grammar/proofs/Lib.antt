@@ -35,3 +35,4 @@ pub mod CopyPrimary
 pub mod CopyExpressions
 pub mod CopyStatements
 pub mod CopyJumps
+pub mod CopyPrograms
