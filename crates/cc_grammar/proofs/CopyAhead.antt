@@ -21,7 +21,7 @@ use Rattle.cc_grammar.proofs.Shrinks.{reals}
 use Rattle.cc_grammar.proofs.Ahead.{Spared, spared, remedied}
 use Rattle.cc_grammar.proofs.SoundParts.{SoundInner}
 use Rattle.cc_grammar.proofs.Copies.{L, Copy, end, take, insert, put, Each, each_map, Late, Kept, StopsAt, Copies, read, stop, Quiet, Shows, Headed, goes, went, started, look_real}
-use Rattle.cc_grammar.proofs.CopySteps.{shows, copies_pure, by_taking, by_none, absent, fork, stops_here}
+use Rattle.cc_grammar.proofs.CopySteps.{shows, copies_pure, by_taking, by_none, absent, fork, split_copies, stops_here}
 use Rattle.cc_grammar.proofs.OnSymbols as s
 use Rattle.cc_grammar.proofs.OnTokens as t
 
@@ -161,11 +161,6 @@ same_shown q (read (insert m v) e j k) h = absurd k
 same_shown q (stop (end {us}) e j k) h = stop end (h (map real us) (look_real us) ∙ e) tt tt
 same_shown {p} q (stop {us} (take w v) e j k) h = stop (take w v) (h (real w ∷ put v (map real us)) refl ∙ e) (each_map (λ vs xs. StopsAt p vs (real w ∷ xs)) (λ vs xs. StopsAt q vs (real w ∷ xs)) v (λ vs xs z. h (real w ∷ xs) refl ∙ z) j) k
 same_shown q (stop (insert m v) e j k) h = absurd k
-
-split_copies : {A : Type 0} {late : Bool} {F : Symbols → L → Type 0} (b : Bool) (p q : Symbols → Outcome Symbols A) (P Q : L → Outcome L A) {ts : L}
-    → (b ≡ true → Copies late F p ts (P ts)) → (b ≡ false → Copies late F q ts (Q ts)) → Copies late F (λ xs. cond b p q xs) ts (cond b P Q ts)
-split_copies true p q P Q f h = f refl
-split_copies false p q P Q f h = h refl
 
 -- the look ahead, by its first token
 abbrev Opening : ℕ → ℕ → Lexeme → Symbols → Outcome Symbols Bool

@@ -51,7 +51,7 @@ params_of_copy late turns (t ∷ us) = starts (split (is_mark mark.CloseParen t.
 -- what stands inside goes alike
 pub record CopyInner (inner : In) (outer : t.In) : Type 0 where
   pub expr : (n : Bool) (l : ℕ) (ts : L) → Starts true Quiet (inner.expr n l) ts (outer.expr n l ts)
-  pub stmt : (c : Context) (ts : L) → Copies false Quiet (inner.stmt c) ts (outer.stmt c ts)
+  pub stmt : (c : Context) (ts : L) → Starts false Quiet (inner.stmt c) ts (outer.stmt c ts)
 
 module _ (d turns : ℕ) (inner : In) (outer : t.In) (alike : CopyInner inner outer) where
   pub elements_copy : (m : ℕ) (before : List RawExpr) (h : ℕ) (ts : L) → Starts true Quiet (s.elements d turns inner m before h) ts (t.elements d turns outer m before h ts)
@@ -102,7 +102,7 @@ module _ (d turns : ℕ) (inner : In) (outer : t.In) (alike : CopyInner inner ou
   unfolding r.list
   list_copy c zero before h ts = started (stops_here false r.spent ts)
   list_copy c (suc m) before h ts = fork_shows (λ t. ends_list t.kind) (before, h) _ _ ts
-      (λ _. by_none refl (copies_after _ _ shows (alike.stmt c ts) (λ x us. list_copy c m (before ++ x.0) (max h x.1) us)))
+      (λ _. by_none refl (copies_after _ _ shows (started (alike.stmt c ts)) (λ x us. list_copy c m (before ++ x.0) (max h x.1) us)))
 
   pub body_copy : (c : Context) (ts : L) → Copies false Quiet (s.body d turns inner c) ts (t.body d turns outer c ts)
   unfolding r.body

@@ -20,7 +20,7 @@ just_after q f w j = each_map (StopsAt q) (StopsAt (λ xs. and_then (q xs) f)) w
 each_shown : {us vs : L} (t : Lexeme) (v : Copy us vs) → Each (λ ws xs. Shows xs (t ∷ us)) (take t v)
 each_shown {us} t v = each_map (λ ws xs. lexemes_of xs ≡ us) (λ ws xs. Shows (real t ∷ xs) (t ∷ us)) v (λ ws xs h. (ap (λ vs. t ∷ vs) h, refl)) (each_lexemes v)
 
-shows_real : (us : L) → Shows (map real us) us
+pub shows_real : (us : L) → Shows (map real us) us
 shows_real us = (lexemes_real us, look_real us)
 
 -- which symbols may follow are those with the tokens that follow
@@ -94,7 +94,7 @@ quiet xs us h = h
 pub shows : Fits Shows
 shows xs us h = h.0
 
-pub copies_pure : {A : Type 0} (late : Bool) (a : A) (ts : L) → Copies late Quiet (λ xs. Ok (a, xs)) ts (Ok (a, ts))
+pub copies_pure : {A : Type 0} {F : Symbols → L → Type 0} (late : Bool) (a : A) (ts : L) → Copies late F (λ xs. Ok (a, xs)) ts (Ok (a, ts))
 copies_pure late a ts = read end (λ xs h. refl) tt (kept_end late ts)
 
 -- ---- decisions by the next token
@@ -148,6 +148,11 @@ pub split : {A : Type 0} {late : Bool} {F : Symbols → L → Type 0} (b : Bool)
 split true p q P Q h l = h refl
 split false p q P Q h l = l refl
 
+pub split_copies : {A : Type 0} {late : Bool} {F : Symbols → L → Type 0} (b : Bool) (p q : Symbols → Outcome Symbols A) (P Q : L → Outcome L A) {ts : L}
+    → (b ≡ true → Copies late F p ts (P ts)) → (b ≡ false → Copies late F q ts (Q ts)) → Copies late F (λ xs. cond b p q xs) ts (cond b P Q ts)
+split_copies true p q P Q f h = f refl
+split_copies false p q P Q f h = h refl
+
 pub split_outcome : {A : Type 0} {late : Bool} {F : Symbols → L → Type 0} (b : Bool) (p q : Symbols → Outcome Symbols A) {t : Lexeme} {us : L} {o u : Outcome L A}
     → (b ≡ true → Headed late F p t us o) → (b ≡ false → Headed late F q t us u) → Headed late F (λ xs. cond b (p xs) (q xs)) t us (cond b o u)
 split_outcome true p q h l = h refl
@@ -156,6 +161,12 @@ split_outcome false p q h l = l refl
 -- where there is no token
 pub at_end : {A : Type 0} {late : Bool} {F : Symbols → L → Type 0} {p : Symbols → Outcome Symbols A} {o : Outcome L A} (q : Symbols → Outcome Symbols A) → Starts late F p [] o → q [] ≡ p [] → Starts late F q [] o
 at_end q (halts_end e) h = halts_end (h ∙ e)
+
+-- by whether there is a token
+pub copies_first : {A B : Type 0} {late : Bool} {F : Symbols → L → Type 0} (g : A → Symbols → Outcome Symbols B) (f : A → L → Outcome L B) → ((a : A) → Starts late F (g a) [] (f a []))
+    → ((a : A) (t : Lexeme) (us : L) → Headed late F (λ xs. g a (real t ∷ xs)) t us (f a (t ∷ us))) → (a : A) (us : L) → Copies late F (g a) us (f a us)
+copies_first g f e h a [] = started (e a)
+copies_first g f e h a (t ∷ us) = went (h a t us)
 
 -- a reader that takes nothing where a test is true
 pub fork_shows : {A : Type 0} {late : Bool} (b : Lexeme → Bool) (a : A) (q : Symbols → Outcome Symbols A) (Q : L → Outcome L A) (ts : L)
