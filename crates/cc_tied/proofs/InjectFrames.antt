@@ -7,7 +7,7 @@ use Rattle.cc_ast.specs.declared.tree.Ref.{Ref}
 use Rattle.cc_meaning.specs.Values.{Val, Spot}
 use Rattle.cc_meaning.specs.Builtins.{or_undefined}
 use Rattle.cc_meaning.specs.State.{Frame, Env, Path, State, Tables}
-use Rattle.cc_meaning.specs.Monad.{ret, ◌>>=◌, with_tables}
+use Rattle.cc_meaning.specs.Monad.{M, ret, ◌>>=◌, with_tables}
 use Rattle.cc_meaning.specs.Store.{Global, extern, built_in, of_chunk, global_kind, up_in, frame_up, frame_at, flat_option}
 use Rattle.cc_meaning.specs.Typed.{Variable, global, local, variable_type, of_opt_type}
 use Rattle.cc_meaning.specs.Rules.{take_rule, keep_rule}
@@ -77,9 +77,12 @@ module _ (F : Facts) (S : Tables) (set' : List (Path × ℕ)) where
   unfolding take_rule
   take_none x l e d = rw (← e, ← is_settled_same S set' x) d
 
-  pub take_t : {w : W} (i i' : Spot) (x : Variable) (l : Bool) {b b' : Bool} {u v : Val} → b ≡ b' → Vals w.w u v → Sim T (λ z. Vals z.w) w (judged checked i (takes x l b) (ret u)) (judged checked i' (takes x l b') (ret v))
+  pub take_then : {A B : Type 0} {Q : W → A → B → Type 0} {w : W} (i i' : Spot) (x : Variable) (l : Bool) {b b' : Bool} (m : M A) (m' : M B) → b ≡ b' → Sim T Q w m m' → Sim T Q w (judged checked i (takes x l b) m) (judged checked i' (takes x l b') m')
   unfolding least_broken
-  take_t i i' x l {b = b} {b' = b'} e h = judged_i F S set' i i' (takes x l b) (takes x l b') _ _ (λ s t ti d. take_none x l e d) (sim_ret T _ _ h)
+  take_then i i' x l {b = b} {b' = b'} m m' e h = judged_i F S set' i i' (takes x l b) (takes x l b') m m' (λ s t ti d. take_none x l e d) h
+
+  take_t : {w : W} (i i' : Spot) (x : Variable) (l : Bool) {b b' : Bool} {u v : Val} → b ≡ b' → Vals w.w u v → Sim T (λ z. Vals z.w) w (judged checked i (takes x l b) (ret u)) (judged checked i' (takes x l b') (ret v))
+  take_t i i' x l e h = take_then i i' x l _ _ e (sim_ret T _ _ h)
 
   read_kind_t : {w : W} (i i' : Spot) (l : Level) (n : ℕ) {u v : Option Val} → OptT (Vals w.w) u v → Sim T (λ z. Vals z.w) w (read_by_kind checked i (frame_kind l) n u) (read_by_kind checked i' (frame_kind l) n v)
   unfolding read_by_kind frame_kind

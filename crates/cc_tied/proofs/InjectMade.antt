@@ -174,13 +174,13 @@ module _ (F : Facts) (S : Tables) (set' : List (Path × ℕ)) where
         (subst (λ z. Vals V (obj (length (s.objs ++ bare ∷ []))) (obj z)) (one_longer t.objs bare)
         (obj_t (Some c, here)))
 
-  plain_function_t : {w : W} (f i i' : ℕ) {u u' : Option ℕ} → UpT F S w.w (outward F S (called f)) u u' → Sim T (λ v. Vals v.w) w (add_function f i u) (add_function f i' u')
+  plain_function_t : {w : W} (f i i' : ℕ) {u u' : Option ℕ} → F.Reached f → UpT F S w.w (outward F S (called f)) u u' → Sim T (λ v. Vals v.w) w (add_function f i u) (add_function f i' u')
   unfolding add_function ret
-  plain_function_t {w = w} f i i' {u = u} {u' = u'} up s t ti le le' =
+  plain_function_t {w = w} f i i' {u = u} {u' = u'} r up s t ti le le' =
       let c : Code = record { function = f; up = u; site = i } in let c' : Code = record { function = f; up = u'; site = i' } in
       let e : Ext w.w (made_world w.w c s t w.w.frames) = record { objs = λ q h. there (there h); frames = λ q h. h; spare = λ q h. h; alone = λ q h. h } in
       ok_t refl (record { l = w.l; r = w.r; w = made_world w.w c s t w.w.frames }) (omega arith, omega arith, e) tt (function_vals ti c c' w.w.frames s.frames t.frames)
-      (function_tied ti c c' w.w.frames s.frames t.frames e (record { function = refl; up = up_more F S e up; site = tt }) (table_more ti.frames (frame_more F S e))) le le'
+      (function_tied ti c c' w.w.frames s.frames t.frames e (record { function = record { same = refl; reached = r }; up = up_more F S e up; site = tt }) (table_more ti.frames (frame_more F S e))) le le'
 
   own_label : (f : ℕ) (u u' : Option ℕ) → State → Label
   own_label f u u' s = record { level = named f; up = u; up' = u'; first = Some (obj (suc (length s.objs))) ∷ [] }
@@ -200,26 +200,26 @@ module _ (F : Facts) (S : Tables) (set' : List (Path × ℕ)) where
   unfolding own_label own_frame Rattle.cc_tied.specs.Facts.frame_kind
   own_frame_tied f s t up v = record { kind = refl; kind' = refl; up = refl; up' = refl; around = own_around f up; places = places_of_list (cons_t (some_t v) nil_t); fixed = λ n d. refl }
 
-  named_function_t : {w : W} (f i i' : ℕ) {u u' : Option ℕ} → owns S f ≡ true → UpT F S w.w (around_function F f) u u' → Sim T (λ v. Vals v.w) w (add_function_by true f i u) (add_function_by true f i' u')
+  named_function_t : {w : W} (f i i' : ℕ) {u u' : Option ℕ} → F.Reached f → owns S f ≡ true → UpT F S w.w (around_function F f) u u' → Sim T (λ v. Vals v.w) w (add_function_by true f i u) (add_function_by true f i' u')
   unfolding add_function_by add_function push_frame ret ◌>>=◌ after said own_label own_frame
-  named_function_t {w = w} f i i' {u = u} {u' = u'} o up s t ti le le' =
+  named_function_t {w = w} f i i' {u = u} {u' = u'} r o up s t ti le le' =
       let c : Code = record { function = f; up = Some (length s.frames); site = i } in let c' : Code = record { function = f; up = Some (length t.frames); site = i' } in
       let q : Pair Label = record { label = own_label f u u' s; left = length s.frames; right = length t.frames } in
       let v : Tabs = made_world w.w c s t (q ∷ w.w.frames) in
       let e : Ext w.w v = record { objs = λ q h. there (there h); frames = λ q h. there h; spare = λ q h. h; alone = λ q h. h } in
       let k : UpT F S v (outward F S (called f)) (Some (length s.frames)) (Some (length t.frames)) = subst (λ z. UpT F S v z (Some (length s.frames)) (Some (length t.frames))) (sym (own_up f o)) (an_up (own_label f u u' s) refl here) in
       ok_t refl (record { l = w.l; r = w.r; w = v }) (omega arith, omega arith, e) tt (function_vals ti c c' (q ∷ w.w.frames) s.frames t.frames)
-      (function_tied ti c c' (q ∷ w.w.frames) (s.frames ++ own_frame s u ∷ []) (t.frames ++ own_frame t u' ∷ []) e (record { function = refl; up = k; site = tt })
+      (function_tied ti c c' (q ∷ w.w.frames) (s.frames ++ own_frame s u ∷ []) (t.frames ++ own_frame t u' ∷ []) e (record { function = record { same = refl; reached = r }; up = k; site = tt })
       (add_both (table_more ti.frames (frame_more F S e)) (own_label f u u' s) (own_frame s u) (own_frame t u') (own_frame_tied f s t (up_more F S e up) (function_vals ti c c' (q ∷ w.w.frames) s.frames t.frames)))) le le'
 
   plain_up : (f : ℕ) → owns S f ≡ false → outward F S (called f) ≡ around_function F f
   unfolding outward
   plain_up f e = rw e refl
 
-  function_by : {w : W} (b : Bool) (f i i' : ℕ) {u u' : Option ℕ} → owns S f ≡ b → UpT F S w.w (around_function F f) u u' → Sim T (λ v. Vals v.w) w (add_function_by b f i u) (add_function_by b f i' u')
+  function_by : {w : W} (b : Bool) (f i i' : ℕ) {u u' : Option ℕ} → F.Reached f → owns S f ≡ b → UpT F S w.w (around_function F f) u u' → Sim T (λ v. Vals v.w) w (add_function_by b f i u) (add_function_by b f i' u')
   unfolding add_function_by
-  function_by {w = w} false f i i' {u = u} {u' = u'} e up s t ti le le' = plain_function_t f i i' (subst (λ z. UpT F S w.w z u u') (sym (plain_up f e)) up) s t ti le le'
-  function_by true f i i' e up s t ti le le' = named_function_t f i i' e up s t ti le le'
+  function_by {w = w} false f i i' {u = u} {u' = u'} r e up s t ti le le' = plain_function_t f i i' r (subst (λ z. UpT F S w.w z u u') (sym (plain_up f e)) up) s t ti le le'
+  function_by true f i i' r e up s t ti le le' = named_function_t f i i' r e up s t ti le le'
 
   around_is : (f : ℕ) {o : Option ℕ} {c : ℕ} → (F.parent f).0 ≡ o → (F.parent f).1 ≡ c → innermost o c ≡ around_function F f
   unfolding around_function
@@ -231,7 +231,7 @@ module _ (F : Facts) (S : Tables) (set' : List (Path × ℕ)) where
 
   pub function_t : {w : W} {c : Rattle.cc_tied.proofs.InjectTie.Ctx} {g h : Env} {f f' : ℕ} (i i' : ℕ) → StandI F c f f' → EnvI F S w.w c g h → Sim T (λ v. Vals v.w) w (make_function f i g) (make_function f' i' h)
   unfolding make_function
-  function_t {w = w} {g = g} {h = h} i i' (stands_at {f = f} p q) (env_at u t d) = sim_tables T _ _ (function_by (has_own_name (slice_get S.heads f)) f i i' (owns_by f) (subst (λ z. UpT F S w.w z g.at h.at) (around_is f p q) u))
+  function_t {w = w} {g = g} {h = h} i i' (stands_at {f = f} r p q) (env_at u t d) = sim_tables T _ _ (function_by (has_own_name (slice_get S.heads f)) f i i' r (owns_by f) (subst (λ z. UpT F S w.w z g.at h.at) (around_is f p q) u))
 
   -- ---- instances
 
@@ -265,4 +265,4 @@ module _ (F : Facts) (S : Tables) (set' : List (Path × ℕ)) where
       (record s { constructed = note_constructed (class_of_function s.tables f) s.constructed }) (record t { constructed = note_constructed (class_of_function t.tables f) t.constructed }) (with_constructed _ _ c ti) le le'
 
   pub instance_t : {w : W} {m n : ℕ} {a b : Code} → Mates w.w m n → Codes F S w.w a b → Sim T (λ v. Vals v.w) w (make_instance m a.function) (make_instance n b.function)
-  instance_t {a = a} o h = rw (← h.function) (instance_one o a.function)
+  instance_t {a = a} o h = rw (← h.function.same) (instance_one o a.function)

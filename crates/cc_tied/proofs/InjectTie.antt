@@ -17,7 +17,7 @@ use Rattle.cc_tied.specs.Injection.{Pair, Table}
 use Rattle.cc_tied.proofs.Sim.{Tie, World, PayT, both_pay, neither, excuse}
 use Rattle.cc_tied.proofs.EqualModes.{SameEnd, same_end}
 use Rattle.cc_tied.proofs.InjectPlaces.{Places}
-use Rattle.cc_tied.proofs.InjectWorld.{Tabs, Ext, ext_same, ext_on, Mates, Mate, mates_more, Vals, val_more, opt_more, UpT, no_up, up_more, Codes, ObjT, FrameT, KnownT}
+use Rattle.cc_tied.proofs.InjectWorld.{Tabs, Ext, ext_same, ext_on, Mates, Mate, mates_more, Vals, val_more, opt_more, UpT, no_up, up_more, FunI, Codes, ObjT, FrameT, KnownT}
 
 -- the prototype p of a function that stands in no pair stands in none, and it is there
 abbrev pub Owned : List (Pair (Option Code)) → List Obj → (m p : ℕ) → Type 0
@@ -50,7 +50,7 @@ pub data EnvI (F : Facts) (S : Tables) (w : Tabs) : Ctx → Env → Env → Type
 
 module _ (F : Facts) where
   pub data StandI : Ctx → ℕ → ℕ → Type 0 where
-    stands_at : {o : Option ℕ} {c f : ℕ} → (F.parent f).0 ≡ o → (F.parent f).1 ≡ c → StandI (at o c) f f
+    stands_at : {o : Option ℕ} {c f : ℕ} → F.Reached f → (F.parent f).0 ≡ o → (F.parent f).1 ≡ c → StandI (at o c) f f
 
   module _ (S : Tables) where
     pub data ReadI : Ctx → Ref → Ref → Type 0 where
@@ -160,7 +160,7 @@ module _ (F : Facts) (S : Tables) (set' : List (Path × ℕ)) where
     SpotT = λ i j. Unit {0};
     spot_turn = λ n. tt;
     faults = λ i r. excuse tt;
-    FunT = λ f f'. f ≡ f';
+    FunT = FunI F S;
     StandT = StandI F;
     ReadT = ReadI F S;
     WriteT = WriteI F S;

@@ -103,8 +103,13 @@ module _ (F : Facts) (S : Tables) where
     no_up : UpT w None None None
     an_up : (l : Label) {k : Level} {m n : ℕ} → l.level ≡ k → In (record { label = l; left = m; right = n }) w.frames → UpT w (Some k) (Some m) (Some n)
 
+  -- one function, which is reached
+  pub record FunI (f f' : ℕ) : Type 0 where
+    pub same : f ≡ f'
+    pub reached : F.Reached f
+
   abbrev pub Codes : Tabs → Code → Code → Type 0
-  Codes w = CodeT (λ i j. Unit {0}) (λ f f'. f ≡ f') (λ f f' a b. UpT w (outward F S (Rattle.cc_tied.specs.Facts.called f)) a b)
+  Codes w = CodeT (λ i j. Unit {0}) FunI (λ f f' a b. UpT w (outward F S (Rattle.cc_tied.specs.Facts.called f)) a b)
 
   -- Classes, element types and names are the same, but the left array may have more element types entered.
   pub record ObjT (w : Tabs) (x : Option Code) (a b : Obj) : Type 0 where

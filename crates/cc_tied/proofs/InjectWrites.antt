@@ -165,7 +165,7 @@ module _ (F : Facts) (S : Tables) (set' : List (Path × ℕ)) where
   same_function : {w : Tabs} {c d : Option Code} → OptT (Codes F S w) c d → (f : ℕ) → has_function c f ≡ has_function d f
   unfolding has_function
   same_function none_t f = refl
-  same_function (some_t h) f = ap (λ z. nat_eq z f) h.function
+  same_function (some_t h) f = ap (λ z. nat_eq z f) h.function.same
 
   prototype_is : (o : Obj) (f p : ℕ) → has_function o.code f ≡ true → is_object (find_slot o.slots name_prototype) p ≡ true → prototype_of_function (Some o) ≡ Some (obj p)
   unfolding prototype_of_function
@@ -243,7 +243,7 @@ module _ (F : Facts) (S : Tables) (set' : List (Path × ℕ)) where
   unfolding code_rule
   code_none ti a b at none_t n v d d' k e = refl
   code_none {s = s} {t = t} ti a b at (some_t {a = c} {b = c'} h) n {x = x} {y = y} v d d' k e =
-      pick_rule (list_eq n name_prototype) (λ q. none_unless 12 (subst (λ z. declares_well R t (Some b) z y d' ≡ true) (class_same c.function ∙ ap (λ z. class_of_function R z) h.function) (declares_true ti at (class_of_function S c.function) v d d' k (unless_none _ 12 q)))) e
+      pick_rule (list_eq n name_prototype) (λ q. none_unless 12 (subst (λ z. declares_well R t (Some b) z y d' ≡ true) (class_same c.function ∙ ap (λ z. class_of_function R z) h.function.same) (declares_true ti at (class_of_function S c.function) v d d' k (unless_none _ 12 q)))) e
 
   prototype_none : {w : Tabs} {s t : State} → Tied w s t → {a b : Option Obj} → ObjAt F S w a b → (n : List ℕ) {x y : Val} → Vals w x y → (d d' : Bool) → (d ≡ true → d' ≡ true) → prototype_rule S s a n x d ≡ None → prototype_rule R t b n y d' ≡ None
   unfolding prototype_rule
@@ -259,12 +259,16 @@ module _ (F : Facts) (S : Tables) (set' : List (Path × ℕ)) where
       (none_least (field_none F S set' ti o k c c _ _ v u.0 r.0)
       (none_least (slots_none S set' k c (slots_at F S w at) u.0) (prototype_none ti at c v d d' j u.1))))
 
+  pub out_none : (s t : State) (n : ℕ) {a b : Access} → KeyI a b → (x y : Val) (d d' : Bool) → write_rule S s (out n) a x d ≡ None → write_rule R t (out n) b y d' ≡ None
+  unfolding write_rule
+  out_none s t n k x y d d' e = let p = least_none _ _ e in none_least (subst (λ z. rule_if (list_eq z name_proto) 2 ≡ None) (name_same S set' k) p.0) (outside_none S set' k p.1)
+
   pub write_none : {w : Tabs} {s t : State} → Tied w s t → {x y : Val} → Vals w x y → {a b : Access} → KeyI a b → {u v : Val} → Vals w u v → (d d' : Bool) → (d ≡ true → d' ≡ true) → write_rule S s x a u d ≡ None → write_rule R t y b v d' ≡ None
   unfolding write_rule
   write_none {t = t} ti (obj_t {n = n} o) {a = a} {b = b} k {v = v} h d d' j e =
       let p = least_none _ _ e in
       none_least (subst (λ z. rule_if (list_eq z name_proto) 2 ≡ None) (name_same S set' k) p.0) (subst (λ z. object_write R t n b z v d' ≡ None) (name_same S set' k) (object_write_none ti o k (name_of S a) h d d' j p.1))
-  write_none ti out_t k h d d' j e = let p = least_none _ _ e in none_least (subst (λ z. rule_if (list_eq z name_proto) 2 ≡ None) (name_same S set' k) p.0) (outside_none S set' k p.1)
+  write_none {s = s} {t = t} ti (out_t {n = n}) k {u = u} {v = v} h d d' j e = out_none s t n k u v d d' e
   write_none ti prim_t k h d d' j e = absurd (cc)
 
   -- ---- the write
@@ -291,7 +295,7 @@ module _ (F : Facts) (S : Tables) (set' : List (Path × ℕ)) where
   is_code_same : {w : Tabs} {c d : Option Code} → OptT (Codes F S w) c d → (f : ℕ) → is_code_of c f ≡ is_code_of d f
   unfolding is_code_of
   is_code_same none_t f = refl
-  is_code_same (some_t h) f = ap (λ z. nat_eq z f) h.function
+  is_code_same (some_t h) f = ap (λ z. nat_eq z f) h.function.same
 
   declared : {w : Tabs} {s t : State} → Tied w s t → {m n : ℕ} → Mates w m n → (d d' : Option ℕ) → ((f : ℕ) → d ≡ Some f → d' ≡ Some f) → declares_on s d (obj m) ≡ true → declares_on t d' (obj n) ≡ true
   unfolding declares_on code_at

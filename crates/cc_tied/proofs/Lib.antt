@@ -54,3 +54,6 @@ pub mod InjectAsked
 pub mod InjectBuilt
 pub mod InjectUses
 pub mod InjectFrames
+pub mod InjectCalls
+pub mod InjectUpkeep
+pub mod InjectEnds

@@ -32,7 +32,7 @@ one_prim : {O : ℕ → ℕ → Type 0} (b : Bool) (p q : Prim) → ValT O (pick
 one_prim true p q = prim_t
 one_prim false p q = prim_t
 
-member_tied : {O : ℕ → ℕ → Type 0} (p : Prim) (t : List ℕ) → ValT O (prim_member p t) (prim_member p t)
+pub member_tied : {O : ℕ → ℕ → Type 0} (p : Prim) (t : List ℕ) → ValT O (prim_member p t) (prim_member p t)
 unfolding prim_member
 member_tied (text u) t = one_prim (list_eq t name_length) (whole (pos (length u))) undefined
 member_tied _ t = prim_t

@@ -21,6 +21,8 @@ pub data Held : Type 0 where
 pub record Facts : Type 1 where
   -- the function in whose statements a function stands, or none in a chunk's own list, and the number of catch clauses around it there
   pub parent : ℕ → Option ℕ × ℕ
+  -- functions that are reached from the chunks: no other one is made
+  pub Reached : (function : ℕ) → Type 0
   -- parameters of a function that are never assigned
   pub Fixed : (function place : ℕ) → Type 0
   -- places of a function's frame that are never read
