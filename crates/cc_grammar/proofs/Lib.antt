@@ -48,3 +48,4 @@ pub mod CopyExpressions
 pub mod CopyStatements
 pub mod CopyJumps
 pub mod CopyPrograms
+pub mod Paired
