@@ -49,3 +49,4 @@ pub mod CopyStatements
 pub mod CopyJumps
 pub mod CopyPrograms
 pub mod Paired
+pub mod SoundTokens
