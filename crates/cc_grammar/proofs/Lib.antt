@@ -37,6 +37,8 @@ pub mod AlikeExpressions
 pub mod Following
 pub mod AlikeStatements
 pub mod NoFront
+pub mod Moves
+pub mod MovesDerived
 pub mod OneReading
 pub mod OnTokens
 pub mod Copies
