@@ -38,6 +38,8 @@ pub mod AlikeExpressions
 pub mod Following
 pub mod AlikeStatements
 pub mod NoFront
+pub mod Moves
+pub mod MovesDerived
 pub mod OneReading
 pub mod Copies
 pub mod CopySteps
@@ -48,3 +50,5 @@ pub mod CopyExpressions
 pub mod CopyStatements
 pub mod CopyJumps
 pub mod CopyPrograms
+pub mod Paired
+pub mod SoundTokens
