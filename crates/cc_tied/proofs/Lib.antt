@@ -57,3 +57,4 @@ pub mod InjectFrames
 pub mod InjectCalls
 pub mod InjectUpkeep
 pub mod InjectEnds
+pub mod FineParts
