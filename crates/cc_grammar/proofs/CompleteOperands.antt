@@ -21,6 +21,7 @@ use Rattle.cc_grammar.proofs.Shrinks.{reals, at_less, e_less, own_less}
 use Rattle.cc_grammar.proofs.Steps.{step, opened, chosen_at, skipped_at, same_cond, kind_at, rest_at, mark_at, table_at, taken, variable_at, variable_rest}
 use Rattle.cc_grammar.proofs.Quiet.{at_next, close_paren, close_bracket}
 use Rattle.cc_grammar.proofs.CompleteLists.{Reads, CompleteInner, arguments_of_read, all_elements_read, all_fields_read, function_read, own_name_read}
+use Rattle.cc_grammar.proofs.Stopping.{by_head, no_more_suffixes}
 use Rattle.cc_grammar.proofs.OnSymbols as s
 
 -- ---- the heads of tokens
@@ -34,7 +35,7 @@ no_literal (k.name n) v e = refl
 no_literal (k.due k.variable) v e = refl
 no_literal _ v e = cc
 
-variable_head : (x : Kind) (v : List ℕ) → variable_of x ≡ Some v → head_of x ≡ r.is_variable v
+pub variable_head : (x : Kind) (v : List ℕ) → variable_of x ≡ Some v → head_of x ≡ r.is_variable v
 unfolding head_of
 variable_head x v e = ap (λ o. head_by o (variable_of x) x) (no_literal x v e) ∙ ap (λ o. head_by None o x) e
 
@@ -80,23 +81,19 @@ any_done (Ok p) = ok tt
 any_done (Err x) = err
 
 module _ (d n : ℕ) (inner : In) (all : CompleteInner d n inner) where
-  by_head : (b : Bool) (xs : Symbols) {z : Outcome Symbols (Sized RawExpr)} (x : Head) → head_of (look xs).kind ≡ x → s.primary_by d n inner b x xs ≡ z → s.primary d n inner b xs ≡ z
-  unfolding r.primary
-  by_head b xs x e h = ap (λ y. s.primary_by d n inner b y xs) e ∙ h
-
   this_read : (b : Bool) {xs ys : Symbols} → Reserved word.This xs ys → s.primary d n inner b xs ≡ Ok ((raw.this (g.at xs), 0), ys)
   unfolding head_of
-  this_read b {xs} c = by_head b xs r.is_this (table_at head_of c) (ap (λ ys. Ok ((raw.this (g.at xs), 0), ys)) (rest_at c))
+  this_read b {xs} c = by_head d n inner b xs r.is_this (table_at head_of c) (ap (λ ys. Ok ((raw.this (g.at xs), 0), ys)) (rest_at c))
 
   operand_read : (b : Bool) {xs ys : Symbols} → At (k.due k.operand) xs ys → s.primary d n inner b xs ≡ Ok ((raw.lit (g.at xs) undefined, 0), ys)
   unfolding head_of
-  operand_read b {xs} c = by_head b xs r.is_operand (table_at head_of c) (ap (λ ys. Ok ((raw.lit (g.at xs) undefined, 0), ys)) (rest_at c))
+  operand_read b {xs} c = by_head d n inner b xs r.is_operand (table_at head_of c) (ap (λ ys. Ok ((raw.lit (g.at xs) undefined, 0), ys)) (rest_at c))
 
   literal_read : (b : Bool) {x : Kind} {p : Prim} {xs ys : Symbols} → At x xs ys → literal_of x ≡ Some p → s.primary d n inner b xs ≡ Ok ((raw.lit (g.at xs) p, 0), ys)
-  literal_read b {x} {p} {xs} c e = by_head b xs (r.is_literal p) (table_at head_of c ∙ literal_head x p e) (ap (λ ys. Ok ((raw.lit (g.at xs) p, 0), ys)) (rest_at c))
+  literal_read b {x} {p} {xs} c e = by_head d n inner b xs (r.is_literal p) (table_at head_of c ∙ literal_head x p e) (ap (λ ys. Ok ((raw.lit (g.at xs) p, 0), ys)) (rest_at c))
 
   variable_read : (b : Bool) {v : List ℕ} {xs ys : Symbols} → Variable xs v ys → s.primary d n inner b xs ≡ Ok ((raw.var (g.at xs) v, 0), ys)
-  variable_read b {v} {xs} c = by_head b xs (r.is_variable v) (variable_head (look xs).kind v (variable_at c)) (ap (λ ys. Ok ((raw.var (g.at xs) v, 0), ys)) (variable_rest c))
+  variable_read b {v} {xs} c = by_head d n inner b xs (r.is_variable v) (variable_head (look xs).kind v (variable_at c)) (ap (λ ys. Ok ((raw.var (g.at xs) v, 0), ys)) (variable_rest c))
 
   paren_read : (b : Bool) {h e : ℕ} {xs ys zs ws : Symbols} {a : RawExpr} → reals xs < n → e ≤ d → h < e → Sign mark.OpenParen xs ys → E h true 0 ys a zs → Sign mark.CloseParen zs ws
       → Reads e (s.primary d n inner b xs) (parenthesised (look xs) a) ws
@@ -104,7 +101,7 @@ module _ (d n : ℕ) (inner : In) (all : CompleteInner d n inner) where
   paren_read b {h} {xs} ln le lt o x c =
       let p = all.expr true 0 h (omega (arith, at_less o)) (omega arith) (omega arith) (omega arith) x (at_next c (close_paren true)) in
       record { height = p.height + 1; low = omega (arith, p.low); is =
-        by_head b xs r.is_paren (table_at head_of o) (opened 0 d _ _ (omega arith) (step _ (ap (inner.expr true 0) (rest_at o) ∙ p.is) (step _ (taken c) refl))) }
+        by_head d n inner b xs r.is_paren (table_at head_of o) (opened 0 d _ _ (omega arith) (step _ (ap (inner.expr true 0) (rest_at o) ∙ p.is) (step _ (taken c) refl))) }
 
   array_read : (b : Bool) {h e : ℕ} {xs ys zs : Symbols} {es : List RawExpr} → reals xs < n → e ≤ d → h < e → Sign mark.OpenBracket xs ys → Elements h ys es zs
       → Reads e (s.primary d n inner b xs) (raw.list (g.at xs) (exprs es)) zs
@@ -112,7 +109,7 @@ module _ (d n : ℕ) (inner : In) (all : CompleteInner d n inner) where
   array_read b {xs} ln le lt o x =
       let p = all_elements_read d n inner all (omega (arith, at_less o)) (omega arith) x in
       record { height = p.height + 1; low = omega (arith, p.low); is =
-        by_head b xs r.is_array (table_at head_of o) (opened 0 d _ _ (omega arith) (step _ (ap (s.elements d n inner n [] 0) (rest_at o) ∙ p.is) refl)) }
+        by_head d n inner b xs r.is_array (table_at head_of o) (opened 0 d _ _ (omega arith) (step _ (ap (s.elements d n inner n [] 0) (rest_at o) ∙ p.is) refl)) }
 
   object_read : (b : Bool) {h e : ℕ} {xs ys zs : Symbols} {fs : List RawField} → reals xs < n → e ≤ d → h < e → Sign mark.OpenBrace xs ys → Fields h ys fs zs
       → Reads e (s.primary d n inner b xs) (raw.object (g.at xs) (fields fs)) zs
@@ -120,7 +117,7 @@ module _ (d n : ℕ) (inner : In) (all : CompleteInner d n inner) where
   object_read b {xs} ln le lt o x =
       let p = all_fields_read d n inner all (omega (arith, at_less o)) (omega arith) x in
       record { height = p.height + 1; low = omega (arith, p.low); is =
-        by_head b xs r.is_object (table_at head_of o) (opened 0 d _ _ (omega arith) (step _ (ap (s.object_fields d n inner n [] 0) (rest_at o) ∙ p.is) refl)) }
+        by_head d n inner b xs r.is_object (table_at head_of o) (opened 0 d _ _ (omega arith) (step _ (ap (s.object_fields d n inner n [] 0) (rest_at o) ∙ p.is) refl)) }
 
   function_expr_read : (b : Bool) {h e : ℕ} {xs ys zs ws : Symbols} {o : Option Named} {ps : List Named} {body : List RawStmt} → reals xs < n → e ≤ d → h < e → Reserved word.Function xs ys → OwnName ys o zs
       → Function h zs ps body ws → Reads e (s.primary d n inner b xs) (raw.fun (g.at xs) o ps (stmts body)) ws
@@ -128,7 +125,7 @@ module _ (d n : ℕ) (inner : In) (all : CompleteInner d n inner) where
   function_expr_read b {xs} ln le lt f w (g.function_body p q u x c) =
       let y = function_read d n inner all (omega (arith, at_less f, own_less w)) (omega arith) (g.function_body p q u x c) in
       record { height = y.height + 1; low = omega (arith, y.low); is =
-        by_head b xs r.is_function (table_at head_of f) (opened 0 d _ _ (omega arith) (step _ (ap s.own_name (rest_at f) ∙ own_name_read w p) (step _ y.is refl))) }
+        by_head d n inner b xs r.is_function (table_at head_of f) (opened 0 d _ _ (omega arith) (step _ (ap s.own_name (rest_at f) ∙ own_name_read w p) (step _ y.is refl))) }
 
   new_call_read : (b : Bool) {h i e : ℕ} {xs ys zs ws vs : Symbols} {f : RawExpr} {args : List RawExpr} → reals xs < n → e ≤ d → h < e → i < e → Reserved word.New xs ys → E h b 18 ys f zs → Sign mark.OpenParen zs ws
       → Arguments i ws args vs → Reads e (s.primary d n inner b xs) (raw.new (g.at xs) f (exprs args)) vs
@@ -137,7 +134,7 @@ module _ (d n : ℕ) (inner : In) (all : CompleteInner d n inner) where
       let c = all.callee b 18 h (omega (arith, at_less o)) (omega arith) (omega arith) x (table_at (suffix_of false) p) (λ e. absurd (omega arith)) in
       let q = arguments_of_read d n inner all (omega (arith, at_less o, e_less x, at_less p)) (omega arith) y in
       record { height = max c.height q.height + 1; low = omega (arith, c.low, q.low); is =
-        by_head b xs r.is_new (table_at head_of o) (opened 0 d _ _ (omega arith) (step _ (ap (inner.expr b 17) (rest_at o) ∙ c.is)
+        by_head d n inner b xs r.is_new (table_at head_of o) (opened 0 d _ _ (omega arith) (step _ (ap (inner.expr b 17) (rest_at o) ∙ c.is)
           (chosen_at _ _ _ (mark_at p) (step _ (ap (s.arguments_of d n inner) (rest_at p) ∙ q.is) refl)))) }
 
   new_read : (b : Bool) {h e : ℕ} {xs ys zs : Symbols} {f : RawExpr} → reals xs < n → e ≤ d → h < e → Reserved word.New xs ys → E h b 17 ys f zs → suffix_of true (look zs).kind ≡ r.no_suffix
@@ -146,7 +143,7 @@ module _ (d n : ℕ) (inner : In) (all : CompleteInner d n inner) where
   new_read b {h} {xs} {zs} ln le lt o x q =
       let c = all.callee b 17 h (omega (arith, at_less o)) (omega arith) (omega arith) x (fewer_suffixes (look zs).kind q) (λ _. no_call (look zs).kind q) in
       record { height = c.height + 1; low = omega (arith, c.low); is =
-        by_head b xs r.is_new (table_at head_of o) (opened 0 d _ _ (omega arith) (step _ (ap (inner.expr b 17) (rest_at o) ∙ c.is)
+        by_head d n inner b xs r.is_new (table_at head_of o) (opened 0 d _ _ (omega arith) (step _ (ap (inner.expr b 17) (rest_at o) ∙ c.is)
           (skipped_at (is_mark mark.OpenParen (look zs).kind) _ _ (no_call (look zs).kind q) refl))) }
 
   -- ---- the loop over suffixes has enough turns
@@ -177,11 +174,6 @@ module _ (d n : ℕ) (inner : In) (all : CompleteInner d n inner) where
   unfolding r.suffixes
   more_suffixes calls zero a ys lt = more_turns a ys (λ _. r.stops Symbols look rest r.semicolon_symbol r.depth) (s.suffixes d n inner calls 0) (suffix_of calls (look ys).kind) (λ b zs lu _. absurd (omega arith))
   more_suffixes calls (suc m) a ys lt = more_turns a ys (s.suffixes d n inner calls m) (s.suffixes d n inner calls (suc m)) (suffix_of calls (look ys).kind) (λ b zs _ lu. more_suffixes calls m b zs (omega arith))
-
-  pub no_more_suffixes : (calls : Bool) (m : ℕ) (a : Sized RawExpr) (ys : Symbols) → suffix_of calls (look ys).kind ≡ r.no_suffix → s.suffixes d n inner calls m a ys ≡ Ok (a, ys)
-  unfolding r.suffixes
-  no_more_suffixes calls zero a ys e = ap (λ x. s.suffix_by d n inner (λ _. r.stops Symbols look rest r.semicolon_symbol r.depth) a x ys) e
-  no_more_suffixes calls (suc m) a ys e = ap (λ x. s.suffix_by d n inner (s.suffixes d n inner calls m) a x ys) e
 
   -- ---- one suffix
 
@@ -268,4 +260,4 @@ module _ (d n : ℕ) (inner : In) (all : CompleteInner d n inner) where
   unfolding r.expr_of
   callee_read b l h {xs} {ys} {e} ln ll le x f q =
       let w = at_chain false b ln (omega arith) (λ _. ll) (λ _ no. neither_suffix (look ys).kind f (q (omega arith))) le x in
-      record { height = w.height; low = w.low; is = w.is ∙ no_more_suffixes false (suc d) (e, w.height) ys f }
+      record { height = w.height; low = w.low; is = w.is ∙ no_more_suffixes d n inner false (suc d) (e, w.height) ys f }

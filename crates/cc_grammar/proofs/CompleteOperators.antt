@@ -24,12 +24,8 @@ use Rattle.cc_grammar.proofs.Firsts.{clash}
 use Rattle.cc_grammar.proofs.Quiet.{Quiet, looser, at_next, colon}
 use Rattle.cc_grammar.proofs.Ahead.{Spared}
 use Rattle.cc_grammar.proofs.CompleteLists.{Reads, CompleteInner}
+use Rattle.cc_grammar.proofs.Stopping.{either_way}
 use Rattle.cc_grammar.proofs.OnSymbols as s
-
--- a test that answers one of two
-pub either_way : {X : Type 0} (b : Bool) → (b ≡ true → X) → (b ≡ false → X) → X
-either_way true h l = h refl
-either_way false h l = l refl
 
 -- `delete` leaves a variable alone
 unless_variable : (b : Bool) (p : Place) (e f : RawExpr) → cond b None (Some (raw.unary p op.Delete e)) ≡ Some f → b ≡ true → ⊥
@@ -43,10 +39,6 @@ deletes_no_variable (unary _) p e f t q v = let no : false ≡ true = t in (cc)
 
 module _ (d n : ℕ) (inner : In) (all : CompleteInner d n inner) where
   -- ---- postfix and unary operators
-
-  pub no_postfix : (a : Sized RawExpr) (ys : Symbols) → step_of (look ys).kind ≡ None → s.postfix d n inner a ys ≡ Ok (a, ys)
-  unfolding r.postfix
-  no_postfix a ys e = ap (λ w. s.postfix_by d n inner a w (target_of a.0) (look ys).after_line ys) e
 
   pub postfix_step : (e : RawExpr) (j : ℕ) {x : Kind} {up : Bool} {t : RawTarget} {ys zs : Symbols} → j < d → target_of e ≡ Some t → (look ys).after_line ≡ false → At x ys zs → step_of x ≡ Some up
       → s.postfix d n inner (e, j) ys ≡ Ok ((raw.step (g.at ys) up false t, j + 1), zs)
@@ -100,22 +92,7 @@ module _ (d n : ℕ) (inner : In) (all : CompleteInner d n inner) where
         ∙ skipped_at (nat_lt (level o) l) _ _ (le-ltb (level o) l le) (opened j d _ _ lt (step _ (ap (inner.expr b (level o + 1)) (rest_at c) ∙ v.is)
             (more_climbs b l d (infix_tree o (g.at ys) e f, max j v.height + 1) ws (omega arith)))))
 
-  no_turn : (b : Bool) (l : ℕ) (a : Sized RawExpr) (ys : Symbols) (p : Sized RawExpr → s.Reader (Sized RawExpr)) (o : Option Infix) → ((x : Infix) → o ≡ Some x → level x < l) → s.climb_by d n inner p b l a o ys ≡ Ok (a, ys)
-  no_turn b l a ys p None h = refl
-  no_turn b l a ys p (Some o) h = chosen_at (nat_lt (level o) l) _ _ (lt-ltb (level o) l (h o refl)) refl
-
-  pub no_more_climbs : (b : Bool) (l m : ℕ) (a : Sized RawExpr) (ys : Symbols) → ((o : Infix) → infix_of b (look ys).kind ≡ Some o → level o < l) → s.climb d n inner b l m a ys ≡ Ok (a, ys)
-  unfolding r.climb
-  no_more_climbs b l zero a ys q = no_turn b l a ys (λ _. r.stops Symbols look rest r.semicolon_symbol r.depth) (infix_of b (look ys).kind) q
-  no_more_climbs b l (suc m) a ys q = no_turn b l a ys (s.climb d n inner b l m) (infix_of b (look ys).kind) q
-
   -- ---- the conditional operator
-
-  pub no_conditional : (b : Bool) (l : ℕ) (a : Sized RawExpr) (ys : Symbols) → (l ≤ 2 → is_mark mark.Question (look ys).kind ≡ false) → cond (nat_lt l 3) (s.conditional d n inner b a) (λ i. Ok (a, i)) ys ≡ Ok (a, ys)
-  unfolding r.conditional
-  no_conditional b l a ys q = either_way (nat_lt l 3)
-      (λ e. let low : l < 3 = ltb-true l 3 e in chosen_at (nat_lt l 3) _ _ e (skipped_at (is_mark mark.Question (look ys).kind) _ _ (q (omega arith)) refl))
-      (λ e. skipped_at (nat_lt l 3) _ _ e refl)
 
   pub conditional_step : (b : Bool) (l : ℕ) (e : RawExpr) (j : ℕ) {h i : ℕ} {f y : RawExpr} {ys zs us vs ws : Symbols} → reals zs < n → l ≤ 2 → j < d → h < d → i < d → Sign mark.Question ys zs → E h true 1 zs f us → Sign mark.Colon us vs
       → E i b 1 vs y ws → Quiet b 1 (look ws).kind
@@ -128,12 +105,6 @@ module _ (d n : ℕ) (inner : In) (all : CompleteInner d n inner) where
         chosen_at (nat_lt l 3) _ _ (lt-ltb l 3 (omega arith)) (chosen_at _ _ _ (mark_at o) (opened j d _ _ lj (step _ (ap (inner.expr true 1) (rest_at o) ∙ p.is) (step _ (taken c) (step _ w.is refl))))))
 
   -- ---- assignments
-
-  pub no_assign : (b : Bool) (l : ℕ) (a : Sized RawExpr) (ys : Symbols) → (l ≤ 1 → assign_of (look ys).kind ≡ None) → cond (nat_lt l 2) (s.assign d n inner b a) (λ i. Ok (a, i)) ys ≡ Ok (a, ys)
-  unfolding r.assign
-  no_assign b l a ys q = either_way (nat_lt l 2)
-      (λ e. let low : l < 2 = ltb-true l 2 e in chosen_at (nat_lt l 2) _ _ e (ap (λ w. s.assign_by d n inner b a w (target_of a.0) ys) (q (omega arith))))
-      (λ e. skipped_at (nat_lt l 2) _ _ e refl)
 
   pub assign_step : (b : Bool) (l : ℕ) (e : RawExpr) (j : ℕ) {h : ℕ} {x : Kind} {o : Option BinOp} {t : RawTarget} {f : RawExpr} {ys zs ws : Symbols} → reals zs < n → l ≤ 1 → j < d → h < d → target_of e ≡ Some t → At x ys zs → assign_of x ≡ Some o
       → E h b 1 zs f ws → Quiet b 1 (look ws).kind
@@ -165,8 +136,3 @@ module _ (d n : ℕ) (inner : In) (all : CompleteInner d n inner) where
       (w.height, w.low,
         ap (λ v. s.comma_by d n inner (s.commas d n inner b d) b (e, j) v ys) (mark_at o)
         ∙ opened j d _ _ lj (step _ (ap (inner.expr b 1) (rest_at o) ∙ w.is) (more_commas b d (raw.comma (g.at ys) e f, max j w.height + 1) ws (omega arith))))
-
-  pub no_more_commas : (b : Bool) (m : ℕ) (a : Sized RawExpr) (ys : Symbols) → is_mark mark.Comma (look ys).kind ≡ false → s.commas d n inner b m a ys ≡ Ok (a, ys)
-  unfolding r.commas
-  no_more_commas b zero a ys e = ap (λ v. s.comma_by d n inner (λ _. r.stops Symbols look rest r.semicolon_symbol r.depth) b a v ys) e
-  no_more_commas b (suc m) a ys e = ap (λ v. s.comma_by d n inner (s.commas d n inner b m) b a v ys) e

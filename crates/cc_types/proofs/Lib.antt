@@ -1,2 +1,3 @@
 pub mod Ancestry
 pub mod Marking
+pub mod Extending

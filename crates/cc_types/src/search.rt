@@ -109,10 +109,10 @@ pub(crate) fn is_above<const N: usize>(classes: &[Class], a: u32, b: u32) -> boo
 
 /// The same by going up at most this many steps, in a table of any size. Files within the limit
 /// on their bytes have no such table.
-pub(crate) fn climbs(classes: &[Class], steps: usize, a: u32, b: u32) -> bool
+pub(crate) fn climbs(classes: &[Class], steps: usize, a: u32, b: usize) -> bool
     ensures { result ≡ reaches steps classes.now a b }
 {
-    if a == b {
+    if a as usize == b {
         return true;
     }
     if steps == 0 || a as usize >= classes.len() {

@@ -1,19 +1,14 @@
 -- Operators at values of each kind beside those of the others.
-use Rattle.std.proofs.Common.{◌≡◌, ℕ, zero, suc, ◌-◌, ◌+ℤ◌, ℤ, pos, negsuc, Bool, true, false, not, eqb, List, [], ◌∷◌, ◌++◌, length, FitsSigned, inl, inr, sym, arith, ◌⊎◌, Option, Some, None, is_none, Err, if◌then◌else◌, refl, ap, ◌∙◌}
+use Rattle.std.proofs.Common.{◌≡◌, ℕ, zero, suc, ◌-◌, ℤ, pos, negsuc, Bool, false, not, eqb, List, [], ◌∷◌, length, FitsSigned, inl, inr, sym, arith, Some, None, if◌then◌else◌, refl, ap, ◌∙◌}
 use Rattle.std.specs.Int.{w64, cast_unsigned}
 use Rattle.std.proofs.lemmas.Bool.{cases_eq, eq-eqb, ne_eqb}
-use Rattle.cc_ast.specs.Syntax.{undefined, whole, text}
-use Rattle.cc_ast.specs.declared.operator.BinOp.{BinOp}
-use Rattle.cc_ast.specs.declared.operator.BinOp.TheVariants.{Add, Sub, Mul, Div, Rem, BitAnd, BitXor, BitOr, Shl, Shr, UShr, Less, Greater, LessEq, GreaterEq, Equal, NotEqual, Strict, NotStrict, Instance, Has}
+use Rattle.cc_ast.specs.Syntax.{whole, text}
+use Rattle.cc_ast.specs.declared.operator.BinOp.TheVariants.{Add, Less, Greater, LessEq, GreaterEq, Equal, NotEqual, Strict, NotStrict}
 use Rattle.cc_meaning.specs.Values.{Val, prim, obj, out}
-use Rattle.cc_meaning.specs.Operators.{gives, breaks, number, binary_of, strict_equal, equal_prims, equal_object, prim_less, answer_of, answer_not, answer, whole_eq, truthy_prim, on_wholes, whole_binary, on_whole, whole_unary, unary_of, truthy}
-use Rattle.cc_ast.specs.declared.operator.UnOp.{UnOp}
-use Rattle.cc_ast.specs.declared.operator.UnOp.TheVariants.{Minus, Plus, BitNot, Not, Void, Typeof, Delete}
+use Rattle.cc_meaning.specs.Operators.{breaks, binary_of, strict_equal, equal_prims, equal_object, prim_less, answer_of, answer_not, answer, whole_eq, truthy_prim}
 use Rattle.cc_value.specs.declared.value.Value.{Value}
 use Rattle.cc_value.specs.declared.value.Value.TheVariants as V
-use Rattle.cc_value.specs.Bridge.{value_of, less_of, equal_of, nothing_of, text_of, joined_of, wholes_of, whole_of, type_of, Appends, Answers}
-use Rattle.cc_value.specs.declared.value.OpFault.{OpFault}
-use Rattle.cc_value.specs.declared.value.OpFault.TheVariants.{Rule1, Rule2, Memory}
+use Rattle.cc_value.specs.Bridge.{value_of, less_of, equal_of, nothing_of, text_of, joined_of}
 
 pub same-Undefined : (v : Value) → (v ≡ V.Undefined → ⊥) → strict_equal (value_of V.Undefined) (value_of v) ≡ false
 unfolding strict_equal

@@ -2,3 +2,4 @@ pub mod Numbers
 pub mod TextLemmas
 pub mod Cases
 pub mod OtherCases
+pub mod Ruled

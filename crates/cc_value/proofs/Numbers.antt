@@ -1,7 +1,8 @@
 -- Numbers that are made, and those that break rule 1.
-use Rattle.std.proofs.Common.{◌≡◌, ◌≢◌, ℕ, zero, suc, ◌*◌, ◌/◌, ◌%◌, ◌^◌, ◌-ℤ◌, bit_and, bit_or, bit_xor, ◌<◌, ◌≤◌, Bool, true, false, not, ◌-◌, cond, ℤ, pos, negsuc, neg_ℤ, unsigned_abs, refl, ap, arith}
-use Rattle.std.proofs.lemmas.Bool.{le-leb, lt-leb, eq-eqb, ne_eqb}
-use Rattle.std.specs.Int.{is_negative, int_shr}
+use Rattle.std.proofs.Common.{◌≡◌, ◌≢◌, ℕ, zero, suc, ◌*◌, ◌/◌, ◌%◌, ◌^◌, ◌-ℤ◌, bit_and, bit_or, bit_xor, ◌<◌, ◌≤◌, Bool, true, false, not, ◌-◌, cond, ℤ, pos, negsuc, neg_ℤ, unsigned_abs, FitsSigned, refl, ap, inl, inr, arith}
+use Rattle.std.proofs.lemmas.Bool.{le-leb, lt-leb, eq-eqb, ne_eqb, cases_lt}
+use Rattle.std.proofs.lemmas.Int.{fits_signed_from_abs}
+use Rattle.std.specs.Int.{w64, is_negative, int_shr}
 use Rattle.cc_ast.specs.Syntax.{whole}
 use Rattle.cc_ast.specs.declared.operator.BinOp.{BinOp}
 use Rattle.cc_ast.specs.declared.operator.BinOp.TheVariants.{Add, Sub, Mul, Div, Rem, BitAnd, BitXor, BitOr, Shl, Shr, UShr, Less, Greater, LessEq, GreaterEq, Equal, NotEqual, Strict, NotStrict, Instance, Has}
@@ -17,6 +18,14 @@ number-made z h = ap (λ (b : Bool). cond b (gives (prim (whole z))) (breaks 1))
 pub number-past : (z : ℤ) → 9007199254740991 < unsigned_abs z → number z ≡ breaks 1
 unfolding number
 number-past z h = ap (λ (b : Bool). cond b (gives (prim (whole z))) (breaks 1)) (lt-leb (unsigned_abs z) 9007199254740991 h)
+
+-- what doesn't fit 64 bits is no number
+pub number-wide : (z : ℤ) → (FitsSigned w64 z → ⊥) → number z ≡ breaks 1
+number-wide z wide =
+    elim (cases_lt 9007199254740991 (unsigned_abs z)) [
+      | inl h ↦ number-past z h
+      | inr h ↦ absurd (wide (fits_signed_from_abs w64 z (omega arith)))
+    ]
 
 pub sign-past : (minus : Bool) (n : ℕ) → 9007199254740991 < n → with_sign minus n ≡ breaks 1
 unfolding with_sign

@@ -58,6 +58,12 @@ Answers (Err Rule1) o = o ≡ breaks 1
 Answers (Err Rule2) o = o ≡ breaks 2
 Answers (Err Memory) o = (t : List ℕ) × (o ≡ gives (prim (text t)))
 
+-- the rule that a fault tells; want of memory tells none
+abbrev pub fault_rule : OpFault → Option ℕ
+fault_rule Rule1 = Some 1
+fault_rule Rule2 = Some 2
+fault_rule Memory = None
+
 -- the text of a value that is no object
 abbrev pub text_of : Val → Option (List ℕ)
 text_of (prim p) = Some (prim_text p)

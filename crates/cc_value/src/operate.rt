@@ -63,8 +63,8 @@ pub fn is_same(a: &Value, b: &Value) -> bool
     }
 }
 
-// `<`, where the kinds are in the table.
-fn less(a: &Value, b: &Value) -> Option<bool>
+/// `<`, where the kinds are in the table.
+pub(crate) fn less(a: &Value, b: &Value) -> Option<bool>
     ensures { result ≡ less_of (value_of a.now) (value_of b.now) }
 {
     match a {
@@ -80,7 +80,8 @@ fn less(a: &Value, b: &Value) -> Option<bool>
     }
 }
 
-fn is_object(value: &Value) -> bool
+/// Whether it is an object of the program or of the outside.
+pub(crate) fn is_object(value: &Value) -> bool
     ensures { result ≡ is_none (text_of (value_of value.now)) }
 {
     match value {
@@ -144,8 +145,8 @@ fn is_nothing(value: &Value) -> bool
     }
 }
 
-// `==`, where the kinds are in the table.
-fn equal(a: &Value, b: &Value) -> Option<bool>
+/// `==`, where the kinds are in the table.
+pub(crate) fn equal(a: &Value, b: &Value) -> Option<bool>
     ensures { result ≡ equal_of (value_of a.now) (value_of b.now) }
 {
     match a {

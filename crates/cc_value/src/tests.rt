@@ -3,6 +3,7 @@
 ghost use Rattle.std.specs.Prelude.{◌≢◌};
 
 use crate::operate::{binary, is_same, is_truthy, unary};
+use crate::rules::{binary_rule, unary_rule};
 use crate::value::{OpFault, Value};
 use cc_ast::operator::{BinOp, UnOp};
 use cc_ast::units::Units;
@@ -85,4 +86,19 @@ fn texts_are_joined_and_named(rt: HostRuntime) -> Result<(), Fail> {
     let name = unary(rt.alloc(), UnOp::Typeof, &Value::Null);
     assert!(rt; is_text(&name, &[111, 98, 106, 101, 99, 116]), "object");
     Ok(())
+}
+
+#[test]
+fn rules_are_told(rt: HostRuntime) {
+    let greatest = Value::Whole(9_007_199_254_740_991);
+    let one = Value::Whole(1);
+    let object = Value::Object(0);
+    assert_eq!(rt; binary_rule(BinOp::Add, &greatest, &one), Some(1));
+    assert_eq!(rt; binary_rule(BinOp::Sub, &greatest, &one), None);
+    assert_eq!(rt; binary_rule(BinOp::Div, &one, &Value::Whole(0)), Some(1));
+    assert_eq!(rt; binary_rule(BinOp::Less, &one, &object), Some(2));
+    assert_eq!(rt; binary_rule(BinOp::Strict, &one, &object), None);
+    assert_eq!(rt; unary_rule(UnOp::Minus, &Value::Whole(0)), Some(1));
+    assert_eq!(rt; unary_rule(UnOp::Typeof, &Value::Outside(0)), Some(2));
+    assert_eq!(rt; unary_rule(UnOp::Not, &object), None);
 }

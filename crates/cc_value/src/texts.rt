@@ -9,7 +9,7 @@ use itoa::Buffer;
 use std::alloc::AllocError;
 
 /// Whether two texts have the same units.
-pub(crate) fn is_equal(s: &[u16], t: &[u16]) -> bool
+pub fn is_equal(s: &[u16], t: &[u16]) -> bool
     ensures { result ≡ list_eq s.now t.now }
 {
     if s.len() != t.len() {

@@ -75,19 +75,21 @@ fn rest(a: i64, b: i64) -> Result<Value, OpFault>
 
 /// `+` on whole numbers.
 pub(crate) fn sum(a: i64, b: i64) -> Result<Value, OpFault>
-    requires a_made { unsigned_abs a ≤ greatest_whole }
-    requires b_made { unsigned_abs b ≤ greatest_whole }
     ensures { Answers result (number (a +ℤ b)) }
 {
-    number(a + b)
+    match a.checked_add(b) {
+        Some(z) => number(z),
+        None => Err(OpFault::Rule1),
+    }
 }
 
 fn difference(a: i64, b: i64) -> Result<Value, OpFault>
-    requires a_made { unsigned_abs a ≤ greatest_whole }
-    requires b_made { unsigned_abs b ≤ greatest_whole }
     ensures { Answers result (number (a -ℤ b)) }
 {
-    number(a - b)
+    match a.checked_sub(b) {
+        Some(z) => number(z),
+        None => Err(OpFault::Rule1),
+    }
 }
 
 /// The lowest 32 bits (ECMA-262 5.1, 9.6).
@@ -119,8 +121,6 @@ fn shift_count(z: i64) -> u32
 
 /// An operator on two whole numbers, all but `+`.
 pub(crate) fn operate(op: BinOp, a: i64, b: i64) -> Result<Value, OpFault>
-    requires a_made { unsigned_abs a ≤ greatest_whole }
-    requires b_made { unsigned_abs b ≤ greatest_whole }
     ensures { Answers result (whole_binary op a b) }
 {
     match op {
@@ -140,7 +140,6 @@ pub(crate) fn operate(op: BinOp, a: i64, b: i64) -> Result<Value, OpFault>
 
 /// A sign or `~` of a whole number.
 pub(crate) fn operate_one(op: UnOp, z: i64) -> Result<Value, OpFault>
-    requires { unsigned_abs z ≤ greatest_whole }
     ensures { Answers result (whole_unary op z) }
 {
     match op {

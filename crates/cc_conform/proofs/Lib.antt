@@ -1,0 +1,5 @@
+pub mod Loops
+pub mod DocLemmas
+pub mod TypeLemmas
+pub mod SlotLemmas
+pub mod FieldLemmas

@@ -1,0 +1,133 @@
+// What is about to happen.
+
+use cc_ast::operator::{BinOp, UnOp};
+use cc_ast::units::Units;
+use cc_value::value::Value;
+use sqlite_items::Items;
+
+/// A use of what is built in (ECMA-262 5.1, 15): of arrays, of texts, of `String`, of `Math`, and
+/// of objects and functions. An array's length, its elements and a text's length are accesses.
+#[derive(Clone, Copy, Debug, PartialEq, Eq)]
+pub enum BuiltInUse {
+    ArrayPush,
+    ArrayUnshift,
+    ArrayPop,
+    ArrayShift,
+    ArraySlice,
+    ArrayConcat,
+    ArrayJoin,
+    ArrayIndexOf,
+    TextCharAt,
+    TextCharCodeAt,
+    TextIndexOf,
+    TextLastIndexOf,
+    TextSlice,
+    TextSubstring,
+    StringOf,
+    FromCharCode,
+    MathMax,
+    MathMin,
+    MathAbs,
+    ObjectCreate,
+    HasOwnProperty,
+    Call,
+}
+
+/// What is applied to operands. The receiver of a built-in use is its first operand.
+#[derive(Clone, Copy, Debug, PartialEq, Eq)]
+pub enum Op {
+    Unary(UnOp),
+    Binary(BinOp),
+    Built(BuiltInUse),
+}
+
+/// A variable: a global, a place of a scope, or a flat path by its global and its number.
+#[derive(Clone, Copy, Debug, PartialEq, Eq)]
+pub enum Variable {
+    Global(u32),
+    Local { scope: u32, place: u32 },
+    Flat { global: u32, number: u32 },
+}
+
+/// The key of an access: a property's number after a dot, a text that was written in quotes, or
+/// the text of a value.
+#[derive(Debug, Drop)]
+pub enum Access {
+    Dotted(u32),
+    Quoted(Units),
+    Runtime(Units),
+}
+
+/// What is about to happen. A write `declares` where it is made by the declaration statement of
+/// the prototype of the function that it writes to. A leave is `built` where the call is by `new`.
+/// In an act of the host, `given` tells whether each handle that is used was given out, and
+/// `threw` whether the chunk that is loaded depends on one that threw.
+#[derive(Debug, Drop)]
+pub enum Act {
+    Operate {
+        op: Op,
+        operands: Items<Value>,
+    },
+    Read {
+        on: Value,
+        key: Access,
+    },
+    Write {
+        on: Value,
+        key: Access,
+        value: Value,
+        declares: bool,
+    },
+    Remove {
+        on: Value,
+        key: Access,
+    },
+    Probe {
+        on: Value,
+        key: Access,
+    },
+    Walk {
+        on: Value,
+    },
+    Callee {
+        value: Value,
+    },
+    Enter {
+        function: u32,
+        receiver: Option<Value>,
+        args: Items<Value>,
+    },
+    Leave {
+        function: u32,
+        built: bool,
+        value: Value,
+    },
+    Take {
+        variable: Variable,
+        loaded: bool,
+        set: bool,
+    },
+    Keep {
+        variable: Variable,
+        value: Value,
+    },
+    This {
+        receiver: Option<Value>,
+    },
+    Cast {
+        wanted: u32,
+        value: Value,
+    },
+    Host {
+        given: bool,
+        on: Option<Value>,
+        name: Option<Units>,
+        threw: bool,
+    },
+    Inner {
+        given: bool,
+    },
+    Reply {
+        given: bool,
+    },
+}

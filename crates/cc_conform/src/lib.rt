@@ -1,0 +1,11 @@
+//! The rules of conforming programs as tests. `judge` answers for an act that is about to happen
+//! the least rule that it breaks, exactly as the meaning tells it. Nothing takes memory.
+#![tactic(auto)]
+
+pub mod act;
+mod docs;
+mod fields;
+mod names;
+mod rules;
+mod slots;
+mod types;
