@@ -39,6 +39,7 @@ pub mod AlikeStatements
 pub mod NoFront
 pub mod Moves
 pub mod MovesDerived
+pub mod Fails
 pub mod OneReading
 pub mod OnTokens
 pub mod Copies
