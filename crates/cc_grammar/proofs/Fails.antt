@@ -31,22 +31,21 @@ token x = record { kind = x; place = nowhere; after_line = false; noted = false 
 pub new_at : (x : Kind) {zs : Symbols} → At x (real (token x) ∷ zs) zs
 new_at x = g.at_token (token x) refl
 
-at_is : {x : Kind} {xs ys : Symbols} → At x xs ys → real (look xs) ∷ ys ≡ xs
+pub at_is : {x : Kind} {xs ys : Symbols} → At x xs ys → real (look xs) ∷ ys ≡ xs
 at_is (g.at_token t e) = refl
 
 -- the token that was taken
-pub taken : {x : Kind} {xs ys : Symbols} → At x xs ys → Front xs ys
-unfolding at_is
+abbrev pub taken : {x : Kind} {xs ys : Symbols} → At x xs ys → Front xs ys
 taken {xs} c = record { go = λ zs. real (look xs) ∷ zs; before = real (look xs) ∷ []; prefix = λ zs. refl; is = at_is c }
 
 pub again : {x : Kind} {xs ys : Symbols} → At x xs ys → (zs : Symbols) → At x (real (look xs) ∷ zs) zs
 again {xs} c zs = g.at_token (look xs) (kind_at c)
 
-variable_is_at : {n : List ℕ} {xs ys : Symbols} → Variable xs n ys → real (look xs) ∷ ys ≡ xs
+pub variable_is_at : {n : List ℕ} {xs ys : Symbols} → Variable xs n ys → real (look xs) ∷ ys ≡ xs
 variable_is_at (g.variable c e) = at_is c
 variable_is_at (g.any_variable c) = at_is c
 
-pub variable_taken : {n : List ℕ} {xs ys : Symbols} → Variable xs n ys → Front xs ys
+abbrev pub variable_taken : {n : List ℕ} {xs ys : Symbols} → Variable xs n ys → Front xs ys
 variable_taken {xs} v = record { go = λ zs. real (look xs) ∷ zs; before = real (look xs) ∷ []; prefix = λ zs. refl; is = variable_is_at v }
 
 pub variable_again : {n : List ℕ} {xs ys : Symbols} → Variable xs n ys → (zs : Symbols) → Variable (real (look xs) ∷ zs) n zs

@@ -40,6 +40,7 @@ pub mod NoFront
 pub mod Moves
 pub mod MovesDerived
 pub mod Fails
+pub mod FrontsLists
 pub mod OneReading
 pub mod OnTokens
 pub mod Copies
