@@ -40,6 +40,8 @@ pub mod AlikeStatements
 pub mod NoFront
 pub mod Moves
 pub mod MovesDerived
+pub mod Fails
+pub mod FrontsLists
 pub mod OneReading
 pub mod Copies
 pub mod CopySteps
