@@ -1,0 +1,3 @@
+//! Folding: operators on literals become the literal that they give, and `&&`, `||` and `?:` with a
+//! literal on the left become the operand that they choose.
+#![tactic(auto)]
