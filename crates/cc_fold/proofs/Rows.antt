@@ -10,7 +10,6 @@ use Rattle.cc_tied.specs.Placed.{a_value}
 use Rattle.cc_fold.specs.Fold.{fold_scope}
 use Rattle.cc_fold.specs.Walk.{fold_expr}
 
-
 -- global 0 is built in
 abbrev built : Ref → Bool
 built (Global zero) = true

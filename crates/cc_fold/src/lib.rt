@@ -1,3 +1,5 @@
 //! Folding: operators on literals become the literal that they give, and `&&`, `||` and `?:` with a
 //! literal on the left become the operand that they choose.
 #![tactic(auto)]
+
+mod price;
