@@ -1,3 +1,5 @@
 pub mod Fold
 pub mod Walk
 pub mod Built
+pub mod Made
+pub mod Literals

@@ -2,4 +2,5 @@
 //! literal on the left become the operand that they choose.
 #![tactic(auto)]
 
+mod literal;
 mod price;

@@ -32,18 +32,13 @@ pub fn unmarked(e: &Expr) -> &Expr
 
 /// The expression with a further price before it.
 #[tactic(auto, using(cc_ast::specs::Terms::steps, crate::proofs::Prices::charged_nothing, crate::proofs::Prices::charged_more, crate::proofs::Prices::charged_past))]
-pub fn charge(
-    alloc: Global,
-    site: u32,
-    further: u64,
-    e: Boxed<Expr>,
-) -> Result<Option<Expr>, AllocError>
+pub fn charge(alloc: Global, site: u32, further: u64, e: Expr) -> Result<Option<Expr>, AllocError>
     ensures { IfOk result (λ c. option_map term c ≡ charged site further (term e)) }
 {
     if further == 0 {
-        return Ok(Some(e.into_inner()));
+        return Ok(Some(e));
     }
-    match further.checked_add(price(e.get())) {
+    match further.checked_add(price(&e)) {
         Some(total) => Ok(Some(Expr::Tick(site, total, without_mark(alloc, e)?))),
         None => Ok(None),
     }
@@ -51,10 +46,10 @@ pub fn charge(
 
 // What the mark stands round, by value.
 #[tactic(auto, using(cc_ast::specs::Terms::steps), unfolding(crate::specs::Fold::unmarked))]
-fn without_mark(alloc: Global, e: Boxed<Expr>) -> Result<Boxed<Expr>, AllocError>
+fn without_mark(alloc: Global, e: Expr) -> Result<Boxed<Expr>, AllocError>
     ensures { IfOk result (λ c. term c ≡ unmarked (term e)) }
 {
-    match e.into_inner() {
+    match e {
         Expr::Tick(_, _, inner) => Ok(inner),
         other => Boxed::new(alloc, other),
     }
