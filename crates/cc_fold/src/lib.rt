@@ -3,4 +3,5 @@
 #![tactic(auto)]
 
 mod literal;
+mod operators;
 mod price;
