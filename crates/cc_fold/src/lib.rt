@@ -2,6 +2,7 @@
 //! literal on the left become the operand that they choose.
 #![tactic(auto)]
 
+pub mod built;
 mod literal;
 mod operators;
 mod price;
