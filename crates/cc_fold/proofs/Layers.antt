@@ -8,6 +8,9 @@ use Rattle.cc_ast.specs.declared.tree.Target.{Target}
 use Rattle.cc_ast.specs.Syntax as S
 use Rattle.cc_ast.specs.Bridge.{expr_layer, target_layer, term, target}
 use Rattle.cc_fold.specs.Fold.{price_of, unmarked, literal_at}
+use Rattle.cc_fold.specs.Places.{shape_of}
+use Rattle.cc_fold.specs.declared.place.Shape.TheVariants.{Other}
+use Rattle.cc_ast.specs.declared.tree.Ref.{Ref}
 
 price_layer : (x : Expr-F Expr Target) → ((s p : ℕ) (a : Expr) → roll-Expr x ≡ V.Tick s p a → ⊥) → price_of (term (roll-Expr x)) ≡ 0
 unfolding term target expr_layer price_of
@@ -41,3 +44,19 @@ pub other_literal : (n : ℕ) (e : Expr) → ((s : ℕ) → e ≡ V.Undefined s 
 other_literal n e u v w y z =
     let r = roll-out-Expr e in
     subst (λ x. literal_at n (term x) ≡ None) r (literal_layer n (out-Expr e) (λ s q. u s (sym r ∙ q)) (λ s q. v s (sym r ∙ q)) (λ s b q. w s b (sym r ∙ q)) (λ s m q. y s m (sym r ∙ q)) (λ s t q. z s t (sym r ∙ q)))
+
+shape_layer : (x : Expr-F Expr Target) → ((s : ℕ) (r : Ref) → roll-Expr x ≡ V.Var s r → ⊥) → ((s f : ℕ) → roll-Expr x ≡ V.Fun s f → ⊥) → ((s : ℕ) (a : Expr) (p : ℕ) → roll-Expr x ≡ V.Member s a p → ⊥) → ((s : ℕ) (a b : Expr) → roll-Expr x ≡ V.Index s a b → ⊥) → ((s d : ℕ) (a : Expr) → roll-Expr x ≡ V.Cast s d a → ⊥) → ((s p : ℕ) (a : Expr) → roll-Expr x ≡ V.Tick s p a → ⊥) → shape_of (term (roll-Expr x)) ≡ Other
+unfolding term target expr_layer shape_of
+shape_layer (Expr-F.Var s r) u v w x y z = absurd (u s r (V.rolls-Var s r))
+shape_layer (Expr-F.Fun s f) u v w x y z = absurd (v s f (V.rolls-Fun s f))
+shape_layer (Expr-F.Member s a p) u v w x y z = absurd (w s a p (V.rolls-Member s a p))
+shape_layer (Expr-F.Index s a b) u v w x y z = absurd (x s a b (V.rolls-Index s a b))
+shape_layer (Expr-F.Cast s d a) u v w x y z = absurd (y s d a (V.rolls-Cast s d a))
+shape_layer (Expr-F.Tick s p a) u v w x y z = absurd (z s p a (V.rolls-Tick s p a))
+shape_layer l u v w x y z = ap shape_of (fold-roll-Expr S.Expr S.Target expr_layer target_layer l)
+
+-- what is none of these has no shape of its own
+pub other_shape : (e : Expr) → ((s : ℕ) (r : Ref) → e ≡ V.Var s r → ⊥) → ((s f : ℕ) → e ≡ V.Fun s f → ⊥) → ((s : ℕ) (a : Expr) (p : ℕ) → e ≡ V.Member s a p → ⊥) → ((s : ℕ) (a b : Expr) → e ≡ V.Index s a b → ⊥) → ((s d : ℕ) (a : Expr) → e ≡ V.Cast s d a → ⊥) → ((s p : ℕ) (a : Expr) → e ≡ V.Tick s p a → ⊥) → shape_of (term e) ≡ Other
+other_shape e u v w x y z =
+    let r = roll-out-Expr e in
+    subst (λ x. shape_of (term x) ≡ Other) r (shape_layer (out-Expr e) (λ s v q. u s v (sym r ∙ q)) (λ s f q. v s f (sym r ∙ q)) (λ s a p q. w s a p (sym r ∙ q)) (λ s a b q. x s a b (sym r ∙ q)) (λ s d a q. y s d a (sym r ∙ q)) (λ s p a q. z s p a (sym r ∙ q)))

@@ -3,3 +3,4 @@ pub mod Walk
 pub mod Built
 pub mod Made
 pub mod Literals
+pub mod Places

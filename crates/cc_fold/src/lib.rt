@@ -5,4 +5,5 @@
 pub mod built;
 mod literal;
 mod operators;
+pub mod place;
 mod price;
