@@ -31,6 +31,6 @@ displaces built t P.a_deleted Access = true
 displaces built t P.an_object Access = t
 displaces built t P.a_callee (Variable r) = built r
 displaces built t P.a_deleted (Variable r) = true
-displaces built t P.an_object (Variable r) = t || built r
+displaces built t P.an_object (Variable r) = built r || t
 displaces built t P.an_assigned Function = true
 displaces built t _ _ = false

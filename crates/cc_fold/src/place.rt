@@ -75,7 +75,7 @@ pub fn displaces(plan: &Plan, in_target: bool, place: Place, shape: Shape) -> bo
             Place::Assigned => false,
             Place::Callee => is_built(plan, variable),
             Place::Deleted => true,
-            Place::Object => in_target || is_built(plan, variable),
+            Place::Object => is_built(plan, variable) || in_target,
         },
         Shape::Function => match place {
             Place::Value => false,
