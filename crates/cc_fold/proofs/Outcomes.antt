@@ -17,6 +17,13 @@ computed_given i n (prim p) e h = ap (charged i n) (cc)
 computed_given i n (obj m) e h = absurd (cc)
 computed_given i n (out m) e h = absurd (cc)
 
+-- a literal has no mark
+pub literal_price : (i : ℕ) (v : Val) (e : Expr) → lit_of i v ≡ Some e → price_of e ≡ 0
+unfolding price_of
+literal_price i (prim p) e h = let q : lit i p ≡ e = cc in subst (λ z. price_of z ≡ 0) q refl
+literal_price i (obj m) e h = absurd (cc)
+literal_price i (out m) e h = absurd (cc)
+
 pub computed_object : (i n : ℕ) (v : Val) → lit_of i v ≡ None → computed i n (gives v) ≡ None
 unfolding computed
 computed_object i n (prim p) h = absurd (cc)

@@ -16,7 +16,7 @@ use sqlite_items::Boxed;
 use std::alloc::{AllocError, Global};
 
 // The literal of an operator's answer, at a price.
-#[tactic(auto, using(crate::proofs::Outcomes::computed_given, crate::proofs::Outcomes::computed_object, crate::proofs::Outcomes::computed_broken))]
+#[tactic(auto, using(crate::proofs::Outcomes::computed_given, crate::proofs::Outcomes::literal_price, crate::proofs::Outcomes::computed_object, crate::proofs::Outcomes::computed_broken))]
 fn computed(
     alloc: Global,
     site: u32,
@@ -27,7 +27,7 @@ fn computed(
 {
     match answer {
         Ok(value) => match literal_expr(site, value) {
-            Some(e) => charge(alloc, site, price, e),
+            Some(e) => Ok(Some(charge(alloc, site, price, e)?)),
             None => Ok(None),
         },
         Err(OpFault::Rule1) => Ok(None),

@@ -1,6 +1,5 @@
 // The price before an expression.
-ghost use Rattle.std.specs.Prelude.{◌≡◌, ◌+◌, ◌^◌, ◌<◌, IfOk, Some};
-ghost use Rattle.std.specs.Option.{option_map};
+ghost use Rattle.std.specs.Prelude.{◌≡◌, ◌+◌, ◌^◌, ◌<◌, ◌↔◌, IfOk, IsTrue, Some};
 ghost use Rattle.cc_ast.specs.Bridge.{term};
 ghost use Rattle.cc_fold.specs.Fold.{price_of, unmarked, charged};
 
@@ -30,18 +29,24 @@ pub fn unmarked(e: &Expr) -> &Expr
     }
 }
 
+/// Whether the expression may have a further price before it.
+pub fn fits(further: u64, e: &Expr) -> bool
+    ensures { IsTrue result ↔ (further + price_of (term e.now) < 2 ^ 64) }
+{
+    further <= u64::MAX - price(e)
+}
+
 /// The expression with a further price before it.
-#[tactic(auto, using(cc_ast::specs::Terms::steps, crate::proofs::Prices::charged_nothing, crate::proofs::Prices::charged_more, crate::proofs::Prices::charged_past))]
-pub fn charge(alloc: Global, site: u32, further: u64, e: Expr) -> Result<Option<Expr>, AllocError>
-    ensures { IfOk result (λ c. option_map term c ≡ charged site further (term e)) }
+#[tactic(auto, using(cc_ast::specs::Terms::steps, crate::proofs::Prices::charged_nothing, crate::proofs::Prices::charged_more))]
+pub fn charge(alloc: Global, site: u32, further: u64, e: Expr) -> Result<Expr, AllocError>
+    requires { further + price_of (term e) < 2 ^ 64 }
+    ensures { IfOk result (λ r. charged site further (term e) ≡ Some (term r)) }
 {
     if further == 0 {
-        return Ok(Some(e));
+        return Ok(e);
     }
-    match further.checked_add(price(&e)) {
-        Some(total) => Ok(Some(Expr::Tick(site, total, without_mark(alloc, e)?))),
-        None => Ok(None),
-    }
+    let total = further + price(&e);
+    Ok(Expr::Tick(site, total, without_mark(alloc, e)?))
 }
 
 // What the mark stands round, by value.
