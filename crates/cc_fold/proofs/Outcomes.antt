@@ -1,5 +1,5 @@
 -- What folding makes of an operator's outcome.
-use Rattle.std.proofs.Common.{◌≡◌, refl, sym, ap, subst, ℕ, ◌^◌, ◌≤◌, Some, None, unwrap_or, arith}
+use Rattle.std.proofs.Common.{◌≡◌, refl, sym, ap, ◌∙◌, subst, ℕ, ◌+◌, ◌<◌, ◌^◌, ◌≤◌, Some, None, unwrap_or, arith}
 use Rattle.cc_ast.specs.Syntax.{Expr, lit, unary, binary}
 use Rattle.cc_ast.specs.declared.operator.BinOp.{BinOp}
 use Rattle.cc_ast.specs.declared.operator.BinOp.TheVariants.{Instance, Has}
@@ -7,15 +7,15 @@ use Rattle.cc_ast.specs.declared.operator.UnOp.{UnOp}
 use Rattle.cc_ast.specs.declared.operator.UnOp.TheVariants.{Void, Delete}
 use Rattle.cc_meaning.specs.Values.{Val, prim, obj, out}
 use Rattle.cc_meaning.specs.Operators.{Outcome, gives, breaks}
-use Rattle.cc_fold.specs.Fold.{computed, computed_of_one, computed_of_two, fold_unary, fold_binary, literal, price_of, charged}
+use Rattle.cc_fold.specs.Fold.{computed, computed_of_one, computed_of_two, fold_unary, fold_binary, literal, price_of, marked, charged}
 use Rattle.cc_fold.specs.Literals.{lit_of}
-use Rattle.cc_fold.proofs.Prices.{charged_past}
+use Rattle.cc_fold.proofs.Prices.{charged_fits, charged_past}
 
-pub computed_given : (i n : ℕ) (v : Val) (e : Expr) → lit_of i v ≡ Some e → computed i n (gives v) ≡ charged i n e
+pub computed_given : (i n : ℕ) (v : Val) (e : Expr) → lit_of i v ≡ Some e → n + price_of e < 2 ^ 64 → computed i n (gives v) ≡ Some (marked i n e)
 unfolding computed
-computed_given i n (prim p) e h = ap (charged i n) (cc)
-computed_given i n (obj m) e h = absurd (cc)
-computed_given i n (out m) e h = absurd (cc)
+computed_given i n (prim p) e h l = let q : lit i p ≡ e = cc in ap (charged i n) q ∙ charged_fits i n e l
+computed_given i n (obj m) e h l = absurd (cc)
+computed_given i n (out m) e h l = absurd (cc)
 
 -- a literal has no mark
 pub literal_price : (i : ℕ) (v : Val) (e : Expr) → lit_of i v ≡ Some e → price_of e ≡ 0
@@ -37,7 +37,7 @@ computed_broken i n r = refl
 -- no price is past 2^64-1
 pub computed_past : (i n : ℕ) (o : Outcome) → 2 ^ 64 ≤ n → computed i n o ≡ None
 unfolding computed price_of
-computed_past i n (gives (prim p)) h = charged_past i n (lit i p) (λ e. omega (arith, e)) (omega (arith, h))
+computed_past i n (gives (prim p)) h = charged_past i n (lit i p) (omega (arith, h))
 computed_past i n (gives (obj m)) h = refl
 computed_past i n (gives (out m)) h = refl
 computed_past i n (breaks r) h = refl

@@ -24,11 +24,15 @@ unfoldable pub unmarked : Expr → Expr
 unmarked (tick i n e) = e
 unmarked e = e
 
--- an expression with a further price before it; none where the prices together would pass 2^64-1
-unfoldable pub charged : (site price : ℕ) → Expr → Option Expr
+-- an expression with a further price before it
+unfoldable pub marked : (site price : ℕ) → Expr → Expr
 unfolding price_of unmarked
-charged i n e =
-    if nat_eq n 0 then Some e else (if nat_lt (n + price_of e) (2 ^ 64) then Some (tick i (n + price_of e) (unmarked e)) else None)
+marked i n e = if nat_eq n 0 then e else tick i (n + price_of e) (unmarked e)
+
+-- the same; none where the prices together would pass 2^64-1
+unfoldable pub charged : (site price : ℕ) → Expr → Option Expr
+unfolding price_of marked
+charged i n e = if nat_lt (n + price_of e) (2 ^ 64) then Some (marked i n e) else None
 
 -- ---- literals
 

@@ -3,6 +3,7 @@
 #![tactic(auto)]
 
 pub mod built;
+mod choice;
 mod literal;
 mod operators;
 pub mod place;

@@ -1,7 +1,7 @@
 // The price before an expression.
-ghost use Rattle.std.specs.Prelude.{◌≡◌, ◌+◌, ◌^◌, ◌<◌, ◌↔◌, IfOk, IsTrue, Some};
+ghost use Rattle.std.specs.Prelude.{◌≡◌, ◌+◌, ◌^◌, ◌<◌, ◌↔◌, IfOk, IsTrue};
 ghost use Rattle.cc_ast.specs.Bridge.{term};
-ghost use Rattle.cc_fold.specs.Fold.{price_of, unmarked, charged};
+ghost use Rattle.cc_fold.specs.Fold.{marked, price_of, unmarked};
 
 use cc_ast::tree::Expr;
 use sqlite_items::Boxed;
@@ -37,10 +37,10 @@ pub fn fits(further: u64, e: &Expr) -> bool
 }
 
 /// The expression with a further price before it.
-#[tactic(auto, using(cc_ast::specs::Terms::steps, crate::proofs::Prices::charged_nothing, crate::proofs::Prices::charged_more))]
+#[tactic(auto, using(cc_ast::specs::Terms::steps, crate::proofs::Prices::marked_nothing, crate::proofs::Prices::marked_more))]
 pub fn charge(alloc: Global, site: u32, further: u64, e: Expr) -> Result<Expr, AllocError>
     requires { further + price_of (term e) < 2 ^ 64 }
-    ensures { IfOk result (λ r. charged site further (term e) ≡ Some (term r)) }
+    ensures { IfOk result (λ r. term r ≡ marked site further (term e)) }
 {
     if further == 0 {
         return Ok(e);
