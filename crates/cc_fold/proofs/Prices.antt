@@ -1,6 +1,5 @@
 -- What an expression with a further price is.
-use Rattle.std.proofs.Common.{◌≡◌, ◌≢◌, refl, ℕ, ◌+◌, ◌^◌, ◌<◌, ◌≤◌, Option, Some, None}
-use Rattle.std.specs.Prelude.{nat_eq, nat_lt}
+use Rattle.std.proofs.Common.{◌≡◌, ◌≢◌, refl, ℕ, ◌+◌, ◌^◌, ◌<◌, ◌≤◌, Some, None}
 use Rattle.std.proofs.lemmas.Bool.{ne_eqb, lt-ltb, le-ltb}
 use Rattle.cc_ast.specs.Syntax.{Expr, tick}
 use Rattle.cc_fold.specs.Fold.{price_of, unmarked, marked, charged}

@@ -46,7 +46,7 @@ fn may_stand(plan: &Plan, in_target: bool, place: Place, price: u64, operand: &E
 }
 
 /// `&&` of operands that are folded.
-#[tactic(auto, using(cc_ast::specs::Terms::steps, crate::proofs::Choices::and_none, crate::proofs::Choices::and_left, crate::proofs::Choices::and_right, crate::proofs::Choices::and_stays))]
+#[tactic(auto, using(cc_ast::specs::Terms::steps, crate::proofs::Choices::and_choices))]
 pub fn fold_and(
     alloc: Global,
     plan: &Plan,
@@ -69,5 +69,64 @@ pub fn fold_and(
             }
         }
         None => Ok(Expr::And(site, left, right)),
+    }
+}
+
+/// `||` of operands that are folded.
+#[tactic(auto, using(cc_ast::specs::Terms::steps, crate::proofs::Choices::or_choices))]
+pub fn fold_or(
+    alloc: Global,
+    plan: &Plan,
+    in_target: bool,
+    place: Place,
+    site: u32,
+    left: Boxed<Expr>,
+    right: Boxed<Expr>,
+) -> Result<Expr, AllocError>
+    ensures { IfOk result (λ r. term r ≡ guard (built_in plan.now) in_target (place_of place) (or site (term left) (term right)) (fold_or site (literal (term left)) (term left) (term right))) }
+{
+    match test_of(alloc, left.get())? {
+        Some(test) => {
+            if test.is_true {
+                Ok(left.into_inner())
+            } else if may_stand(plan, in_target, place, test.price, right.get()) {
+                charge(alloc, site, test.price, right.into_inner())
+            } else {
+                Ok(Expr::Or(site, left, right))
+            }
+        }
+        None => Ok(Expr::Or(site, left, right)),
+    }
+}
+
+/// `?:` of operands that are folded.
+#[tactic(auto, using(cc_ast::specs::Terms::steps, crate::proofs::Choices::cond_choices))]
+pub fn fold_cond(
+    alloc: Global,
+    plan: &Plan,
+    in_target: bool,
+    place: Place,
+    site: u32,
+    test: Boxed<Expr>,
+    yes: Boxed<Expr>,
+    no: Boxed<Expr>,
+) -> Result<Expr, AllocError>
+    ensures { IfOk result (λ r. term r ≡ guard (built_in plan.now) in_target (place_of place) (cond site (term test) (term yes) (term no)) (fold_cond site (literal (term test)) (term test) (term yes) (term no))) }
+{
+    match test_of(alloc, test.get())? {
+        Some(known) => {
+            if known.is_true {
+                if may_stand(plan, in_target, place, known.price, yes.get()) {
+                    charge(alloc, site, known.price, yes.into_inner())
+                } else {
+                    Ok(Expr::Cond(site, test, yes, no))
+                }
+            } else if may_stand(plan, in_target, place, known.price, no.get()) {
+                charge(alloc, site, known.price, no.into_inner())
+            } else {
+                Ok(Expr::Cond(site, test, yes, no))
+            }
+        }
+        None => Ok(Expr::Cond(site, test, yes, no)),
     }
 }
