@@ -25,7 +25,7 @@ shape_tick : (i n : ℕ) (e : Expr) → shape_of (tick i n e) ≡ shape_of e
 unfolding shape_of
 shape_tick i n e = refl
 
-marked_shape : (i n : ℕ) (e : Expr) → shape_of (marked i n e) ≡ shape_of e
+pub marked_shape : (i n : ℕ) (e : Expr) → shape_of (marked i n e) ≡ shape_of e
 unfolding marked
 marked_shape i n e = by_price (nat_eq n 0)
   where
@@ -76,7 +76,7 @@ unfolding fold_cond
 cond_is i e a b s w = ap (λ z. fold_cond i z e a b) w.is ∙ ap (λ z. unwrap_or (charged i w.found.price (if z then a else b)) (cond i e a b)) w.truth ∙ ap (λ z. unwrap_or (charged i z (if s.is_true then a else b)) (cond i e a b)) w.price
 
 module _ (built : Ref → Bool) (t : Bool) (q : Place) where
-  displaces_other : (p : Place) → displaces built t p Other ≡ false
+  pub displaces_other : (p : Place) → displaces built t p Other ≡ false
   unfolding displaces
   displaces_other a_value = refl
   displaces_other an_assigned = refl
@@ -84,7 +84,7 @@ module _ (built : Ref → Bool) (t : Bool) (q : Place) where
   displaces_other a_deleted = refl
   displaces_other an_object = refl
 
-  stays : (old : Expr) → guard built t q old old ≡ old
+  pub stays : (old : Expr) → guard built t q old old ≡ old
   unfolding guard
   stays old = by_test (keeps built t q old old)
     where

@@ -1,8 +1,9 @@
 -- What folding makes of each kind of tree in a scope.
 use Rattle.std.specs.Prelude.{Bool, Option}
 use Rattle.cc_ast.specs.Syntax.{Expr, Target, Exprs, Fields, Declarator, ForInit, ForTarget, Stmt, Stmts, MaybeStmts, Cases}
+use Rattle.cc_ast.specs.declared.tree.Key.{Key}
 use Rattle.cc_ast.specs.declared.tree.Ref.{Ref}
-use Rattle.cc_tied.specs.Placed.{Place}
+use Rattle.cc_tied.specs.Placed.{Place, a_value}
 use Rattle.cc_tied.specs.Rewrites.{re, re_target, re_all, re_fields, re_value, re_option, re_declarator, re_init, re_names, re_stmt, re_stmts, re_maybe, re_cases}
 use Rattle.cc_fold.specs.Fold.{fold, same_call, same_declarator, same_name, same_stmt}
 
@@ -22,6 +23,9 @@ module _ (built : Ref → Bool) where
   unfoldable pub fold_fields : (in_target : Bool) → Fields → Fields
   unfolding re_fields fold same_call
   fold_fields t fs = re_fields built fold same_call t fs
+
+  abbrev pub fold_field : (in_target : Bool) → Key × Expr → Key × Expr
+  fold_field t x = (x.0, fold_expr t a_value x.1)
 
   unfoldable pub fold_value : Expr → Expr
   unfolding re_value fold same_call
