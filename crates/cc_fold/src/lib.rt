@@ -4,6 +4,7 @@
 
 pub mod built;
 mod choice;
+mod expression;
 mod literal;
 mod operators;
 pub mod place;
