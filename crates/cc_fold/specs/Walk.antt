@@ -62,3 +62,7 @@ module _ (built : Ref → Bool) where
   unfoldable pub fold_cases : Cases → Cases
   unfolding re_cases fold same_call same_declarator same_name same_stmt
   fold_cases cs = re_cases built fold same_call same_declarator same_name same_stmt cs
+
+  -- a clause of a `switch`
+  abbrev pub fold_case : Option Expr × Stmts → Option Expr × Stmts
+  fold_case c = (fold_option c.0, fold_stmts c.1)
