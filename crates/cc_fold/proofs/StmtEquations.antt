@@ -2,13 +2,24 @@
 use Rattle.std.proofs.Common.{◌≡◌, refl, ap, ◌∙◌, ℕ, Bool, false, List, [], ◌∷◌, map, Option, Some, None}
 use Rattle.cc_ast.specs.Syntax.{Expr, Target, Declarator, ForInit, no_init, init_value, init_vars, ForTarget, in_target, in_declared, Stmt, simple, vars, fun_decl, if, while, do_while, for, for_in, return, throw, break, continue, label, switch, try, pay_stmt, Stmts, no_stmts, more_stmts, MaybeStmts, absent, present, Cases, no_cases, more_cases}
 use Rattle.cc_ast.specs.declared.tree.Ref.{Ref}
+use Rattle.cc_ast.specs.declared.tree.Declarator as Plain
 use Rattle.cc_ast.specs.declared.tree.Stmt as Tree
 use Rattle.cc_ast.specs.declared.tree.Case.{Case}
-use Rattle.cc_ast.specs.StmtBridge.{stmts, cases, CaseTerm, term_stmt, term_stmts, term_case, term_cases}
+use Rattle.cc_ast.specs.StmtBridge.{declarator, stmts, cases, CaseTerm, term_stmt, term_stmts, term_case, term_cases}
 use Rattle.cc_tied.specs.Placed.{a_value}
 use Rattle.cc_tied.specs.Rewrites.{init_of, re_value, re_option, re_declarator, re_declarators, re_init, re_names, re_stmt, re_stmts, re_maybe, re_cases}
 use Rattle.cc_fold.specs.Fold.{fold, same_call, same_declarator, same_name, same_stmt}
 use Rattle.cc_fold.specs.Walk.{fold_expr, fold_target, fold_value, fold_option, fold_declarator, fold_init, fold_names, fold_stmt, fold_stmts, fold_maybe, fold_cases, fold_case}
+
+-- what a `for` begins with, by its declarators
+pub head_some : (ds : List Plain.Declarator) → (ds ≡ [] → ⊥) → init_of (map declarator ds) ≡ init_vars (map declarator ds)
+unfolding init_of
+head_some [] h = absurd (h refl)
+head_some (d ∷ ds) h = refl
+
+pub head_none : (ds : List Plain.Declarator) → ds ≡ [] → init_of (map declarator ds) ≡ no_init
+unfolding init_of
+head_none ds h = rw h refl
 
 module _ (built : Ref → Bool) where
   pub value_at : (e : Expr) → fold_value built e ≡ fold_expr built false a_value e
@@ -145,3 +156,11 @@ module _ (built : Ref → Bool) where
   pub maybe-present : (b : Stmts) → fold_maybe built (present b) ≡ present (fold_stmts built b)
   unfolding fold_maybe fold_stmts re_maybe
   maybe-present b = refl
+
+pub ruleset option_steps = (option-None, option-Some)
+
+pub ruleset init_steps = (init-no, init-value, init-vars)
+
+pub ruleset names_steps = (names-target, names-declared)
+
+pub ruleset walk = (at-simple, at-vars, at-fun_decl, at-if, at-while, at-do_while, at-for, at-for_in, at-return, at-throw, at-break, at-continue, at-label, at-switch, at-try, at-pay, at-stmts, at-cases, maybe-absent, maybe-present)

@@ -7,5 +7,6 @@ mod choice;
 mod expression;
 mod literal;
 mod operators;
+mod parts;
 pub mod place;
 mod price;
