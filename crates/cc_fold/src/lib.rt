@@ -10,3 +10,4 @@ mod operators;
 mod parts;
 pub mod place;
 mod price;
+mod statement;
