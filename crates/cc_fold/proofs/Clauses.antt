@@ -1,5 +1,5 @@
 -- The clause of a `switch`, and the bodies of a `try`, folded.
-use Rattle.std.proofs.Common.{◌≡◌, refl, sym, ap, ◌∙◌, ℕ, Bool, List, map, Option, Some, None}
+use Rattle.std.proofs.Common.{◌≡◌, sym, ap, ◌∙◌, ℕ, Bool, List, map, Option, Some, None}
 use Rattle.cc_ast.specs.declared.tree.Case.{Case, out-Case, roll-Case, roll-out-Case}
 use Rattle.cc_ast.specs.declared.tree.Expr.{Expr}
 use Rattle.cc_ast.specs.declared.tree.Ref.{Ref}

@@ -1,6 +1,6 @@
 -- Folding, one equation for each kind of statement.
 use Rattle.std.proofs.Common.{◌≡◌, refl, ap, ◌∙◌, ℕ, Bool, false, List, [], ◌∷◌, map, Option, Some, None}
-use Rattle.cc_ast.specs.Syntax.{Expr, Target, Declarator, ForInit, no_init, init_value, init_vars, ForTarget, in_target, in_declared, Stmt, simple, vars, fun_decl, if, while, do_while, for, for_in, return, throw, break, continue, label, switch, try, pay_stmt, Stmts, no_stmts, more_stmts, MaybeStmts, absent, present, Cases, no_cases, more_cases}
+use Rattle.cc_ast.specs.Syntax.{Expr, Target, Declarator, ForInit, no_init, init_value, init_vars, ForTarget, in_target, in_declared, Stmt, simple, vars, fun_decl, if, while, do_while, for, for_in, return, throw, break, continue, label, switch, try, pay_stmt, Stmts, more_stmts, MaybeStmts, absent, present, Cases, more_cases}
 use Rattle.cc_ast.specs.declared.tree.Ref.{Ref}
 use Rattle.cc_ast.specs.declared.tree.Declarator as Plain
 use Rattle.cc_ast.specs.declared.tree.Stmt as Tree
