@@ -236,7 +236,7 @@ module _ (P Q : Program) (al : Alike P Q) where
   fits_t : (f g : ℕ) → Paired N.functions f g → (vs : List Val) (m n : ℕ) → PlaceA S S' N (call_pair f g) m n → slice_get (places_of S f vs) m ≡ slice_get (places_of S' g vs) n
   fits_t f g q vs _ _ (in_call r) = al.fits f g q vs _ _ r
 
-  frame_t : {w : W} (a b : Code) (th th' : Option Val) (vs : List Val) → Paired N.functions a.function b.function → UpA P Q al w.w a.function b.function a.up b.up → th ≡ th' → Sim T (λ v m n. EnvA (A.inside (owns S a.function) (a.function, b.function) (N.around (a.function, b.function))) v.w (record { at = Some m; this = th; declares = None }) (record { at = Some n; this = th'; declares = None })) w (call_frame plain a vs) (call_frame plain b vs)
+  frame_t : {w : W} (a b : Code) (th th' : Option Val) (vs : List Val) → Paired N.functions a.function b.function → UpA P Q al w.w a.function b.function a.up b.up → th ≡ th' → Sim T (λ v m n. EnvA (A.inside (owns S a.function) (a.function, b.function) (N.around (a.function, b.function))) v.w (record { at = Some m; this = th; declares = [] }) (record { at = Some n; this = th'; declares = [] })) w (call_frame plain a vs) (call_frame plain b vs)
   unfolding call_frame plain_tables tables_of places_of
   frame_t {w = w} a b th th' vs q u e =
       sim_tables T _ _ (sim_as T (λ v l m n k. record { at = ap Some k.0; this = e; chain = subst (λ z. Chain v.w z (Some m)) (sym (inside_beyond (owns S a.function) (a.function, b.function) (N.around (a.function, b.function)))) (a.up, k.1, chain_later l.2 _ a.up u.1) })

@@ -120,13 +120,13 @@ module _ (F : Facts) (S : Tables) (set' : List (Path × ℕ)) where
   unfolding call_label innermost
   call_up f u u' vs h = an_up _ refl h
 
-  frame_one : {w : W} (f i i' : ℕ) {u u' : Option ℕ} {th th' : Option Val} {vs us : List Val} → UpT F S w.w (outward F S (called f)) u u' → OptT (Vals w.w) th th' → ListT (Vals w.w) vs us → Sim T (λ v m n. EnvI F S v.w (at (Some f) 0) (record { at = Some m; this = th; declares = None }) (record { at = Some n; this = th'; declares = None })) w (call_frame checked (record { function = f; up = u; site = i }) vs) (call_frame checked (record { function = f; up = u'; site = i' }) us)
+  frame_one : {w : W} (f i i' : ℕ) {u u' : Option ℕ} {th th' : Option Val} {vs us : List Val} → UpT F S w.w (outward F S (called f)) u u' → OptT (Vals w.w) th th' → ListT (Vals w.w) vs us → Sim T (λ v m n. EnvI F S v.w (at (Some f) 0) (record { at = Some m; this = th; declares = [] }) (record { at = Some n; this = th'; declares = [] })) w (call_frame checked (record { function = f; up = u; site = i }) vs) (call_frame checked (record { function = f; up = u'; site = i' }) us)
   unfolding call_frame places_in
   frame_one {w = w} f i i' {u = u} {u' = u'} {vs = vs} {us = us} h th k =
       sim_tables T _ _ (sim_as T (λ v l m n q. env_at (call_up f u u' vs q.pair) (opt_more q.later th) (record { keeps = λ z e. e })) (push_t (call_label f u u' vs) (of_call f) u u' (places_in f vs) (places_in f us) (call_places f h k)))
 
-  pub frame_t : {w : W} {a b : Code} {th th' : Option Val} {vs us : List Val} → Codes F S w.w a b → OptT (Vals w.w) th th' → ListT (Vals w.w) vs us → Sim T (λ v m n. EnvI F S v.w (at (Some a.function) 0) (record { at = Some m; this = th; declares = None }) (record { at = Some n; this = th'; declares = None })) w (call_frame checked a vs) (call_frame checked b us)
-  frame_t {w = w} {a = a} {b = b} {th = th} {th' = th'} {vs = vs} {us = us} c h k = subst (λ z. Sim T (λ v m n. EnvI F S v.w (at (Some a.function) 0) (record { at = Some m; this = th; declares = None }) (record { at = Some n; this = th'; declares = None })) w (call_frame checked a vs) (call_frame checked (record { function = z; up = b.up; site = b.site }) us)) c.function.same (frame_one a.function a.site b.site c.up h k)
+  pub frame_t : {w : W} {a b : Code} {th th' : Option Val} {vs us : List Val} → Codes F S w.w a b → OptT (Vals w.w) th th' → ListT (Vals w.w) vs us → Sim T (λ v m n. EnvI F S v.w (at (Some a.function) 0) (record { at = Some m; this = th; declares = [] }) (record { at = Some n; this = th'; declares = [] })) w (call_frame checked a vs) (call_frame checked b us)
+  frame_t {w = w} {a = a} {b = b} {th = th} {th' = th'} {vs = vs} {us = us} c h k = subst (λ z. Sim T (λ v m n. EnvI F S v.w (at (Some a.function) 0) (record { at = Some m; this = th; declares = [] }) (record { at = Some n; this = th'; declares = [] })) w (call_frame checked a vs) (call_frame checked (record { function = z; up = b.up; site = b.site }) us)) c.function.same (frame_one a.function a.site b.site c.up h k)
 
   -- ---- flat paths and casts
 

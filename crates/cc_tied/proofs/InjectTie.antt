@@ -33,8 +33,8 @@ in_catch (at o c) = at o (suc c)
 in_catch nowhere = nowhere
 
 -- what the left declares the right declares
-pub record DeclaresI (d d' : Option ℕ) : Type 0 where
-  pub keeps : (f : ℕ) → d ≡ Some f → d' ≡ Some f
+pub record DeclaresI (d d' : List ℕ) : Type 0 where
+  pub keeps : (f : ℕ) → In f d → In f d'
 
 -- one key, or a text that the right has written
 pub data KeyI : Access → Access → Type 0 where
@@ -72,7 +72,7 @@ module _ (F : Facts) where
     env_declares (env_at u t d) = d
     env_declares (env_nowhere d) = d
 
-    pub env_top : {w : Tabs} {d d' : Option ℕ} → DeclaresI d d' → EnvI F S w (at None 0) (record { at = None; this = None; declares = d }) (record { at = None; this = None; declares = d' })
+    pub env_top : {w : Tabs} {d d' : List ℕ} → DeclaresI d d' → EnvI F S w (at None 0) (record { at = None; this = None; declares = d }) (record { at = None; this = None; declares = d' })
     unfolding innermost
     env_top d = env_at no_up none_t d
 

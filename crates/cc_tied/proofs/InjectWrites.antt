@@ -15,6 +15,7 @@ use Rattle.cc_meaning.specs.Judge.{writes, least_broken}
 use Rattle.cc_meaning.specs.Acts.{changing, write_slot}
 use Rattle.cc_meaning.specs.Calls.{code_at, is_code_of, declares_on}
 use Rattle.cc_meaning.specs.Script.{checked}
+use Rattle.cc_meaning.specs.Alike.{In, here, there}
 use Rattle.cc_tied.specs.Tied.{ListT, nil_t, cons_t, OptT, none_t, some_t, ValT, prim_t, out_t, obj_t}
 use Rattle.cc_tied.specs.Facts.{Facts}
 use Rattle.cc_tied.specs.Injection.{Pair}
@@ -297,10 +298,26 @@ module _ (F : Facts) (S : Tables) (set' : List (Path × ℕ)) where
   is_code_same none_t f = refl
   is_code_same (some_t h) f = ap (λ z. nat_eq z f) h.function.same
 
-  declared : {w : Tabs} {s t : State} → Tied w s t → {m n : ℕ} → Mates w m n → (d d' : Option ℕ) → ((f : ℕ) → d ≡ Some f → d' ≡ Some f) → declares_on s d (obj m) ≡ true → declares_on t d' (obj n) ≡ true
-  unfolding declares_on code_at
-  declared ti o None d' k e = absurd (cc)
-  declared {w = w} {t = t} ti {m = m} {n = n} o (Some f) d' k e = subst (λ z. declares_on t z (obj n) ≡ true) (sym (k f refl)) (sym (is_code_same (code_at_tied F S w (at_of F S set' ti m n o)) f) ∙ e)
+  -- one of the functions is that of the object
+  declared_one : (t : State) (n : ℕ) {f : ℕ} {fs : List ℕ} → is_code_of (code_at t n) f ≡ true → In f fs → declares_on t fs (obj n) ≡ true
+  unfolding declares_on
+  declared_one t n {fs = []} h i = elim i [ ]
+  declared_one t n {fs = g ∷ fs} h here = ap (λ z. z || declares_on t fs (obj n)) h
+  declared_one t n {fs = g ∷ fs} h (there i) = true_or (is_code_of (code_at t n) g) (declared_one t n h i)
+    where
+      true_or : (b : Bool) {c : Bool} → c ≡ true → b || c ≡ true
+      true_or true e = refl
+      true_or false e = e
 
-  pub write_t : {w : W} (i i' : Spot) {m n : ℕ} → Mates w.w m n → {a b : Access} → KeyI a b → {x y : Val} → Vals w.w x y → {d d' : Option ℕ} → DeclaresI d d' → Sim T Done w (λ s. write_slot checked i m a (kind_by a) x (declares_on s d (obj m)) s) (λ s. write_slot checked i' n b (kind_by b) y (declares_on s d' (obj n)) s)
+  declared : {w : Tabs} {s t : State} → Tied w s t → {m n : ℕ} → Mates w m n → (d d' : List ℕ) → ((f : ℕ) → In f d → In f d') → declares_on s d (obj m) ≡ true → declares_on t d' (obj n) ≡ true
+  unfolding declares_on code_at
+  declared ti o [] d' k e = absurd (cc)
+  declared {w = w} {s = s} {t = t} ti {m = m} {n = n} o (f ∷ fs) d' k e =
+      by_first (is_code_of (code_at s m) f) (λ c. declared_one t n (sym (is_code_same (code_at_tied F S w (at_of F S set' ti m n o)) f) ∙ c) (k f here)) (declared ti o fs d' (λ g i. k g (there i))) e
+    where
+      by_first : (b : Bool) {c : Bool} → (b ≡ true → declares_on t d' (obj n) ≡ true) → (c ≡ true → declares_on t d' (obj n) ≡ true) → b || c ≡ true → declares_on t d' (obj n) ≡ true
+      by_first true one others e = one refl
+      by_first false one others e = others e
+
+  pub write_t : {w : W} (i i' : Spot) {m n : ℕ} → Mates w.w m n → {a b : Access} → KeyI a b → {x y : Val} → Vals w.w x y → {d d' : List ℕ} → DeclaresI d d' → Sim T Done w (λ s. write_slot checked i m a (kind_by a) x (declares_on s d (obj m)) s) (λ s. write_slot checked i' n b (kind_by b) y (declares_on s d' (obj n)) s)
   write_t i i' {m = m} {n = n} o q v {d = d} {d' = d'} k s t ti le le' = write_slot_t i i' o q (kind_by_tied q) v (declares_on s d (obj m)) (declares_on t d' (obj n)) (declared ti o d d' k.keeps) s t ti le le'
