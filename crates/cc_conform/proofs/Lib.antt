@@ -4,3 +4,6 @@ pub mod TypeLemmas
 pub mod SlotLemmas
 pub mod FieldLemmas
 pub mod MetLemmas
+pub mod ReadLemmas
+pub mod PrototypeLemmas
+pub mod WriteLemmas
