@@ -3,3 +3,7 @@ pub mod DocLemmas
 pub mod TypeLemmas
 pub mod SlotLemmas
 pub mod FieldLemmas
+pub mod MetLemmas
+pub mod ReadLemmas
+pub mod PrototypeLemmas
+pub mod WriteLemmas

@@ -1,2 +1,4 @@
 pub mod Bridge
 pub mod Slots
+pub mod Met
+pub mod Prototypes

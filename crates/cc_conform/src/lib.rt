@@ -5,7 +5,11 @@
 pub mod act;
 mod docs;
 mod fields;
+mod look_up;
 mod names;
+mod prototypes;
+mod reads;
 mod rules;
 mod slots;
 mod types;
+mod writes;
