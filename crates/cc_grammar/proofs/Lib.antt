@@ -41,6 +41,7 @@ pub mod Moves
 pub mod MovesDerived
 pub mod Fails
 pub mod FrontsLists
+pub mod FrontsPrimary
 pub mod OneReading
 pub mod OnTokens
 pub mod Copies
