@@ -42,6 +42,7 @@ pub mod MovesDerived
 pub mod Fails
 pub mod FrontsLists
 pub mod FrontsPrimary
+pub mod FrontsExpressions
 pub mod OneReading
 pub mod OnTokens
 pub mod Copies
