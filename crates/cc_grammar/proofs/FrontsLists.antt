@@ -34,7 +34,7 @@ PP ps us vs = MoreParams us ps vs
 
 no_params : (xs : Symbols) → Begun PP xs xs
 no_params xs = record { front = stays xs; more = λ zs. real (token (k.due k.variable)) ∷ real (token (k.mark mark.CloseParen)) ∷ zs; tree = record { place = nowhere; name = [] } ∷ [];
-  holds = λ zs. g.last_param (g.any_variable (new_at (k.due k.variable))) (new_at (k.mark mark.CloseParen)); first = λ zs. fresh (k.due k.variable) refl refl refl }
+  holds = λ zs. g.last_param (g.any_variable (new_at (k.due k.variable))) (new_at (k.mark mark.CloseParen)); first = λ zs. fresh (k.due k.variable) refl refl }
 
 params_fail : {b : ℕ} (m : ℕ) (before : List Named) (xs : Symbols) → reals xs < m → Fails b (λ _ i. Begun PP xs i) (s.params m before xs)
 unfolding r.params
@@ -82,14 +82,14 @@ abbrev pub CC : Context → ℕ → List RawStmt → Symbols → Symbols → Typ
 CC c j b us vs = Closed c j b us vs
 
 pub no_body : (xs : Symbols) (c : Context) (j : ℕ) → Begun (CC c j) xs xs
-no_body xs c j = record { front = stays xs; more = λ zs. real (token (k.mark mark.CloseBrace)) ∷ zs; tree = []; holds = λ zs. record { last = _; body = g.done; close = new_at (k.mark mark.CloseBrace) }; first = λ zs. fresh (k.mark mark.CloseBrace) refl refl refl }
+no_body xs c j = record { front = stays xs; more = λ zs. real (token (k.mark mark.CloseBrace)) ∷ zs; tree = []; holds = λ zs. record { last = _; body = g.done; close = new_at (k.mark mark.CloseBrace) }; first = λ zs. fresh (k.mark mark.CloseBrace) refl refl }
 
 abbrev pub UU : ℕ → (List Named × List RawStmt) → Symbols → Symbols → Type 0
 UU j p us vs = Function j us p.0 p.1 vs
 
 pub no_function : (xs : Symbols) (j : ℕ) → Begun (UU j) xs xs
 no_function xs j = record { front = stays xs; more = λ zs. real (token (k.mark mark.OpenParen)) ∷ real (token (k.mark mark.CloseParen)) ∷ real (token (k.mark mark.OpenBrace)) ∷ real (token (k.mark mark.CloseBrace)) ∷ zs; tree = ([], []);
-  holds = λ zs. g.function_body (new_at (k.mark mark.OpenParen)) (g.no_params (new_at (k.mark mark.CloseParen))) (new_at (k.mark mark.OpenBrace)) g.done (new_at (k.mark mark.CloseBrace)); first = λ zs. fresh (k.mark mark.OpenParen) refl refl refl }
+  holds = λ zs. g.function_body (new_at (k.mark mark.OpenParen)) (g.no_params (new_at (k.mark mark.CloseParen))) (new_at (k.mark mark.OpenBrace)) g.done (new_at (k.mark mark.CloseBrace)); first = λ zs. fresh (k.mark mark.OpenParen) refl refl }
 
 module _ (d n : ℕ) (inner : In) (sound : SoundInner d inner) (all : FailsInner d n inner) where
   -- ---- the elements of an array
@@ -102,7 +102,7 @@ module _ (d n : ℕ) (inner : In) (sound : SoundInner d inner) (all : FailsInner
         (λ e. let c = consumed xs (k.due k.element) refl (element_true _ e) in fails_after (expected mark.CloseBracket (rest xs)) (expect_fails mark.CloseBracket (rest xs) 0 (record {
           front = taken c; more = λ zs. real (token (k.mark mark.CloseBracket)) ∷ zs; tree = []; holds = λ zs. g.any_element (again c _) (new_at (k.mark mark.CloseBracket)); first = λ zs. same refl })) (λ _ zs q. fine))
         (λ _. fails_fork (is_mark mark.Comma (look xs).kind) _ _
-          (λ _. stop refl 0 (record { front = stays xs; more = λ zs. real (token (k.mark mark.CloseBracket)) ∷ zs; tree = []; holds = λ zs. g.no_element (new_at (k.mark mark.CloseBracket)); first = λ zs. fresh (k.mark mark.CloseBracket) refl refl refl }))
+          (λ _. stop refl 0 (record { front = stays xs; more = λ zs. real (token (k.mark mark.CloseBracket)) ∷ zs; tree = []; holds = λ zs. g.no_element (new_at (k.mark mark.CloseBracket)); first = λ zs. fresh (k.mark mark.CloseBracket) refl refl }))
           (λ _. fails_after (sound.expr true 1 xs (omega arith))
             (fails_map (λ j. j) (λ j l. l) (λ j i w. record { front = w.front; more = λ zs. w.more (real (token (k.mark mark.CloseBracket)) ∷ zs); tree = w.tree ∷ []; holds = λ zs. g.last_element (w.holds _) (new_at (k.mark mark.CloseBracket));
               first = λ zs. w.first _ }) (all.expr lt true 1 xs ln (omega arith)))
@@ -121,7 +121,7 @@ module _ (d n : ℕ) (inner : In) (sound : SoundInner d inner) (all : FailsInner
   no_field_yet : (xs : Symbols) (j : ℕ) → Begun (FF j) xs xs
   no_field_yet xs j = record { front = stays xs; more = λ zs. real (token (k.due k.key)) ∷ real (token (k.mark mark.Colon)) ∷ real (token (k.due k.operand)) ∷ zs;
     tree = record { place = nowhere; key = raw.dotted []; value = raw.lit nowhere undefined };
-    holds = λ zs. g.field (new_at (k.due k.key)) refl (new_at (k.mark mark.Colon)) (g.operand (new_at (k.due k.operand))); first = λ zs. fresh (k.due k.key) refl refl refl }
+    holds = λ zs. g.field (new_at (k.due k.key)) refl (new_at (k.mark mark.Colon)) (g.operand (new_at (k.due k.operand))); first = λ zs. fresh (k.due k.key) refl refl }
 
   -- a key has come
   key_begun : {x : Kind} {y : RawKey} {xs ys : Symbols} (j : ℕ) → At x xs ys → key_of x ≡ Some y → Begun (FF j) xs ys
@@ -195,7 +195,7 @@ module _ (d n : ℕ) (inner : In) (sound : SoundInner d inner) (all : FailsInner
     holds = λ zs f. g.next (higher_t (max h j) (omega arith) (m.holds _ (fits (w.first zs)))) (higher_body (max h j) (omega arith) (w.holds zs f)); first = λ zs. same (look_kept m.front (t_less x) _) } where
     fits : {us : Symbols} → First ys us → Fits ys us
     fits (same e) = moves.same e
-    fits (fresh x o t e) = free (ap (λ z. is_tail z.kind) e ∙ t)
+    fits (fresh x t e) = free (ap (λ z. is_tail z.kind) e ∙ t)
 
   list_fails : (c : Context) (m : ℕ) (before : List RawStmt) (h : ℕ) (xs : Symbols) → 0 < d → reals xs < m → reals xs < n → Fails d (λ j i. Begun (BB c j) xs i) (s.list d n inner c m before h xs)
   unfolding r.list
@@ -220,7 +220,7 @@ module _ (d n : ℕ) (inner : In) (sound : SoundInner d inner) (all : FailsInner
     body_first : {xs ys : Symbols} (f : Front xs ys) (zs : Symbols) → First xs (f.go (real (token (k.mark mark.CloseBrace)) ∷ zs))
     body_first {xs} {ys} f zs = by f.before (f.prefix ys) (f.prefix (real (token (k.mark mark.CloseBrace)) ∷ zs)) where
       by : (before : Symbols) → f.go ys ≡ before ++ ys → f.go (real (token (k.mark mark.CloseBrace)) ∷ zs) ≡ before ++ real (token (k.mark mark.CloseBrace)) ∷ zs → First xs (f.go (real (token (k.mark mark.CloseBrace)) ∷ zs))
-      by [] e h = fresh (k.mark mark.CloseBrace) refl refl (ap look h)
+      by [] e h = fresh (k.mark mark.CloseBrace) refl (ap look h)
       by (m ∷ before) e h = same (ap look h ∙ sym (ap look e) ∙ ap look f.is)
 
   pub function_fails : (xs : Symbols) → 0 < d → reals xs < n → Fails d (λ j i. Begun (UU j) xs i) (s.function d n inner xs)

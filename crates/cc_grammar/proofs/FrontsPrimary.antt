@@ -180,7 +180,7 @@ module _ (d n : ℕ) (inner : In) (sound : SoundInner d inner) (all : FailsInner
         (suc (max a.1 0)) (bracket_begun calls b 0 t c (no_e (rest ys) 0 true 0))
   suffix_fails true b a xs ys next x v ln e q view.call h f = let c = consumed ys (k.mark mark.OpenParen) refl e in let t = h.onward (has_suffix (look ys).kind r.by_call (ap (suffix_of true) e) (λ z. cc)) in
       deeper_fails c (λ lt. fails_after (called_sound d n inner sound b a xs ys e t lt) (called_fails b a xs ys ln lt t c) (λ w zs p. f w zs p.0 lt p.1)) a.1 (omega (arith, h.whole.low)) (whole_e h.whole.tree)
-        (suc (max a.1 0)) (call_begun b 0 t c (record { front = stays (rest ys); more = λ zs. real (token (k.mark mark.CloseParen)) ∷ zs; tree = []; holds = λ zs. g.no_argument (new_at (k.mark mark.CloseParen)); first = λ zs. fresh (k.mark mark.CloseParen) refl refl refl }))
+        (suc (max a.1 0)) (call_begun b 0 t c (record { front = stays (rest ys); more = λ zs. real (token (k.mark mark.CloseParen)) ∷ zs; tree = []; holds = λ zs. g.no_argument (new_at (k.mark mark.CloseParen)); first = λ zs. fresh (k.mark mark.CloseParen) refl refl }))
   suffix_fails false b a xs ys next x v ln e q view.call h f = let no : r.no_suffix ≡ r.by_call = q in absurd (cc)
   suffix_fails calls b a xs ys next x v ln e q view.none h f = fine
 

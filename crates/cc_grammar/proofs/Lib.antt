@@ -43,6 +43,7 @@ pub mod Fails
 pub mod FrontsLists
 pub mod FrontsPrimary
 pub mod FrontsExpressions
+pub mod FrontsClauses
 pub mod OneReading
 pub mod OnTokens
 pub mod Copies
