@@ -57,7 +57,7 @@ variable_again (g.any_variable c) zs = g.any_variable (again c zs)
 -- The first symbol stays, or it is one that completes.
 pub data First (xs us : Symbols) : Type 0 where
   same : look us ≡ look xs → First xs us
-  fresh : (x : Kind) → opens_no_expression x ≡ false → is_tail x ≡ false → look us ≡ token x → First xs us
+  fresh : (x : Kind) → is_tail x ≡ false → look us ≡ token x → First xs us
 
 -- The symbols from xs up to i begin a P, which more symbols complete.
 pub record Begun {A : Type 0} (P : A → Symbols → Symbols → Type 0) (xs i : Symbols) : Type 0 where
@@ -76,10 +76,10 @@ TT c j b us vs = is_tail (look vs).kind ≡ false → T c j us b vs
 
 -- nothing has come
 pub no_e : (xs : Symbols) (j : ℕ) (b : Bool) (l : ℕ) → Begun (EE j b l) xs xs
-no_e xs j b l = record { front = stays xs; more = λ zs. real (token (k.due k.operand)) ∷ zs; tree = raw.lit nowhere undefined; holds = λ zs. g.operand (new_at (k.due k.operand)); first = λ zs. fresh (k.due k.operand) refl refl refl }
+no_e xs j b l = record { front = stays xs; more = λ zs. real (token (k.due k.operand)) ∷ zs; tree = raw.lit nowhere undefined; holds = λ zs. g.operand (new_at (k.due k.operand)); first = λ zs. fresh (k.due k.operand) refl refl }
 
 pub no_t : (xs : Symbols) (c : Context) (j : ℕ) → Begun (TT c j) xs xs
-no_t xs c j = record { front = stays xs; more = λ zs. real (token (k.due k.statement)) ∷ zs; tree = []; holds = λ zs _. g.any_statement (new_at (k.due k.statement)); first = λ zs. fresh (k.due k.statement) refl refl refl }
+no_t xs c j = record { front = stays xs; more = λ zs. real (token (k.due k.statement)) ∷ zs; tree = []; holds = λ zs _. g.any_statement (new_at (k.due k.statement)); first = λ zs. fresh (k.due k.statement) refl refl }
 
 -- ---- where reading stops
 

@@ -34,7 +34,7 @@ PP ps us vs = MoreParams us ps vs
 
 no_params : (xs : Symbols) → Begun PP xs xs
 no_params xs = record { front = stays xs; more = λ zs. real (token (k.due k.variable)) ∷ real (token (k.mark mark.CloseParen)) ∷ zs; tree = record { place = nowhere; name = [] } ∷ [];
-  holds = λ zs. g.last_param (g.any_variable (new_at (k.due k.variable))) (new_at (k.mark mark.CloseParen)); first = λ zs. fresh (k.due k.variable) refl refl refl }
+  holds = λ zs. g.last_param (g.any_variable (new_at (k.due k.variable))) (new_at (k.mark mark.CloseParen)); first = λ zs. fresh (k.due k.variable) refl refl }
 
 params_fail : {b : ℕ} (m : ℕ) (before : List Named) (xs : Symbols) → reals xs < m → Fails b (λ _ i. Begun PP xs i) (s.params m before xs)
 unfolding r.params
@@ -54,11 +54,45 @@ unfolding r.params_of
 params_of_fail m xs lt = fails_fork (is_mark mark.CloseParen (look xs).kind) _ _ (λ _. fine)
     (λ _. fails_map (λ j. j) (λ j lt. lt) (λ j i w. record { front = w.front; more = w.more; tree = w.tree; holds = λ zs. g.some_params (w.holds zs); first = w.first }) (params_fail m [] xs lt))
 
+abbrev pub LL : ℕ → List RawExpr → Symbols → Symbols → Type 0
+LL j es us vs = Elements j us es vs
+
+abbrev pub FF : ℕ → RawField → Symbols → Symbols → Type 0
+FF j f us vs = Field j us f vs
+
+abbrev pub FS : ℕ → List RawField → Symbols → Symbols → Type 0
+FS j fs us vs = Fields j us fs vs
+
+abbrev pub MM : ℕ → List RawExpr → Symbols → Symbols → Type 0
+MM j es us vs = MoreArguments j us es vs
+
+abbrev pub AA : ℕ → List RawExpr → Symbols → Symbols → Type 0
+AA j es us vs = Arguments j us es vs
+
+abbrev pub BB : Context → ℕ → List RawStmt → Symbols → Symbols → Type 0
+BB c j b us vs = is_tail (look vs).kind ≡ false → Body c j us b vs
+
+-- statements up to the brace that closes them
+pub record Closed (c : Context) (j : ℕ) (b : List RawStmt) (us vs : Symbols) : Type 0 where
+  pub last : Symbols
+  pub body : Body c j us b last
+  pub close : Sign mark.CloseBrace last vs
+
+abbrev pub CC : Context → ℕ → List RawStmt → Symbols → Symbols → Type 0
+CC c j b us vs = Closed c j b us vs
+
+pub no_body : (xs : Symbols) (c : Context) (j : ℕ) → Begun (CC c j) xs xs
+no_body xs c j = record { front = stays xs; more = λ zs. real (token (k.mark mark.CloseBrace)) ∷ zs; tree = []; holds = λ zs. record { last = _; body = g.done; close = new_at (k.mark mark.CloseBrace) }; first = λ zs. fresh (k.mark mark.CloseBrace) refl refl }
+
+abbrev pub UU : ℕ → (List Named × List RawStmt) → Symbols → Symbols → Type 0
+UU j p us vs = Function j us p.0 p.1 vs
+
+pub no_function : (xs : Symbols) (j : ℕ) → Begun (UU j) xs xs
+no_function xs j = record { front = stays xs; more = λ zs. real (token (k.mark mark.OpenParen)) ∷ real (token (k.mark mark.CloseParen)) ∷ real (token (k.mark mark.OpenBrace)) ∷ real (token (k.mark mark.CloseBrace)) ∷ zs; tree = ([], []);
+  holds = λ zs. g.function_body (new_at (k.mark mark.OpenParen)) (g.no_params (new_at (k.mark mark.CloseParen))) (new_at (k.mark mark.OpenBrace)) g.done (new_at (k.mark mark.CloseBrace)); first = λ zs. fresh (k.mark mark.OpenParen) refl refl }
+
 module _ (d n : ℕ) (inner : In) (sound : SoundInner d inner) (all : FailsInner d n inner) where
   -- ---- the elements of an array
-
-  abbrev LL : ℕ → List RawExpr → Symbols → Symbols → Type 0
-  LL j es us vs = Elements j us es vs
 
   elements_fail : (m : ℕ) (before : List RawExpr) (h : ℕ) (xs : Symbols) → 0 < d → reals xs < m → reals xs < n → Fails d (λ j i. Begun (LL j) xs i) (s.elements d n inner m before h xs)
   unfolding r.elements
@@ -68,7 +102,7 @@ module _ (d n : ℕ) (inner : In) (sound : SoundInner d inner) (all : FailsInner
         (λ e. let c = consumed xs (k.due k.element) refl (element_true _ e) in fails_after (expected mark.CloseBracket (rest xs)) (expect_fails mark.CloseBracket (rest xs) 0 (record {
           front = taken c; more = λ zs. real (token (k.mark mark.CloseBracket)) ∷ zs; tree = []; holds = λ zs. g.any_element (again c _) (new_at (k.mark mark.CloseBracket)); first = λ zs. same refl })) (λ _ zs q. fine))
         (λ _. fails_fork (is_mark mark.Comma (look xs).kind) _ _
-          (λ _. stop refl 0 (record { front = stays xs; more = λ zs. real (token (k.mark mark.CloseBracket)) ∷ zs; tree = []; holds = λ zs. g.no_element (new_at (k.mark mark.CloseBracket)); first = λ zs. fresh (k.mark mark.CloseBracket) refl refl refl }))
+          (λ _. stop refl 0 (record { front = stays xs; more = λ zs. real (token (k.mark mark.CloseBracket)) ∷ zs; tree = []; holds = λ zs. g.no_element (new_at (k.mark mark.CloseBracket)); first = λ zs. fresh (k.mark mark.CloseBracket) refl refl }))
           (λ _. fails_after (sound.expr true 1 xs (omega arith))
             (fails_map (λ j. j) (λ j l. l) (λ j i w. record { front = w.front; more = λ zs. w.more (real (token (k.mark mark.CloseBracket)) ∷ zs); tree = w.tree ∷ []; holds = λ zs. g.last_element (w.holds _) (new_at (k.mark mark.CloseBracket));
               first = λ zs. w.first _ }) (all.expr lt true 1 xs ln (omega arith)))
@@ -84,16 +118,10 @@ module _ (d n : ℕ) (inner : In) (sound : SoundInner d inner) (all : FailsInner
 
   -- ---- object literals
 
-  abbrev FF : ℕ → RawField → Symbols → Symbols → Type 0
-  FF j f us vs = Field j us f vs
-
-  abbrev FS : ℕ → List RawField → Symbols → Symbols → Type 0
-  FS j fs us vs = Fields j us fs vs
-
   no_field_yet : (xs : Symbols) (j : ℕ) → Begun (FF j) xs xs
   no_field_yet xs j = record { front = stays xs; more = λ zs. real (token (k.due k.key)) ∷ real (token (k.mark mark.Colon)) ∷ real (token (k.due k.operand)) ∷ zs;
     tree = record { place = nowhere; key = raw.dotted []; value = raw.lit nowhere undefined };
-    holds = λ zs. g.field (new_at (k.due k.key)) refl (new_at (k.mark mark.Colon)) (g.operand (new_at (k.due k.operand))); first = λ zs. fresh (k.due k.key) refl refl refl }
+    holds = λ zs. g.field (new_at (k.due k.key)) refl (new_at (k.mark mark.Colon)) (g.operand (new_at (k.due k.operand))); first = λ zs. fresh (k.due k.key) refl refl }
 
   -- a key has come
   key_begun : {x : Kind} {y : RawKey} {xs ys : Symbols} (j : ℕ) → At x xs ys → key_of x ≡ Some y → Begun (FF j) xs ys
@@ -141,12 +169,6 @@ module _ (d n : ℕ) (inner : In) (sound : SoundInner d inner) (all : FailsInner
 
   -- ---- the arguments of a call
 
-  abbrev MM : ℕ → List RawExpr → Symbols → Symbols → Type 0
-  MM j es us vs = MoreArguments j us es vs
-
-  abbrev AA : ℕ → List RawExpr → Symbols → Symbols → Type 0
-  AA j es us vs = Arguments j us es vs
-
   arguments_fail : (m : ℕ) (before : List RawExpr) (h : ℕ) (xs : Symbols) → 0 < d → reals xs < m → reals xs < n → Fails d (λ j i. Begun (MM j) xs i) (s.arguments d n inner m before h xs)
   unfolding r.arguments
   arguments_fail zero before h xs lt lm ln = absurd (omega arith)
@@ -167,16 +189,13 @@ module _ (d n : ℕ) (inner : In) (sound : SoundInner d inner) (all : FailsInner
 
   -- ---- statements one behind the other, and functions
 
-  abbrev BB : Context → ℕ → List RawStmt → Symbols → Symbols → Type 0
-  BB c j b us vs = is_tail (look vs).kind ≡ false → Body c j us b vs
-
   -- a statement before others that have begun
   next_begun : {c : Context} {h : ℕ} {a : List RawStmt} {xs ys i : Symbols} (j : ℕ) → T c h xs a ys → Begun (BB c j) ys i → Begun (BB c (max h j)) xs i
   next_begun {h} {a} {ys} j x w = let m = t_moves x in record { front = joined m.front w.front; more = w.more; tree = a ++ w.tree;
     holds = λ zs f. g.next (higher_t (max h j) (omega arith) (m.holds _ (fits (w.first zs)))) (higher_body (max h j) (omega arith) (w.holds zs f)); first = λ zs. same (look_kept m.front (t_less x) _) } where
     fits : {us : Symbols} → First ys us → Fits ys us
     fits (same e) = moves.same e
-    fits (fresh x o t e) = free (ap (λ z. is_tail z.kind) e ∙ t)
+    fits (fresh x t e) = free (ap (λ z. is_tail z.kind) e ∙ t)
 
   list_fails : (c : Context) (m : ℕ) (before : List RawStmt) (h : ℕ) (xs : Symbols) → 0 < d → reals xs < m → reals xs < n → Fails d (λ j i. Begun (BB c j) xs i) (s.list d n inner c m before h xs)
   unfolding r.list
@@ -189,20 +208,8 @@ module _ (d n : ℕ) (inner : In) (sound : SoundInner d inner) (all : FailsInner
   pub statements_fail : (c : Context) (xs : Symbols) → 0 < d → reals xs < n → Fails d (λ j i. Begun (BB c j) xs i) (s.list d n inner c n [] 0 xs)
   statements_fail c xs lt ln = list_fails c n [] 0 xs lt ln ln
 
-  -- statements up to the brace that closes them
-  pub record Closed (c : Context) (j : ℕ) (b : List RawStmt) (us vs : Symbols) : Type 0 where
-    pub last : Symbols
-    pub body : Body c j us b last
-    pub close : Sign mark.CloseBrace last vs
-
-  abbrev pub CC : Context → ℕ → List RawStmt → Symbols → Symbols → Type 0
-  CC c j b us vs = Closed c j b us vs
-
   closing : {c : Context} {j : ℕ} {xs i : Symbols} → Begun (BB c j) xs i → Begun (CC c j) xs i
   closing w = record { front = w.front; more = λ zs. w.more (real (token (k.mark mark.CloseBrace)) ∷ zs); tree = w.tree; holds = λ zs. record { last = _; body = w.holds _ refl; close = new_at (k.mark mark.CloseBrace) }; first = λ zs. w.first _ }
-
-  pub no_body : (xs : Symbols) (c : Context) (j : ℕ) → Begun (CC c j) xs xs
-  no_body xs c j = record { front = stays xs; more = λ zs. real (token (k.mark mark.CloseBrace)) ∷ zs; tree = []; holds = λ zs. record { last = _; body = g.done; close = new_at (k.mark mark.CloseBrace) }; first = λ zs. fresh (k.mark mark.CloseBrace) refl refl refl }
 
   pub body_fails : (c : Context) (xs : Symbols) → 0 < d → reals xs < n → Fails d (λ j i. Begun (CC c j) xs i) (s.body d n inner c xs)
   unfolding r.body
@@ -213,15 +220,8 @@ module _ (d n : ℕ) (inner : In) (sound : SoundInner d inner) (all : FailsInner
     body_first : {xs ys : Symbols} (f : Front xs ys) (zs : Symbols) → First xs (f.go (real (token (k.mark mark.CloseBrace)) ∷ zs))
     body_first {xs} {ys} f zs = by f.before (f.prefix ys) (f.prefix (real (token (k.mark mark.CloseBrace)) ∷ zs)) where
       by : (before : Symbols) → f.go ys ≡ before ++ ys → f.go (real (token (k.mark mark.CloseBrace)) ∷ zs) ≡ before ++ real (token (k.mark mark.CloseBrace)) ∷ zs → First xs (f.go (real (token (k.mark mark.CloseBrace)) ∷ zs))
-      by [] e h = fresh (k.mark mark.CloseBrace) refl refl (ap look h)
+      by [] e h = fresh (k.mark mark.CloseBrace) refl (ap look h)
       by (m ∷ before) e h = same (ap look h ∙ sym (ap look e) ∙ ap look f.is)
-
-  abbrev pub UU : ℕ → (List Named × List RawStmt) → Symbols → Symbols → Type 0
-  UU j p us vs = Function j us p.0 p.1 vs
-
-  pub no_function : (xs : Symbols) (j : ℕ) → Begun (UU j) xs xs
-  no_function xs j = record { front = stays xs; more = λ zs. real (token (k.mark mark.OpenParen)) ∷ real (token (k.mark mark.CloseParen)) ∷ real (token (k.mark mark.OpenBrace)) ∷ real (token (k.mark mark.CloseBrace)) ∷ zs; tree = ([], []);
-    holds = λ zs. g.function_body (new_at (k.mark mark.OpenParen)) (g.no_params (new_at (k.mark mark.CloseParen))) (new_at (k.mark mark.OpenBrace)) g.done (new_at (k.mark mark.CloseBrace)); first = λ zs. fresh (k.mark mark.OpenParen) refl refl refl }
 
   pub function_fails : (xs : Symbols) → 0 < d → reals xs < n → Fails d (λ j i. Begun (UU j) xs i) (s.function d n inner xs)
   unfolding r.function

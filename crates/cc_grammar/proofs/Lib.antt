@@ -42,6 +42,9 @@ pub mod Moves
 pub mod MovesDerived
 pub mod Fails
 pub mod FrontsLists
+pub mod FrontsPrimary
+pub mod FrontsExpressions
+pub mod FrontsClauses
 pub mod OneReading
 pub mod Copies
 pub mod CopySteps
