@@ -17,6 +17,8 @@ mod parts;
 mod place;
 mod price;
 mod statement;
+#[cfg(test)]
+mod tests;
 
 use crate::built::{Plan, built_of};
 use crate::statement::fold_stmts;
