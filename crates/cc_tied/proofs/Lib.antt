@@ -61,3 +61,5 @@ pub mod FineParts
 pub mod InjectFacts
 pub mod InjectPass
 pub mod InjectRewrites
+pub mod KeptPaths
+pub mod KeptSets

@@ -7,3 +7,4 @@ pub mod FoldExample
 pub mod Facts
 pub mod Injection
 pub mod PlainFacts
+pub mod Mixed
