@@ -63,3 +63,4 @@ pub mod InjectPass
 pub mod InjectRewrites
 pub mod KeptPaths
 pub mod KeptSets
+pub mod MixedSame
