@@ -6,4 +6,5 @@ pub mod Fine
 pub mod FoldExample
 pub mod Facts
 pub mod Injection
+pub mod Pure
 pub mod PlainFacts
