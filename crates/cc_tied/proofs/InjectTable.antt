@@ -1,5 +1,5 @@
 -- Tables that are tied by a partial injection stay tied: both runs add an entry or change one, or the left one alone does.
-use Rattle.std.proofs.Common.{◌≡◌, ◌≢◌, ◌⊎◌, inl, inr, ℕ, zero, suc, ◌<◌, List, [], ◌∷◌, ◌++◌, length, Option, Some, None, refl, sym, ap, ◌∙◌, arith}
+use Rattle.std.proofs.Common.{◌≡◌, ◌≢◌, ◌⊎◌, inl, inr, ℕ, zero, suc, ◌<◌, List, [], ◌∷◌, ◌++◌, length, Option, Some, None, refl, sym, ap, subst, ◌∙◌, arith}
 use Rattle.std.specs.Prelude.{slice_get, slice_set}
 use Rattle.cc_meaning.specs.Alike.{In, here, there}
 use Rattle.cc_tied.specs.Injection.{Pair, Lone, Holds, holds, Both, both, Table}
@@ -213,5 +213,31 @@ module _ {X Y A : Type 0} {R : X → A → A → Type 0} {Z : Y → A → Type 0
       left_one = t.left_one;
       right_one = t.right_one;
       lone = still_held;
+      apart = t.apart;
+    }
+
+  -- ---- the left run changes whichever entry, in a way that keeps what it is tied to and what is known of it
+
+  module _ (n : ℕ) (o a : A) (there_o : slice_get xs n ≡ Some o) (keep : (x : X) (b : A) → R x o b → R x a b) (keep' : (y : Y) → Z y o → Z y a) where
+    as_left : (x : X) (u v : Option A) → u ≡ Some o → Both (R x) u v → Both (R x) (Some a) v
+    as_left x _ _ e (both {a = c} {b = b} h) = let d : c ≡ o = cc in both (keep x b (subst (λ z. R x z b) d h))
+
+    as_held : (y : Y) (u : Option A) → u ≡ Some o → Holds (Z y) u → Holds (Z y) (Some a)
+    as_held y _ e (holds {a = c} h) = let d : c ≡ o = cc in holds (keep' y (subst (λ z. Z y z) d h))
+
+    any_tied : (q : Pair X) → In q w → (n ≡ q.left) ⊎ (n ≢ q.left) → Both (R q.label) (slice_get (slice_set xs n a) q.left) (slice_get ys q.right)
+    any_tied q k (inl i) = rw (← i, get_set_same xs n o a there_o) (as_left q.label _ _ (ap (λ z. slice_get xs z) (sym i) ∙ there_o) (t.tied q k))
+    any_tied q k (inr i) = rw (get_set_other xs n q.left a i) (t.tied q k)
+
+    any_held : (l : Lone Y) → In l z → (n ≡ l.place) ⊎ (n ≢ l.place) → Holds (Z l.entry) (slice_get (slice_set xs n a) l.place)
+    any_held l k (inl i) = rw (← i, get_set_same xs n o a there_o) (as_held l.entry _ (ap (λ z. slice_get xs z) (sym i) ∙ there_o) (t.lone l k))
+    any_held l k (inr i) = rw (get_set_other xs n l.place a i) (t.lone l k)
+
+    pub set_any : Table R Z w z (slice_set xs n a) ys
+    set_any = record {
+      tied = λ q k. any_tied q k (place_cases n q.left);
+      left_one = t.left_one;
+      right_one = t.right_one;
+      lone = λ l k. any_held l k (place_cases n l.place);
       apart = t.apart;
     }

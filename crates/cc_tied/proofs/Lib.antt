@@ -47,6 +47,8 @@ pub mod InjectRules
 pub mod InjectObjects
 pub mod InjectTypes
 pub mod InjectActs
+pub mod InjectLeft
+pub mod InjectPure
 pub mod InjectMade
 pub mod InjectStore
 pub mod InjectWrites

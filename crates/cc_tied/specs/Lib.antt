@@ -6,5 +6,6 @@ pub mod Fine
 pub mod FoldExample
 pub mod Facts
 pub mod Injection
+pub mod Pure
 pub mod PlainFacts
 pub mod Mixed
