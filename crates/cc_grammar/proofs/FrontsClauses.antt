@@ -97,22 +97,56 @@ module _ (c n : ℕ) (d : ℕ) (inner : In) (expr : Bool → ℕ → s.Reader (S
           (declarators_fail m _ _ (rest ys) (omega (arith, declarator_less p.0, at_less o)) (omega (arith, declarator_less p.0, at_less o))))
         (λ _. fine))
 
+-- ---- an expression in parentheses
+
+pub record Headed (j : ℕ) (e : RawExpr) (us vs : Symbols) : Type 0 where
+  pub start : Symbols
+  pub finish : Symbols
+  pub opening : Sign mark.OpenParen us start
+  pub tree : E j true 0 start e finish
+  pub closing : Sign mark.CloseParen finish vs
+
+abbrev pub HH : ℕ → RawExpr → Symbols → Symbols → Type 0
+HH j e us vs = Headed j e us vs
+
+pub no_head : (xs : Symbols) (j : ℕ) → Begun (HH j) xs xs
+no_head xs j = record { front = stays xs; more = λ zs. real (token (k.mark mark.OpenParen)) ∷ real (token (k.due k.operand)) ∷ real (token (k.mark mark.CloseParen)) ∷ zs; tree = raw.lit nowhere undefined;
+  holds = λ zs. record { start = _; finish = _; opening = new_at (k.mark mark.OpenParen); tree = g.operand (new_at (k.due k.operand)); closing = new_at (k.mark mark.CloseParen) }; first = λ zs. fresh (k.mark mark.OpenParen) refl refl }
+
+-- the whole of it, before another list
+pub record HeadMoved (j : ℕ) (e : RawExpr) (xs ys : Symbols) : Type 0 where
+  pub front : Front xs ys
+  pub holds : (zs : Symbols) → Headed j e (front.go zs) zs
+
+abbrev pub OO : ℕ → MaybeExpr → Symbols → Symbols → Type 0
+OO j e us vs = Optional j us e vs
+
+abbrev pub KK : Context → ℕ → Bool → List RawCase → Symbols → Symbols → Type 0
+KK c j seen cs us vs = Cases c j seen us cs vs
+
+no_cases : (xs : Symbols) (c : Context) (j : ℕ) (seen : Bool) → Begun (KK c j seen) xs xs
+no_cases xs c j seen = record { front = stays xs; more = λ zs. real (token (k.mark mark.CloseBrace)) ∷ zs; tree = []; holds = λ zs. g.no_case (new_at (k.mark mark.CloseBrace)); first = λ zs. fresh (k.mark mark.CloseBrace) refl refl }
+
+-- a block, that neither `else` nor `finally` follows
+pub record Block (c : Context) (j : ℕ) (b : List RawStmt) (us vs : Symbols) : Type 0 where
+  pub begins : (look us).kind ≡ k.mark mark.OpenBrace
+  pub tree : T c j us b vs
+
+abbrev pub XX : Context → ℕ → List RawStmt → Symbols → Symbols → Type 0
+XX c j b us vs = is_tail (look vs).kind ≡ false → Block c j b us vs
+
+abbrev pub no_block : (xs : Symbols) (c : Context) (j : ℕ) → 0 < j → Begun (XX c j) xs xs
+no_block xs c j lt = record { front = stays xs; more = λ zs. real (token (k.mark mark.OpenBrace)) ∷ real (token (k.mark mark.CloseBrace)) ∷ zs; tree = [];
+  holds = λ zs _. record { begins = refl; tree = g.block {h = 0} lt (new_at (k.mark mark.OpenBrace)) g.done (new_at (k.mark mark.CloseBrace)) }; first = λ zs. fresh (k.mark mark.OpenBrace) refl refl }
+
+abbrev pub GG : Context → ℕ → RawFinally → Symbols → Symbols → Type 0
+GG c j f us vs = is_tail (look vs).kind ≡ false → Finally c j us f vs
+
+abbrev pub CA : Context → ℕ → RawCatch → Symbols → Symbols → Type 0
+CA c j f us vs = is_tail (look vs).kind ≡ false → Catch c j us f vs
+
 module _ (d n : ℕ) (inner : In) (sound : SoundInner d inner) (all : FailsInner d n inner) where
-  -- ---- an expression in parentheses
-
-  pub record Headed (j : ℕ) (e : RawExpr) (us vs : Symbols) : Type 0 where
-    pub start : Symbols
-    pub finish : Symbols
-    pub opening : Sign mark.OpenParen us start
-    pub tree : E j true 0 start e finish
-    pub closing : Sign mark.CloseParen finish vs
-
-  abbrev pub HH : ℕ → RawExpr → Symbols → Symbols → Type 0
-  HH j e us vs = Headed j e us vs
-
-  pub no_head : (xs : Symbols) (j : ℕ) → Begun (HH j) xs xs
-  no_head xs j = record { front = stays xs; more = λ zs. real (token (k.mark mark.OpenParen)) ∷ real (token (k.due k.operand)) ∷ real (token (k.mark mark.CloseParen)) ∷ zs; tree = raw.lit nowhere undefined;
-    holds = λ zs. record { start = _; finish = _; opening = new_at (k.mark mark.OpenParen); tree = g.operand (new_at (k.due k.operand)); closing = new_at (k.mark mark.CloseParen) }; first = λ zs. fresh (k.mark mark.OpenParen) refl refl }
+  -- ---- heads
 
   head_begun : {j : ℕ} {xs ys i : Symbols} → Sign mark.OpenParen xs ys → Begun (EE j true 0) ys i → Begun (HH j) xs i
   head_begun o w = record { front = joined (taken o) w.front; more = λ zs. w.more (real (token (k.mark mark.CloseParen)) ∷ zs); tree = w.tree;
@@ -125,11 +159,6 @@ module _ (d n : ℕ) (inner : In) (sound : SoundInner d inner) (all : FailsInner
       let m = e_moves p.0.whole.tree in fails_after (expected mark.CloseParen zs) (expect_fails mark.CloseParen zs x.1 (record { front = joined (taken o) m.front; more = λ zs. real (token (k.mark mark.CloseParen)) ∷ zs; tree = x.0;
         holds = λ zs. record { start = _; finish = _; opening = again o _; tree = m.holds _; closing = new_at (k.mark mark.CloseParen) }; first = λ zs. same refl })) (λ _ ws c. fine)))
 
-  -- the whole of it, before another list
-  pub record HeadMoved (j : ℕ) (e : RawExpr) (xs ys : Symbols) : Type 0 where
-    pub front : Front xs ys
-    pub holds : (zs : Symbols) → Headed j e (front.go zs) zs
-
   pub head_moves : {a : Sized RawExpr} {xs ys : Symbols} → InParens d n inner sound xs a ys → HeadMoved a.1 a.0 xs ys
   head_moves p = let m = e_moves p.tree in record { front = joined (taken p.opening) (joined m.front (taken p.closing)); holds = λ zs. record { start = _; finish = _; opening = again p.opening _; tree = m.holds _; closing = again p.closing zs } }
 
@@ -138,21 +167,12 @@ module _ (d n : ℕ) (inner : In) (sound : SoundInner d inner) (all : FailsInner
 
   -- ---- the parts of a `for`
 
-  abbrev pub OO : ℕ → MaybeExpr → Symbols → Symbols → Type 0
-  OO j e us vs = Optional j us e vs
-
   pub optional_fails : (m : Mark) (xs : Symbols) → 0 < d → reals xs < n → Fails d (λ j i. Begun (OO j) xs i) (s.optional d n inner m xs)
   unfolding r.optional
   optional_fails m xs lt ln = fails_fork (is_mark m (look xs).kind) _ _ (λ _. fine) (λ _. fails_after (sound.expr true 0 xs (omega arith))
       (fails_map (λ j. j) (λ j l. l) (λ j i w. record { front = w.front; more = w.more; tree = raw.one_expr w.tree; holds = λ zs. g.present (w.holds zs); first = w.first }) (all.expr lt true 0 xs ln (omega arith))) (λ x ys p. fine))
 
   -- ---- the clauses of a `switch`
-
-  abbrev pub KK : Context → ℕ → Bool → List RawCase → Symbols → Symbols → Type 0
-  KK c j seen cs us vs = Cases c j seen us cs vs
-
-  no_cases : (xs : Symbols) (c : Context) (j : ℕ) (seen : Bool) → Begun (KK c j seen) xs xs
-  no_cases xs c j seen = record { front = stays xs; more = λ zs. real (token (k.mark mark.CloseBrace)) ∷ zs; tree = []; holds = λ zs. g.no_case (new_at (k.mark mark.CloseBrace)); first = λ zs. fresh (k.mark mark.CloseBrace) refl refl }
 
   -- the list, and the brace or the next clause
   body_fits : {ys us : Symbols} → First ys us → Fits ys us
@@ -211,18 +231,6 @@ module _ (d n : ℕ) (inner : In) (sound : SoundInner d inner) (all : FailsInner
 
   -- ---- the blocks of a `try`
 
-  -- a block, that neither `else` nor `finally` follows
-  pub record Block (c : Context) (j : ℕ) (b : List RawStmt) (us vs : Symbols) : Type 0 where
-    pub begins : (look us).kind ≡ k.mark mark.OpenBrace
-    pub tree : T c j us b vs
-
-  abbrev pub XX : Context → ℕ → List RawStmt → Symbols → Symbols → Type 0
-  XX c j b us vs = is_tail (look vs).kind ≡ false → Block c j b us vs
-
-  abbrev pub no_block : (xs : Symbols) (c : Context) (j : ℕ) → 0 < j → Begun (XX c j) xs xs
-  no_block xs c j lt = record { front = stays xs; more = λ zs. real (token (k.mark mark.OpenBrace)) ∷ real (token (k.mark mark.CloseBrace)) ∷ zs; tree = [];
-    holds = λ zs _. record { begins = refl; tree = g.block {h = 0} lt (new_at (k.mark mark.OpenBrace)) g.done (new_at (k.mark mark.CloseBrace)) }; first = λ zs. fresh (k.mark mark.OpenBrace) refl refl }
-
   block_begun : (c : Context) {j : ℕ} {xs i : Symbols} → (look xs).kind ≡ k.mark mark.OpenBrace → Begun (TT c j) xs i → Begun (XX c (max j 1)) xs i
   block_begun c {j} {xs} {i} e w = by (started w.front) where
     by : Started w.front → Begun (XX c (max j 1)) xs i
@@ -235,9 +243,6 @@ module _ (d n : ℕ) (inner : In) (sound : SoundInner d inner) (all : FailsInner
       (λ e. fails_map (λ j. max j 1) (λ j l. omega arith) (λ j i w. block_begun (inside c) (mark_true mark.OpenBrace (look xs).kind e) w) (all.stmt (omega arith) (inside c) xs ln))
       (λ _. fails_here r.a_token xs 1 (no_block xs (inside c) 1 (omega arith)))
 
-  abbrev pub GG : Context → ℕ → RawFinally → Symbols → Symbols → Type 0
-  GG c j f us vs = is_tail (look vs).kind ≡ false → Finally c j us f vs
-
   finally_begun : {c : Context} {j : ℕ} {xs ys i : Symbols} → Reserved word.Finally xs ys → Begun (XX c j) ys i → Begun (GG c j) xs i
   finally_begun o w = record { front = joined (taken o) w.front; more = w.more; tree = raw.finally (stmts w.tree); holds = λ zs f. g.finally (again o _) (w.holds zs f).begins (w.holds zs f).tree; first = λ zs. same refl }
 
@@ -245,9 +250,6 @@ module _ (d n : ℕ) (inner : In) (sound : SoundInner d inner) (all : FailsInner
   unfolding r.finally
   finally_fails c xs lt ln e = let o = worded word.Finally xs e in
       fails_after (block_in_sound d n inner sound c (rest xs)) (fails_map (λ j. j) (λ j l. l) (λ j i w. finally_begun o w) (block_in_fails c (rest xs) lt (omega (arith, at_less o)))) (λ b ys p. fine)
-
-  abbrev pub CA : Context → ℕ → RawCatch → Symbols → Symbols → Type 0
-  CA c j f us vs = is_tail (look vs).kind ≡ false → Catch c j us f vs
 
   -- its word has come, then the parenthesis, then the name
   catch_word : {c : Context} {xs ys : Symbols} → Reserved word.Catch xs ys → Begun (CA c 1) xs ys

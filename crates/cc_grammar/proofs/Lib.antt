@@ -44,6 +44,7 @@ pub mod FrontsLists
 pub mod FrontsPrimary
 pub mod FrontsExpressions
 pub mod FrontsClauses
+pub mod FrontsFor
 pub mod OneReading
 pub mod OnTokens
 pub mod Copies
