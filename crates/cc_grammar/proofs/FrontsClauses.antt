@@ -18,7 +18,7 @@ use Rattle.cc_grammar.proofs.Marked.{In, consumed, marked, worded, expected, end
 use Rattle.cc_grammar.proofs.Meets.{Done, ok, err}
 use Rattle.cc_grammar.proofs.Views.{mark_true, IsClause, clause_is}
 use Rattle.cc_grammar.proofs.Views as view
-use Rattle.cc_grammar.proofs.Mono.{higher, higher_declarator, higher_declarators, higher_optional, higher_init, higher_body, higher_cases}
+use Rattle.cc_grammar.proofs.Mono.{higher, higher_declarator, higher_declarators, higher_optional, higher_init, higher_body, higher_cases, higher_t}
 use Rattle.cc_grammar.proofs.Shrinks.{reals, at_less, variable_less, e_less, declarator_less, init_less, optional_less, body_less, t_less}
 use Rattle.cc_grammar.proofs.SoundParts.{SoundInner, whole_list}
 use Rattle.cc_grammar.proofs.SoundLists.{list_sound}
@@ -45,6 +45,17 @@ end_now = g.written (new_at (k.mark mark.Semicolon))
 pub fits_first : {ys us : Symbols} → First ys us → Fits ys us
 fits_first (same e) = moves.same e
 fits_first (fresh x t e) = free (ap (λ z. is_tail z.kind) e ∙ t)
+
+-- whether something has come
+pub data Started {xs i : Symbols} (f : Front xs i) : Type 0 where
+  none : xs ≡ i → Started f
+  some : ((zs : Symbols) → look (f.go zs) ≡ look xs) → Started f
+
+pub started : {xs i : Symbols} (f : Front xs i) → Started f
+started {xs} {i} f = by f.before f.prefix where
+  by : (before : Symbols) → ((zs : Symbols) → f.go zs ≡ before ++ zs) → Started f
+  by [] h = none (sym f.is ∙ h i)
+  by (m ∷ before) h = some (λ zs. ap look (h zs) ∙ sym (ap look (h i)) ∙ ap look f.is)
 
 -- ---- variables
 
@@ -86,22 +97,56 @@ module _ (c n : ℕ) (d : ℕ) (inner : In) (expr : Bool → ℕ → s.Reader (S
           (declarators_fail m _ _ (rest ys) (omega (arith, declarator_less p.0, at_less o)) (omega (arith, declarator_less p.0, at_less o))))
         (λ _. fine))
 
+-- ---- an expression in parentheses
+
+pub record Headed (j : ℕ) (e : RawExpr) (us vs : Symbols) : Type 0 where
+  pub start : Symbols
+  pub finish : Symbols
+  pub opening : Sign mark.OpenParen us start
+  pub tree : E j true 0 start e finish
+  pub closing : Sign mark.CloseParen finish vs
+
+abbrev pub HH : ℕ → RawExpr → Symbols → Symbols → Type 0
+HH j e us vs = Headed j e us vs
+
+pub no_head : (xs : Symbols) (j : ℕ) → Begun (HH j) xs xs
+no_head xs j = record { front = stays xs; more = λ zs. real (token (k.mark mark.OpenParen)) ∷ real (token (k.due k.operand)) ∷ real (token (k.mark mark.CloseParen)) ∷ zs; tree = raw.lit nowhere undefined;
+  holds = λ zs. record { start = _; finish = _; opening = new_at (k.mark mark.OpenParen); tree = g.operand (new_at (k.due k.operand)); closing = new_at (k.mark mark.CloseParen) }; first = λ zs. fresh (k.mark mark.OpenParen) refl refl }
+
+-- the whole of it, before another list
+pub record HeadMoved (j : ℕ) (e : RawExpr) (xs ys : Symbols) : Type 0 where
+  pub front : Front xs ys
+  pub holds : (zs : Symbols) → Headed j e (front.go zs) zs
+
+abbrev pub OO : ℕ → MaybeExpr → Symbols → Symbols → Type 0
+OO j e us vs = Optional j us e vs
+
+abbrev pub KK : Context → ℕ → Bool → List RawCase → Symbols → Symbols → Type 0
+KK c j seen cs us vs = Cases c j seen us cs vs
+
+no_cases : (xs : Symbols) (c : Context) (j : ℕ) (seen : Bool) → Begun (KK c j seen) xs xs
+no_cases xs c j seen = record { front = stays xs; more = λ zs. real (token (k.mark mark.CloseBrace)) ∷ zs; tree = []; holds = λ zs. g.no_case (new_at (k.mark mark.CloseBrace)); first = λ zs. fresh (k.mark mark.CloseBrace) refl refl }
+
+-- a block, that neither `else` nor `finally` follows
+pub record Block (c : Context) (j : ℕ) (b : List RawStmt) (us vs : Symbols) : Type 0 where
+  pub begins : (look us).kind ≡ k.mark mark.OpenBrace
+  pub tree : T c j us b vs
+
+abbrev pub XX : Context → ℕ → List RawStmt → Symbols → Symbols → Type 0
+XX c j b us vs = is_tail (look vs).kind ≡ false → Block c j b us vs
+
+abbrev pub no_block : (xs : Symbols) (c : Context) (j : ℕ) → 0 < j → Begun (XX c j) xs xs
+no_block xs c j lt = record { front = stays xs; more = λ zs. real (token (k.mark mark.OpenBrace)) ∷ real (token (k.mark mark.CloseBrace)) ∷ zs; tree = [];
+  holds = λ zs _. record { begins = refl; tree = g.block {h = 0} lt (new_at (k.mark mark.OpenBrace)) g.done (new_at (k.mark mark.CloseBrace)) }; first = λ zs. fresh (k.mark mark.OpenBrace) refl refl }
+
+abbrev pub GG : Context → ℕ → RawFinally → Symbols → Symbols → Type 0
+GG c j f us vs = is_tail (look vs).kind ≡ false → Finally c j us f vs
+
+abbrev pub CA : Context → ℕ → RawCatch → Symbols → Symbols → Type 0
+CA c j f us vs = is_tail (look vs).kind ≡ false → Catch c j us f vs
+
 module _ (d n : ℕ) (inner : In) (sound : SoundInner d inner) (all : FailsInner d n inner) where
-  -- ---- an expression in parentheses
-
-  pub record Headed (j : ℕ) (e : RawExpr) (us vs : Symbols) : Type 0 where
-    pub start : Symbols
-    pub finish : Symbols
-    pub opening : Sign mark.OpenParen us start
-    pub tree : E j true 0 start e finish
-    pub closing : Sign mark.CloseParen finish vs
-
-  abbrev pub HH : ℕ → RawExpr → Symbols → Symbols → Type 0
-  HH j e us vs = Headed j e us vs
-
-  pub no_head : (xs : Symbols) (j : ℕ) → Begun (HH j) xs xs
-  no_head xs j = record { front = stays xs; more = λ zs. real (token (k.mark mark.OpenParen)) ∷ real (token (k.due k.operand)) ∷ real (token (k.mark mark.CloseParen)) ∷ zs; tree = raw.lit nowhere undefined;
-    holds = λ zs. record { start = _; finish = _; opening = new_at (k.mark mark.OpenParen); tree = g.operand (new_at (k.due k.operand)); closing = new_at (k.mark mark.CloseParen) }; first = λ zs. fresh (k.mark mark.OpenParen) refl refl }
+  -- ---- heads
 
   head_begun : {j : ℕ} {xs ys i : Symbols} → Sign mark.OpenParen xs ys → Begun (EE j true 0) ys i → Begun (HH j) xs i
   head_begun o w = record { front = joined (taken o) w.front; more = λ zs. w.more (real (token (k.mark mark.CloseParen)) ∷ zs); tree = w.tree;
@@ -114,11 +159,6 @@ module _ (d n : ℕ) (inner : In) (sound : SoundInner d inner) (all : FailsInner
       let m = e_moves p.0.whole.tree in fails_after (expected mark.CloseParen zs) (expect_fails mark.CloseParen zs x.1 (record { front = joined (taken o) m.front; more = λ zs. real (token (k.mark mark.CloseParen)) ∷ zs; tree = x.0;
         holds = λ zs. record { start = _; finish = _; opening = again o _; tree = m.holds _; closing = new_at (k.mark mark.CloseParen) }; first = λ zs. same refl })) (λ _ ws c. fine)))
 
-  -- the whole of it, before another list
-  pub record HeadMoved (j : ℕ) (e : RawExpr) (xs ys : Symbols) : Type 0 where
-    pub front : Front xs ys
-    pub holds : (zs : Symbols) → Headed j e (front.go zs) zs
-
   pub head_moves : {a : Sized RawExpr} {xs ys : Symbols} → InParens d n inner sound xs a ys → HeadMoved a.1 a.0 xs ys
   head_moves p = let m = e_moves p.tree in record { front = joined (taken p.opening) (joined m.front (taken p.closing)); holds = λ zs. record { start = _; finish = _; opening = again p.opening _; tree = m.holds _; closing = again p.closing zs } }
 
@@ -127,21 +167,12 @@ module _ (d n : ℕ) (inner : In) (sound : SoundInner d inner) (all : FailsInner
 
   -- ---- the parts of a `for`
 
-  abbrev pub OO : ℕ → MaybeExpr → Symbols → Symbols → Type 0
-  OO j e us vs = Optional j us e vs
-
   pub optional_fails : (m : Mark) (xs : Symbols) → 0 < d → reals xs < n → Fails d (λ j i. Begun (OO j) xs i) (s.optional d n inner m xs)
   unfolding r.optional
   optional_fails m xs lt ln = fails_fork (is_mark m (look xs).kind) _ _ (λ _. fine) (λ _. fails_after (sound.expr true 0 xs (omega arith))
       (fails_map (λ j. j) (λ j l. l) (λ j i w. record { front = w.front; more = w.more; tree = raw.one_expr w.tree; holds = λ zs. g.present (w.holds zs); first = w.first }) (all.expr lt true 0 xs ln (omega arith))) (λ x ys p. fine))
 
   -- ---- the clauses of a `switch`
-
-  abbrev pub KK : Context → ℕ → Bool → List RawCase → Symbols → Symbols → Type 0
-  KK c j seen cs us vs = Cases c j seen us cs vs
-
-  no_cases : (xs : Symbols) (c : Context) (j : ℕ) (seen : Bool) → Begun (KK c j seen) xs xs
-  no_cases xs c j seen = record { front = stays xs; more = λ zs. real (token (k.mark mark.CloseBrace)) ∷ zs; tree = []; holds = λ zs. g.no_case (new_at (k.mark mark.CloseBrace)); first = λ zs. fresh (k.mark mark.CloseBrace) refl refl }
 
   -- the list, and the brace or the next clause
   body_fits : {ys us : Symbols} → First ys us → Fits ys us
@@ -200,22 +231,50 @@ module _ (d n : ℕ) (inner : In) (sound : SoundInner d inner) (all : FailsInner
 
   -- ---- the blocks of a `try`
 
-  -- a block, that neither `else` nor `finally` follows
-  pub record Block (c : Context) (j : ℕ) (b : List RawStmt) (us vs : Symbols) : Type 0 where
-    pub begins : (look us).kind ≡ k.mark mark.OpenBrace
-    pub tree : T c j us b vs
+  block_begun : (c : Context) {j : ℕ} {xs i : Symbols} → (look xs).kind ≡ k.mark mark.OpenBrace → Begun (TT c j) xs i → Begun (XX c (max j 1)) xs i
+  block_begun c {j} {xs} {i} e w = by (started w.front) where
+    by : Started w.front → Begun (XX c (max j 1)) xs i
+    by (none q) = subst (λ z. Begun (XX c (max j 1)) xs z) q (no_block xs c (max j 1) (omega arith))
+    by (some kept) = record { front = w.front; more = w.more; tree = w.tree; holds = λ zs f. record { begins = ap (λ z. z.kind) (kept (w.more zs)) ∙ e; tree = higher_t (max j 1) (omega arith) (w.holds zs f) }; first = w.first }
 
-  abbrev pub XX : Context → ℕ → List RawStmt → Symbols → Symbols → Type 0
-  XX c j b us vs = is_tail (look vs).kind ≡ false → Block c j b us vs
+  pub block_in_fails : (c : Context) (xs : Symbols) → 1 < d → reals xs < n → Fails d (λ j i. Begun (XX (inside c) j) xs i) (s.block_in d n inner c xs)
+  unfolding r.block_in
+  block_in_fails c xs lt ln = fails_fork (is_mark mark.OpenBrace (look xs).kind) _ _
+      (λ e. fails_map (λ j. max j 1) (λ j l. omega arith) (λ j i w. block_begun (inside c) (mark_true mark.OpenBrace (look xs).kind e) w) (all.stmt (omega arith) (inside c) xs ln))
+      (λ _. fails_here r.a_token xs 1 (no_block xs (inside c) 1 (omega arith)))
 
-  pub no_block : (xs : Symbols) (c : Context) → Begun (XX c 1) xs xs
-  no_block xs c = record { front = stays xs; more = λ zs. real (token (k.mark mark.OpenBrace)) ∷ real (token (k.mark mark.CloseBrace)) ∷ zs; tree = [];
-    holds = λ zs _. record { begins = refl; tree = g.block {h = 0} (omega arith) (new_at (k.mark mark.OpenBrace)) g.done (new_at (k.mark mark.CloseBrace)) }; first = λ zs. fresh (k.mark mark.OpenBrace) refl refl }
+  finally_begun : {c : Context} {j : ℕ} {xs ys i : Symbols} → Reserved word.Finally xs ys → Begun (XX c j) ys i → Begun (GG c j) xs i
+  finally_begun o w = record { front = joined (taken o) w.front; more = w.more; tree = raw.finally (stmts w.tree); holds = λ zs f. g.finally (again o _) (w.holds zs f).begins (w.holds zs f).tree; first = λ zs. same refl }
 
-  pub block_begun : (c : Context) {j : ℕ} {xs i : Symbols} → (look xs).kind ≡ k.mark mark.OpenBrace → Begun (TT (inside c) j) xs i → (u : ℕ) × Begun (XX (inside c) u) xs i
-  block_begun c {j} {xs} {i} e w = by w.front.before w.front.prefix where
-    kept : (m : Rattle.cc_grammar.specs.Symbols.Symbol) (before : Symbols) → ((zs : Symbols) → w.front.go zs ≡ (m ∷ before) ++ zs) → (zs : Symbols) → look (w.front.go zs) ≡ look xs
-    kept m before h zs = ap look (h zs) ∙ sym (ap look (h i)) ∙ ap look w.front.is
-    by : (before : Symbols) → ((zs : Symbols) → w.front.go zs ≡ before ++ zs) → (u : ℕ) × Begun (XX (inside c) u) xs i
-    by [] h = (1, subst (λ z. Begun (XX (inside c) 1) xs z) (sym (sym (h i) ∙ w.front.is)) (no_block xs (inside c)))
-    by (m ∷ before) h = (j, record { front = w.front; more = w.more; tree = w.tree; holds = λ zs f. record { begins = ap (λ z. z.kind) (kept m before h (w.more zs)) ∙ e; tree = w.holds zs f }; first = w.first })
+  pub finally_fails : (c : Context) (xs : Symbols) → 1 < d → reals xs < n → is_word word.Finally (look xs).kind ≡ true → Fails d (λ j i. Begun (GG (inside c) j) xs i) (s.finally d n inner c xs)
+  unfolding r.finally
+  finally_fails c xs lt ln e = let o = worded word.Finally xs e in
+      fails_after (block_in_sound d n inner sound c (rest xs)) (fails_map (λ j. j) (λ j l. l) (λ j i w. finally_begun o w) (block_in_fails c (rest xs) lt (omega (arith, at_less o)))) (λ b ys p. fine)
+
+  -- its word has come, then the parenthesis, then the name
+  catch_word : {c : Context} {xs ys : Symbols} → Reserved word.Catch xs ys → Begun (CA c 1) xs ys
+  catch_word {c} {ys} o = let w = no_block ys c 1 (omega arith) in record { front = taken o;
+    more = λ zs. real (token (k.mark mark.OpenParen)) ∷ real (token (k.due k.variable)) ∷ real (token (k.mark mark.CloseParen)) ∷ w.more zs; tree = raw.caught (record { place = nowhere; name = [] }) (stmts w.tree);
+    holds = λ zs f. g.caught (again o _) (new_at (k.mark mark.OpenParen)) (g.any_variable (new_at (k.due k.variable))) (new_at (k.mark mark.CloseParen)) (w.holds zs f).begins (w.holds zs f).tree; first = λ zs. same refl }
+
+  catch_open : {c : Context} {xs ys zs : Symbols} → Reserved word.Catch xs ys → Sign mark.OpenParen ys zs → Begun (CA c 1) xs zs
+  catch_open {c} {ys} o p = let w = no_block ys c 1 (omega arith) in record { front = joined (taken o) (taken p);
+    more = λ zs. real (token (k.due k.variable)) ∷ real (token (k.mark mark.CloseParen)) ∷ w.more zs; tree = raw.caught (record { place = nowhere; name = [] }) (stmts w.tree);
+    holds = λ zs f. g.caught (again o _) (again p _) (g.any_variable (new_at (k.due k.variable))) (new_at (k.mark mark.CloseParen)) (w.holds zs f).begins (w.holds zs f).tree; first = λ zs. same refl }
+
+  catch_name : {c : Context} {v : List ℕ} {xs ys zs us : Symbols} → Reserved word.Catch xs ys → Sign mark.OpenParen ys zs → Variable zs v us → Begun (CA c 1) xs us
+  catch_name {c} {v} {ys} {zs} o p q = let w = no_block ys c 1 (omega arith) in record { front = joined (taken o) (joined (taken p) (variable_taken q));
+    more = λ zs. real (token (k.mark mark.CloseParen)) ∷ w.more zs; tree = raw.caught (record { place = (look zs).place; name = v }) (stmts w.tree);
+    holds = λ zs f. g.caught (again o _) (again p _) (variable_again q _) (new_at (k.mark mark.CloseParen)) (w.holds zs f).begins (w.holds zs f).tree; first = λ zs. same refl }
+
+  catch_begun : {c : Context} {j : ℕ} {v : List ℕ} {xs ys zs us vs i : Symbols} → Reserved word.Catch xs ys → Sign mark.OpenParen ys zs → Variable zs v us → Sign mark.CloseParen us vs → Begun (XX c j) vs i → Begun (CA c j) xs i
+  catch_begun {v} {zs} o p q u w = record { front = joined (taken o) (joined (taken p) (joined (variable_taken q) (joined (taken u) w.front))); more = w.more; tree = raw.caught (record { place = (look zs).place; name = v }) (stmts w.tree);
+    holds = λ zs f. g.caught (again o _) (again p _) (variable_again q _) (again u _) (w.holds zs f).begins (w.holds zs f).tree; first = λ zs. same refl }
+
+  pub catch_fails : (c : Context) (xs : Symbols) → 1 < d → reals xs < n → is_word word.Catch (look xs).kind ≡ true → Fails d (λ j i. Begun (CA (inside c) j) xs i) (s.catch d n inner c xs)
+  unfolding r.catch
+  catch_fails c xs lt ln e = let o = worded word.Catch xs e in
+      fails_after (expected mark.OpenParen (rest xs)) (expect_fails mark.OpenParen (rest xs) 1 (catch_word o)) (λ _ ys p.
+      fails_after (read_variable ys) (variable_fails ys 1 (catch_open o p)) (λ v zs q.
+      fails_after (expected mark.CloseParen zs) (expect_fails mark.CloseParen zs 1 (catch_name o p q.0)) (λ _ us u.
+      fails_after (block_in_sound d n inner sound c us) (fails_map (λ j. j) (λ j l. l) (λ j i w. catch_begun o p q.0 u w) (block_in_fails c us lt (omega (arith, at_less o, at_less p, variable_less q.0, at_less u)))) (λ b ws x. fine))))

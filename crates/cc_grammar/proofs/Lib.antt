@@ -45,6 +45,7 @@ pub mod FrontsLists
 pub mod FrontsPrimary
 pub mod FrontsExpressions
 pub mod FrontsClauses
+pub mod FrontsFor
 pub mod OneReading
 pub mod Copies
 pub mod CopySteps
