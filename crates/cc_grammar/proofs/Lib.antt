@@ -42,6 +42,7 @@ pub mod MovesDerived
 pub mod OneReading
 pub mod OnTokens
 pub mod Copies
+pub mod Paired
 pub mod CopySteps
 pub mod CopyLists
 pub mod CopyAhead
@@ -50,5 +51,4 @@ pub mod CopyExpressions
 pub mod CopyStatements
 pub mod CopyJumps
 pub mod CopyPrograms
-pub mod Paired
 pub mod SoundTokens
