@@ -11,17 +11,17 @@ use Rattle.cc_grammar.specs.Signs.{Prefix, is_variable, prefix_tree}
 use Rattle.cc_grammar.specs.Signs as sign
 use Rattle.cc_grammar.specs.RawTree as raw
 use Rattle.cc_grammar.specs.Grammar.{E}
-use Rattle.cc_grammar.specs.Reading.{Outcome, Sized, look_token, variable_of, goes_on, is_delete, is_remedy}
+use Rattle.cc_grammar.specs.Reading.{Outcome, Fault, Sized, look_token, variable_of, goes_on, is_delete, is_remedy}
 use Rattle.cc_grammar.specs.Reading as r
 use Rattle.cc_grammar.proofs.Meets.{Done, ok, err, after, branch}
 use Rattle.cc_grammar.proofs.Meets as meets
 use Rattle.cc_grammar.proofs.Views.{mark_true, remedy_true}
 use Rattle.cc_grammar.proofs.Marked.{In, consumed}
 use Rattle.cc_grammar.proofs.Shrinks.{reals}
+use Rattle.cc_grammar.proofs.Alike.{is_limit}
 use Rattle.cc_grammar.proofs.Ahead.{Spared, spared, remedied}
 use Rattle.cc_grammar.proofs.SoundParts.{SoundInner}
-use Rattle.cc_grammar.proofs.Copies.{L, Copy, end, take, insert, put, Each, each_map, Late, Kept, StopsAt, Copies, read, stop, Quiet, Shows, Headed, goes, went, started, look_real}
-use Rattle.cc_grammar.proofs.CopySteps.{shows, copies_pure, by_taking, by_none, absent, fork, split_copies, stops_here}
+use Rattle.cc_grammar.proofs.Copies.{L, Copy, end, take, insert, put, Each, each_map, Late, look_real}
 use Rattle.cc_grammar.proofs.OnSymbols as s
 use Rattle.cc_grammar.proofs.OnTokens as t
 
@@ -67,10 +67,10 @@ told : {b c : Bool} {i : Symbols} → b ≡ c → Answers c (Ok (b, i))
 told {c} {i} e = subst (λ x. Answers c (Ok (x, i))) (sym e) answers
 
 -- a choice by the same token
-choose : (b : Bool) (p q : Symbols → Outcome Symbols Bool) (P Q : L → Outcome L Bool) {us vs : L} {xs : Symbols} → (b ≡ true → P us ≡ Ok (false, vs) → Answers false (p xs))
-    → (b ≡ false → Q us ≡ Ok (false, vs) → Answers false (q xs)) → cond b P Q us ≡ Ok (false, vs) → Answers false (cond b p q xs)
-choose true p q P Q f h e = f refl e
-choose false p q P Q f h e = h refl e
+choose : (K : Outcome Symbols Bool → Type 0) (b : Bool) (p q : Symbols → Outcome Symbols Bool) (P Q : L → Outcome L Bool) {us vs : L} {xs : Symbols} → (b ≡ true → P us ≡ Ok (false, vs) → K (p xs))
+    → (b ≡ false → Q us ≡ Ok (false, vs) → K (q xs)) → cond b P Q us ≡ Ok (false, vs) → K (cond b p q xs)
+choose K true p q P Q f h e = f refl e
+choose K false p q P Q f h e = h refl e
 
 no_paren : (x : Kind) → is_mark mark.OpenBrace x ≡ true → is_mark mark.CloseParen x ≡ true → ⊥
 no_paren x b e = let two : true ≡ false = sym e ∙ ap (is_mark mark.CloseParen) (mark_true mark.OpenBrace x b) in (cc)
@@ -87,17 +87,17 @@ closed_plain zero nothing_left e = told (answer e)
 closed_plain zero (next w p) e = told (answer e)
 closed_plain zero (behind_brace w b) e = told (answer e)
 closed_plain (suc m) nothing_left e = answers
-closed_plain (suc m) (next w p) e = choose (is_mark mark.CloseParen w.kind) _ _ _ _ (λ _ f. closed_plain m p f) (λ _ _. answers) e
-closed_plain (suc m) (behind_brace w b) e = choose (is_mark mark.CloseParen w.kind) _ _ _ _ (λ q _. absurd (no_paren w.kind b q)) (λ _ _. answers) e
+closed_plain (suc m) (next w p) e = choose (Answers false) (is_mark mark.CloseParen w.kind) _ _ _ _ (λ _ f. closed_plain m p f) (λ _ _. answers) e
+closed_plain (suc m) (behind_brace w b) e = choose (Answers false) (is_mark mark.CloseParen w.kind) _ _ _ _ (λ q _. absurd (no_paren w.kind b q)) (λ _ _. answers) e
 
 pub opened_plain : (m count : ℕ) {us vs : L} {xs : Symbols} → Plain us xs → t.opened m count us ≡ Ok (false, vs) → Answers false (s.opened m count xs)
 unfolding r.opened
 opened_plain zero count p e = absurd (differ e)
 opened_plain (suc m) count nothing_left e = answers
-opened_plain (suc m) count (next w p) e = choose (is_mark mark.OpenParen w.kind) _ _ _ _ (λ _ f. opened_plain m (suc count) p f)
-    (λ _ f. choose (is_some (variable_of w.kind)) _ _ _ _ (λ _ f. closed_plain count p f) (λ _ _. answers) f) e
-opened_plain (suc m) count (behind_brace w b) e = choose (is_mark mark.OpenParen w.kind) _ _ _ _ (λ q _. absurd (no_opening w.kind b q))
-    (λ _ f. choose (is_some (variable_of w.kind)) _ _ _ _ (λ q _. absurd (no_name w.kind b q)) (λ _ _. answers) f) e
+opened_plain (suc m) count (next w p) e = choose (Answers false) (is_mark mark.OpenParen w.kind) _ _ _ _ (λ _ f. opened_plain m (suc count) p f)
+    (λ _ f. choose (Answers false) (is_some (variable_of w.kind)) _ _ _ _ (λ _ f. closed_plain count p f) (λ _ _. answers) f) e
+opened_plain (suc m) count (behind_brace w b) e = choose (Answers false) (is_mark mark.OpenParen w.kind) _ _ _ _ (λ q _. absurd (no_opening w.kind b q))
+    (λ _ f. choose (Answers false) (is_some (variable_of w.kind)) _ _ _ _ (λ q _. absurd (no_name w.kind b q)) (λ _ _. answers) f) e
 
 -- ---- it answers of symbols where it answers of tokens
 
@@ -146,35 +146,82 @@ by_spared m xs o e (tells {b} {i}) f = let n = max m (reals xs + 1) in let p = f
 pub opened_spared : (m : ℕ) (xs : Symbols) {x : Bool × L} → t.opened m 0 (lexemes_of xs) ≡ Ok x → ((n : ℕ) → reals xs < n → Spared n xs) → Answers false (s.opened m 0 xs)
 opened_spared m xs e f = by_spared m xs (s.opened m 0 xs) refl (opened_tells m 0 xs e) f
 
--- ---- it is a reader like others, that inserts nothing
+-- ---- where an insertion stands behind the last token
 
-closed_copy : (m : ℕ) (ts : L) → Copies true Shows (s.closed m) ts (t.closed m ts)
+-- it denies, or accepts at the insertion
+pub data AtLast (xs : Symbols) : Outcome Symbols Bool → Type 0 where
+  denied : {i : Symbols} → AtLast xs (Ok (false, i))
+  accepted : AtLast xs (Ok (true, inserted ∷ xs))
+
+denied_by : {b : Bool} {i xs : Symbols} → b ≡ false → AtLast xs (Ok (b, i))
+denied_by {i} {xs} e = subst (λ x. AtLast xs (Ok (x, i))) (sym e) denied
+
+closed_last : (m : ℕ) {us vs os : L} (v : Copy us vs) → Late v → t.closed m us ≡ Ok (false, os) → AtLast (map real vs) (s.closed m (put v (inserted ∷ map real vs)))
 unfolding r.closed
-closed_copy zero ts = read end (λ xs h. ap (λ w. Ok (not (goes_on w), xs)) h.1) tt tt
-closed_copy (suc m) ts = fork (λ w. is_mark mark.CloseParen w.kind) _ _ _ _ ts shows (λ _. by_taking absent (λ w us _. goes (closed_copy m us))) (λ _. by_none refl (read end (λ xs h. refl) tt tt))
+closed_last zero end l e = accepted
+closed_last (suc m) end l e = denied
+closed_last m (insert o v) l e = absurd l
+closed_last zero (take w v) l e = denied_by (answer e)
+closed_last (suc m) {vs} (take w v) (inl b) e = choose (AtLast (map real vs)) (is_mark mark.CloseParen w.kind) _ _ _ _ (λ q _. absurd (no_paren w.kind b q)) (λ _ _. denied) e
+closed_last (suc m) {vs} (take w v) (inr l) e = choose (AtLast (map real vs)) (is_mark mark.CloseParen w.kind) _ _ _ _ (λ _ f. closed_last m v l f) (λ _ _. denied) e
 
--- where two readers agree on what shows the next token
-same_shown : {A : Type 0} {p : Symbols → Outcome Symbols A} {ts : L} {o : Outcome L A} (q : Symbols → Outcome Symbols A) → Copies true Shows p ts o → ((xs : Symbols) → look xs ≡ look_token ts → q xs ≡ p xs) → Copies true Shows q ts o
-same_shown q (read end e j k) h = read end (λ xs f. h xs f.1 ∙ e xs f) tt tt
-same_shown {p} q (read (take w v) e j k) h = read (take w v) (λ xs f. h (real w ∷ put v xs) refl ∙ e xs f) (each_map (λ vs xs. StopsAt p vs (real w ∷ xs)) (λ vs xs. StopsAt q vs (real w ∷ xs)) v (λ vs xs z. h (real w ∷ xs) refl ∙ z) j) k
-same_shown q (read (insert m v) e j k) h = absurd k
-same_shown q (stop (end {us}) e j k) h = stop end (h (map real us) (look_real us) ∙ e) tt tt
-same_shown {p} q (stop {us} (take w v) e j k) h = stop (take w v) (h (real w ∷ put v (map real us)) refl ∙ e) (each_map (λ vs xs. StopsAt p vs (real w ∷ xs)) (λ vs xs. StopsAt q vs (real w ∷ xs)) v (λ vs xs z. h (real w ∷ xs) refl ∙ z) j) k
-same_shown q (stop (insert m v) e j k) h = absurd k
-
--- the look ahead, by its first token
-abbrev Opening : ℕ → ℕ → Lexeme → Symbols → Outcome Symbols Bool
-Opening m count w = cond {A = Symbols → Outcome Symbols Bool} (is_mark mark.OpenParen w.kind) (λ i. s.opened m (suc count) (rest i))
-    (cond {A = Symbols → Outcome Symbols Bool} (is_some (variable_of w.kind)) (λ i. s.closed count (rest i)) (λ i. Ok (false, i)))
-
-pub opened_copy : (m count : ℕ) (ts : L) → Copies true Shows (s.opened m count) ts (t.opened m count ts)
+pub opened_last : (m count : ℕ) {us vs os : L} (v : Copy us vs) → Late v → t.opened m count us ≡ Ok (false, os) → AtLast (map real vs) (s.opened m count (put v (inserted ∷ map real vs)))
 unfolding r.opened
-opened_copy zero count ts = started (stops_here true r.spent ts)
-opened_copy (suc m) count [] = read end (λ xs h. ap (λ w. Opening m count w xs) h.1) tt tt
-opened_copy (suc m) count (w ∷ us) = same_shown {p = Opening m count w} (s.opened (suc m) count)
-    (split_copies (is_mark mark.OpenParen w.kind) _ _ _ _ (λ _. went (goes (opened_copy m (suc count) us)))
-      (λ _. split_copies (is_some (variable_of w.kind)) _ _ _ _ (λ _. went (goes (closed_copy count us))) (λ _. read end (λ xs h. refl) tt tt)))
-    (λ xs e. ap (λ v. Opening m count v xs) e)
+opened_last zero count v l e = absurd (differ e)
+opened_last (suc m) count end l e = denied
+opened_last (suc m) count (insert o v) l e = absurd l
+opened_last (suc m) count {vs} (take w v) (inl b) e = choose (AtLast (map real vs)) (is_mark mark.OpenParen w.kind) _ _ _ _ (λ q _. absurd (no_opening w.kind b q))
+    (λ _ f. choose (AtLast (map real vs)) (is_some (variable_of w.kind)) _ _ _ _ (λ q _. absurd (no_name w.kind b q)) (λ _ _. denied) f) e
+opened_last (suc m) count {vs} (take w v) (inr l) e = choose (AtLast (map real vs)) (is_mark mark.OpenParen w.kind) _ _ _ _ (λ _ f. opened_last m (suc count) v l f)
+    (λ _ f. choose (AtLast (map real vs)) (is_some (variable_of w.kind)) _ _ _ _ (λ _ f. closed_last count v l f) (λ _ _. denied) f) e
+
+-- ---- where it answers that a variable is deleted, or comes to a limit
+
+abbrev pub Takes : {ts us : L} → Copy ts us → Type 0
+Takes end = Unit {0}
+Takes (take t w) = Takes w
+Takes (insert o w) = ⊥
+
+pub each_takes : {ts us : L} (P : L → Symbols → Type 0) (w : Copy ts us) → Takes w → Each P w
+each_takes P end h = tt
+each_takes P (take t w) h = each_takes (λ vs xs. P vs (real t ∷ xs)) w h
+each_takes P (insert o w) h = absurd h
+
+pub late_takes : {ts us : L} (w : Copy ts us) → Takes w → Late w
+late_takes end h = tt
+late_takes (take t w) h = inr (late_takes w h)
+late_takes (insert o w) h = absurd h
+
+pub data Looks (q : Symbols → Outcome Symbols Bool) (ts : L) : Outcome L Bool → Type 0 where
+  found : {us : L} (w : Copy ts us) → Takes w → q (put w (map real us)) ≡ Ok (true, map real us) → q (put w (inserted ∷ map real us)) ≡ Ok (true, inserted ∷ map real us) → Looks q ts (Ok (true, us))
+  other : {us : L} → Looks q ts (Ok (false, us))
+  spends : {c : Fault} {us : L} (w : Copy ts us) → Takes w → q (put w (map real us)) ≡ Err (c, map real us) → is_limit c.cause ≡ true → Looks q ts (Err (c, us))
+
+looks_on : {q : Symbols → Outcome Symbols Bool} {us : L} {o : Outcome L Bool} (t : Lexeme) → Looks (λ xs. q (real t ∷ xs)) us o → Looks q (t ∷ us) o
+looks_on t (found w h e f) = found (take t w) h e f
+looks_on t other = other
+looks_on t (spends w h e l) = spends (take t w) h e l
+
+looks_split : (b : Bool) (p q : Symbols → Outcome Symbols Bool) (P Q : L → Outcome L Bool) {f : Symbols → Symbols} {ts us : L} → (b ≡ true → Looks (λ xs. p (f xs)) ts (P us)) → (b ≡ false → Looks (λ xs. q (f xs)) ts (Q us))
+    → Looks (λ xs. cond b p q (f xs)) ts (cond b P Q us)
+looks_split true p q P Q f h = f refl
+looks_split false p q P Q f h = h refl
+
+closed_looks : (m : ℕ) (ts : L) → Looks (s.closed m) ts (t.closed m ts)
+unfolding r.closed
+closed_looks zero ts = by (goes_on (look_token ts)) refl where
+  by : (b : Bool) → goes_on (look_token ts) ≡ b → Looks (λ xs. Ok (not (goes_on (look xs)), xs)) ts (Ok (not b, ts))
+  by true e = other
+  by false e = found end tt (ap (λ w. Ok (not (goes_on w), map real ts)) (look_real ts) ∙ ap (λ b. Ok (not b, map real ts)) e) refl
+closed_looks (suc m) [] = other
+closed_looks (suc m) (w ∷ us) = looks_on w (looks_split (is_mark mark.CloseParen w.kind) _ _ _ _ (λ _. closed_looks m us) (λ _. other))
+
+pub opened_looks : (m count : ℕ) (ts : L) → Looks (s.opened m count) ts (t.opened m count ts)
+unfolding r.opened
+opened_looks zero count ts = spends end tt (ap (λ w. Err (record { cause = r.spent; place = w.place }, map real ts)) (look_real ts)) refl
+opened_looks (suc m) count [] = other
+opened_looks (suc m) count (w ∷ us) = looks_on w (looks_split (is_mark mark.OpenParen w.kind) _ _ _ _ (λ _. opened_looks m (suc count) us)
+    (λ _. looks_split (is_some (variable_of w.kind)) _ _ _ _ (λ _. closed_looks count us) (λ _. other)))
 
 -- ---- `delete`
 

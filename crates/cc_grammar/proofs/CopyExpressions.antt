@@ -1,11 +1,11 @@
 -- The readers of symbols and of tokens go alike: operators, and whole expressions.
-use Rattle.std.specs.Prelude.{◌≡◌, ℕ, zero, suc, ◌+◌, ◌<◌, max, ◌==◌, Bool, true, false, cond, nat_lt, List, [], ◌∷◌, map, Ok, Err, Option, Some, None}
-use Rattle.std.proofs.Common.{refl, sym, ap, ◌∙◌, subst}
+use Rattle.std.specs.Prelude.{◌≡◌, ℕ, zero, suc, ◌+◌, ◌<◌, max, ◌==◌, Bool, true, false, cond, nat_lt, List, [], ◌∷◌, map, Ok, Err, ◌⊎◌, Option, Some, None}
+use Rattle.std.proofs.Common.{refl, sym, ap, ◌∙◌, subst, inr}
 use Rattle.cc_ast.specs.declared.operator.BinOp.{BinOp}
 use Rattle.cc_ast.specs.declared.place.Place.{Place}
 use Rattle.cc_ast.specs.declared.reading.Construct.TheVariants as construct
 use Rattle.cc_lexer.specs.declared.token.Mark.TheVariants as mark
-use Rattle.cc_grammar.specs.Symbols.{Kind, Lexeme, Symbols, real, look, rest, lexemes_of, is_mark}
+use Rattle.cc_grammar.specs.Symbols.{Kind, Lexeme, Symbols, real, inserted, look, rest, lexemes_of, is_mark}
 use Rattle.cc_grammar.specs.Symbols as k
 use Rattle.cc_grammar.specs.RawTree.{RawExpr, RawTarget}
 use Rattle.cc_grammar.specs.RawTree as raw
@@ -18,11 +18,11 @@ use Rattle.cc_grammar.proofs.Marked.{In}
 use Rattle.cc_grammar.proofs.Shrinks.{reals}
 use Rattle.cc_grammar.proofs.Ahead.{Spared}
 use Rattle.cc_grammar.proofs.SoundParts.{SoundInner}
-use Rattle.cc_grammar.proofs.Copies.{L, Copy, put, put_lexemes, Each, each_map, each_both, StopsAt, Just, Late, Copies, read, stop, Quiet, Shows, Headed, goes, goes_in, halts, Starts, starts, halts_end, head_of_start, started, same_copies}
-use Rattle.cc_grammar.proofs.CopySteps.{quiet, copies_after, copies_then, goes_after, starts_after, copies_pure, shows_real, Chosen, by_token, by_taking, by_none, absent, decide, decide_first, fork, split, split_copies, split_outcome, at_end, fails_here, stops_here, refuses_here, expects}
-use Rattle.cc_grammar.proofs.CopyAhead.{Plain, plain_real, plain_put, each_plain, Answers, answers, opened_plain, opened_spared, opened_copy, delete_spares}
-use Rattle.cc_grammar.proofs.CopyLists.{CopyInner}
-use Rattle.cc_grammar.proofs.CopyPrimary.{primary_copy, suffixes_copy}
+use Rattle.cc_grammar.proofs.Copies.{L, Copy, put, put_lexemes, lexemes_real, Each, each_map, each_both, StopsAt, Just, Late, Bars, Shut, shut_by, Bar, clash, reads, Copies, read, stop, Quiet, Head, goes, halts, Starts, starts, halts_end, started, same_copies}
+use Rattle.cc_grammar.proofs.CopySteps.{quiet, shut_after, bar_by, bars_after, copies_after, goes_after, starts_after, copies_pure, Chosen, by_token, by_taking, by_none, absent, decide, fork, split, split_copies, deeper, at_end, head_of_start, fails_bar, fails_here, stops_here, refuses_bar, refuses_here, expects}
+use Rattle.cc_grammar.proofs.CopyAhead.{Plain, plain_real, plain_put, each_plain, Answers, answers, opened_plain, opened_spared, AtLast, denied, accepted, opened_last, Looks, found, other, spends, opened_looks, each_takes, late_takes, delete_spares}
+use Rattle.cc_grammar.proofs.CopyLists.{CopyInner, BarsInner}
+use Rattle.cc_grammar.proofs.CopyPrimary.{primary_bar, primary_copy, suffixes_copy}
 use Rattle.cc_grammar.proofs.OnSymbols as s
 use Rattle.cc_grammar.proofs.OnTokens as t
 
@@ -56,7 +56,7 @@ binds l (Some o) = cond (nat_lt (level o) l) None (Some o)
 none_binds : (l : ℕ) (v : Option Infix) (o : Infix) → v ≡ None → ¬ (binds l v ≡ Some o)
 none_binds l v o e f = let no : None ≡ Some o = sym (ap (binds l) e) ∙ f in (cc)
 
-module _ (d turns : ℕ) (inner : In) (outer : t.In) (alike : CopyInner inner outer) (sound : SoundInner d inner) where
+module _ (d turns : ℕ) (inner : In) (outer : t.In) (alike : CopyInner inner outer) (bars : nat_lt 0 d ≡ true → BarsInner inner) (some : 0 < turns) (sound : SoundInner d inner) where
   -- ---- postfix operators
 
   stepping : Sized RawExpr → Option (Bool × RawTarget) → s.Reader (Sized RawExpr)
@@ -81,10 +81,10 @@ module _ (d turns : ℕ) (inner : In) (outer : t.In) (alike : CopyInner inner ou
   steps_same_token a (Some up) None b ts = refl
   steps_same_token a None g b ts = refl
 
-  stepping_copy : (a : Sized RawExpr) (g : Option RawTarget) (ts : L) (v : Option (Bool × RawTarget)) → Chosen true Quiet (λ w. steps (step_of w.kind) g w.after_line) v (stepping a v) (stepping_token a v) ts
+  stepping_copy : (a : Sized RawExpr) (g : Option RawTarget) (ts : L) (v : Option (Bool × RawTarget)) → Chosen true Quiet (λ w. steps (step_of w.kind) g w.after_line) v (stepping a v) (stepping a None) (stepping_token a v) ts
   unfolding stepping stepping_token
   stepping_copy a g ts None = by_none refl (copies_pure true a ts)
-  stepping_copy a g ts (Some p) = by_taking (λ e. cc) (λ w us _. split_outcome (nat_lt a.1 d) _ _ (λ _. goes (copies_pure true _ us)) (λ _. halts refl))
+  stepping_copy a g ts (Some p) = by_taking (λ e. cc) (λ w us _. deeper a.1 d _ (λ _. goes (copies_pure true _ us)))
 
   pub postfix_copy : (a : Sized RawExpr) (ts : L) → Copies true Quiet (s.postfix d turns inner a) ts (t.postfix d turns outer a ts)
   unfolding r.postfix
@@ -96,11 +96,15 @@ module _ (d turns : ℕ) (inner : In) (outer : t.In) (alike : CopyInner inner ou
 
   refused_copy : (o : Prefix) (p : Place) (ts : L) → Starts true Quiet (s.wrong_prefix d turns inner o p) ts (t.wrong_prefix d turns outer o p ts)
   refused_copy (sign.step up) p ts = fails_here true r.a_token ts
-  refused_copy (sign.unary o) p ts = refuses_here true _ ts
+  refused_copy (sign.unary o) p ts = refuses_here true _ refl ts
+
+  refused_bar : (o : Prefix) (p : Place) → Bars (s.wrong_prefix d turns inner o p)
+  refused_bar (sign.step up) p = fails_bar r.a_token
+  refused_bar (sign.unary o) p = refuses_bar _ refl
 
   prefix_by_copy : (o : Prefix) (p : Place) (a : Sized RawExpr) (f : Option RawExpr) (ts : L) → Copies true Quiet (s.prefix_by d turns inner o p a f) ts (t.prefix_by d turns outer o p a f ts)
   prefix_by_copy o p a (Some f) ts = copies_pure true _ ts
-  prefix_by_copy o p a None ts = fork (λ w. is_remedy w.kind) _ _ _ _ ts quiet (λ _. by_taking absent (λ w us _. goes (copies_pure true _ us))) (λ _. by_token (refused_copy o p ts))
+  prefix_by_copy o p a None ts = fork (λ w. is_remedy w.kind) _ _ _ _ ts quiet (λ _. by_taking absent (λ w us _. goes (copies_pure true _ us))) (λ _. by_token (refused_copy o p ts) (refused_bar o p))
 
   prefix_expr_copy : (n : Bool) (o : Prefix) (w : Lexeme) (us : L) → Copies true Quiet (λ xs. s.prefix_expr d turns inner n o (real w ∷ xs)) us (t.prefix_expr d turns outer n o (w ∷ us))
   unfolding r.prefix_expr
@@ -122,33 +126,39 @@ module _ (d turns : ℕ) (inner : In) (outer : t.In) (alike : CopyInner inner ou
     just_guarded v e j l = each_map (λ vs xs. StopsAt main vs xs × Plain us xs) (StopsAt Guarded) v (λ vs xs m. unless_answered xs _ refl (opened_plain turns 0 m.1 e) ∙ m.0)
         (each_both (StopsAt main) (λ vs xs. Plain us xs) v j (each_plain v l))
 
+    -- where an insertion stands behind what is read
+    guarded_bar : {vs os : L} (c : Fault) (v : Copy us vs) → t.opened turns 0 us ≡ Ok (false, os) → Late v → Bar c main v → Bar c Guarded v
+    guarded_bar {vs} c v e l b n o = by (s.opened turns 0 (put v (inserted ∷ map real vs))) refl (opened_last turns 0 v l e) where
+      by : (u : Outcome Symbols Bool) → s.opened turns 0 (put v (inserted ∷ map real vs)) ≡ u → AtLast (map real vs) u → (is_mark mark.Colon (look_token vs).kind ≡ true) ⊎ Shut (Guarded (put v (inserted ∷ map real vs))) (map real vs)
+      by u q denied = bar_by (unless_answered (put v (inserted ∷ map real vs)) u q answers) (b n o)
+      by u q accepted = inr (record { fault = record { cause = r.refused construct.DeleteName; place = w.place }; no_limit = refl;
+        is = ap (λ x. r.unless_deleted Symbols look rest r.semicolon_symbol x w.place (main (put v (inserted ∷ map real vs)))) q })
+
     allowed_copy : {os : L} {o : Outcome L (Sized RawExpr)} → t.opened turns 0 us ≡ Ok (false, os) → ((xs : Symbols) → Done (λ _ _. (m : ℕ) → reals xs < m → Spared m xs) (main xs))
         → Copies true Quiet main us o → Copies true Quiet Guarded us o
-    allowed_copy e f (read v h j l) = read v (λ xs q. unless_answered (put v xs) _ refl (opened_spared turns (put v xs) (ap (t.opened turns 0) (put_lexemes v xs q) ∙ e) (spares_of (main (put v xs)) (f (put v xs)) (h xs q))) ∙ h xs q) (just_guarded v e j l) l
-    allowed_copy e f (stop {us = vs} v h j l) = stop v (unless_answered (put v (map real vs)) _ refl (opened_plain turns 0 (plain_put v l) e) ∙ h) (just_guarded v e j l) l
+    allowed_copy e f (read v h j l b) = reads v (λ xs q. unless_answered (put v xs) _ refl (opened_spared turns (put v xs) (ap (t.opened turns 0) (put_lexemes v xs q) ∙ e) (spares_of (main (put v xs)) (f (put v xs)) (h xs q))) ∙ h xs q) (just_guarded v e j l) l
+    allowed_copy e f (stop {c} {us = vs} v h j l b) = stop v (unless_answered (put v (map real vs)) _ refl (opened_plain turns 0 (plain_put v l) e) ∙ h) (just_guarded v e j l) l (guarded_bar c v e l b)
 
     -- by what it answers of the tokens
-    guarded_copy : {u : Outcome L (Sized RawExpr)} (o : Outcome L Bool) → t.opened turns 0 us ≡ o → Copies true Shows (s.opened turns 0) us o → ((vs : L) → t.opened turns 0 us ≡ Ok (false, vs) → Headed true Quiet Guarded w us u)
-        → Headed true Quiet Guarded w us (r.unless_deleted L look_token rest_tokens r.semicolon_token o w.place u)
-    guarded_copy o q (read {a = true} {us = vs} v e j l) h = goes (stop v (ap (λ x. r.unless_deleted Symbols look rest r.semicolon_symbol x w.place (main (put v (map real vs)))) (e (map real vs) (shows_real vs))) (just_ahead v j) l) where
-      just_ahead : (v : Copy us vs) → Just (s.opened turns 0) v → Just Guarded v
-      just_ahead v j = each_map (StopsAt (s.opened turns 0)) (StopsAt Guarded) v (λ vs xs m. ap (λ x. r.unless_deleted Symbols look rest r.semicolon_symbol x w.place (main xs)) m) j
-    guarded_copy o q (read {a = false} {us = vs} v e j l) h = h vs q
-    guarded_copy o q (stop {us = vs} v e j l) h = goes (stop v (ap (λ x. r.unless_deleted Symbols look rest r.semicolon_symbol x w.place (main (put v (map real vs)))) e)
-        (each_map (StopsAt (s.opened turns 0)) (StopsAt Guarded) v (λ vs xs m. ap (λ x. r.unless_deleted Symbols look rest r.semicolon_symbol x w.place (main xs)) m) j) l)
+    guarded_copy : {u : Outcome L (Sized RawExpr)} (o : Outcome L Bool) → t.opened turns 0 us ≡ o → Looks (s.opened turns 0) us o → ((vs : L) → t.opened turns 0 us ≡ Ok (false, vs) → Head true true Quiet Guarded w us u)
+        → Head true true Quiet Guarded w us (r.unless_deleted L look_token rest_tokens r.semicolon_token o w.place u)
+    guarded_copy o q (found {us = vs} v z e f) h = goes (stop v (ap (λ x. r.unless_deleted Symbols look rest r.semicolon_symbol x w.place (main (put v (map real vs)))) e) (each_takes (StopsAt Guarded) v z) (late_takes v z)
+        (λ n o. inr (record { fault = record { cause = r.refused construct.DeleteName; place = w.place }; no_limit = refl; is = ap (λ x. r.unless_deleted Symbols look rest r.semicolon_symbol x w.place (main (put v (inserted ∷ map real vs)))) f })))
+    guarded_copy o q (other {us = vs}) h = h vs q
+    guarded_copy o q (spends {c} {us = vs} v z e l) h = goes (stop v (ap (λ x. r.unless_deleted Symbols look rest r.semicolon_symbol x w.place (main (put v (map real vs)))) e) (each_takes (StopsAt Guarded) v z) (late_takes v z) (λ n o. absurd (clash c l n)))
 
   -- with a depth that is enough, or not
   by_depth : (n : Bool) (o : Prefix) (w : Lexeme) (us : L) (c : Bool) → is_delete o ≡ true
-      → Headed true Quiet (λ xs. r.unless_deleted Symbols look rest r.semicolon_symbol (s.opened turns 0 xs) w.place (cond c (s.prefix_expr d turns inner n o (real w ∷ xs)) (Err (record { cause = r.depth; place = w.place }, real w ∷ xs)))) w us
+      → Head true true Quiet (λ xs. r.unless_deleted Symbols look rest r.semicolon_symbol (s.opened turns 0 xs) w.place (cond c (s.prefix_expr d turns inner n o (real w ∷ xs)) (Err (record { cause = r.depth; place = w.place }, real w ∷ xs)))) w us
         (r.unless_deleted L look_token rest_tokens r.semicolon_token (t.opened turns 0 us) w.place (cond c (t.prefix_expr d turns outer n o (w ∷ us)) (Err (record { cause = r.depth; place = w.place }, w ∷ us))))
-  by_depth n o w us true e = guarded_copy w us _ (t.opened turns 0 us) refl (opened_copy turns 0 us)
+  by_depth n o w us true e = guarded_copy w us _ (t.opened turns 0 us) refl (opened_looks turns 0 us)
       (λ vs q. goes (allowed_copy w us _ q (λ xs. delete_spares d turns inner sound n o w xs e) (prefix_expr_copy n o w us)))
-  by_depth n o w us false e = guarded_copy w us _ (t.opened turns 0 us) refl (opened_copy turns 0 us)
-      (λ vs q. halts (unless_answered w us (λ xs. Err (record { cause = r.depth; place = w.place }, real w ∷ xs)) (map real us) _ refl (opened_plain turns 0 (plain_real us) q)))
+  by_depth n o w us false e = guarded_copy w us _ (t.opened turns 0 us) refl (opened_looks turns 0 us)
+      (λ vs q. halts (unless_answered w us (λ xs. Err (record { cause = r.depth; place = w.place }, real w ∷ xs)) (map real us) _ refl (opened_plain turns 0 (plain_real us) q)) tt)
 
-  prefixed_copy : (n : Bool) (o : Prefix) (w : Lexeme) (us : L) → Headed true Quiet (λ xs. s.prefixed d turns inner n o (real w ∷ xs)) w us (t.prefixed d turns outer n o (w ∷ us))
+  prefixed_copy : (n : Bool) (o : Prefix) (w : Lexeme) (us : L) → Head true true Quiet (λ xs. s.prefixed d turns inner n o (real w ∷ xs)) w us (t.prefixed d turns outer n o (w ∷ us))
   unfolding r.prefixed
-  prefixed_copy n o w us = split (is_delete o) _ _ _ _ (λ e. by_depth n o w us (nat_lt 0 d) e) (λ _. split_outcome (nat_lt 0 d) _ _ (λ _. goes (prefix_expr_copy n o w us)) (λ _. halts refl))
+  prefixed_copy n o w us = split (is_delete o) _ _ _ _ (λ e. by_depth n o w us (nat_lt 0 d) e) (λ _. deeper 0 d _ (λ _. goes (prefix_expr_copy n o w us)))
 
   -- ---- binary operators
 
@@ -178,11 +188,11 @@ module _ (d turns : ℕ) (inner : In) (outer : t.In) (alike : CopyInner inner ou
 
   climbing_copy : (n : Bool) (l : ℕ) (a : Sized RawExpr) (again : Sized RawExpr → s.Reader (Sized RawExpr)) (onward : Sized RawExpr → t.Reader (Sized RawExpr)) (ts : L)
       → ((b : Sized RawExpr) (us : L) → Copies true Quiet (again b) us (onward b us))
-      → (v : Option Infix) → Chosen true Quiet (λ w. binds l (infix_of n w.kind)) v (climbing again n a v) (climbing_token onward n a v) ts
+      → (v : Option Infix) → Chosen true Quiet (λ w. binds l (infix_of n w.kind)) v (climbing again n a v) (climbing again n a (binds l (infix_of n (k.due k.ending)))) (climbing_token onward n a v) ts
   unfolding climbing climbing_token
   climbing_copy n l a again onward ts f None = by_none (ap (binds l) (infix_ending n)) (copies_pure true a ts)
-  climbing_copy n l a again onward ts f (Some o) = by_taking (none_binds l _ o (infix_nothing n)) (λ w us _. split_outcome (nat_lt a.1 d) _ _
-      (λ _. goes (copies_after _ _ quiet (started (alike.expr n (level o + 1) us)) (λ b vs. f _ vs))) (λ _. halts refl))
+  climbing_copy n l a again onward ts f (Some o) = by_taking (none_binds l _ o (infix_nothing n)) (λ w us _. deeper a.1 d _
+      (λ _. goes (copies_after _ _ quiet (started (alike.expr n (level o + 1) us)) (λ b vs. f _ vs))))
 
   climb_by_copy : (n : Bool) (l : ℕ) (a : Sized RawExpr) (again : Sized RawExpr → s.Reader (Sized RawExpr)) (onward : Sized RawExpr → t.Reader (Sized RawExpr)) (ts : L)
       → ((b : Sized RawExpr) (us : L) → Copies true Quiet (again b) us (onward b us))
@@ -194,7 +204,7 @@ module _ (d turns : ℕ) (inner : In) (outer : t.In) (alike : CopyInner inner ou
 
   pub climb_copy : (n : Bool) (l m : ℕ) (a : Sized RawExpr) (ts : L) → Copies true Quiet (s.climb d turns inner n l m a) ts (t.climb d turns outer n l m a ts)
   unfolding r.climb
-  climb_copy n l zero a ts = climb_by_copy n l a (λ _. r.stops Symbols look rest r.semicolon_symbol r.depth) (λ _. r.stops L look_token rest_tokens r.semicolon_token r.depth) ts (λ b us. started (stops_here true r.depth us))
+  climb_copy n l zero a ts = climb_by_copy n l a (λ _. r.stops Symbols look rest r.semicolon_symbol r.depth) (λ _. r.stops L look_token rest_tokens r.semicolon_token r.depth) ts (λ b us. started (stops_here true r.depth refl us))
   climb_copy n l (suc m) a ts = climb_by_copy n l a (s.climb d turns inner n l m) (t.climb d turns outer n l m) ts (λ b us. climb_copy n l m b us)
 
   -- ---- what binds less
@@ -223,12 +233,11 @@ module _ (d turns : ℕ) (inner : In) (outer : t.In) (alike : CopyInner inner ou
     by true = refl
     by false = refl
 
-  asking_copy : (n : Bool) (a : Sized RawExpr) (ts : L) (v : Option Place) → Chosen true Quiet questions v (asking n a v) (asking_token n a v) ts
+  asking_copy : (n : Bool) (a : Sized RawExpr) (ts : L) (v : Option Place) → Chosen true Quiet questions v (asking n a v) (asking n a None) (asking_token n a v) ts
   unfolding asking asking_token
   asking_copy n a ts None = by_none refl (copies_pure true a ts)
-  asking_copy n a ts (Some p) = by_taking (λ e. cc) (λ w us _. split_outcome (nat_lt a.1 d) _ _
-      (λ _. goes (copies_after _ _ quiet (started (alike.expr true 1 us)) (λ x vs. copies_after _ _ quiet (started (expects true mark.Colon vs)) (λ _ os. copies_after _ _ quiet (started (alike.expr n 1 os)) (λ y ws. copies_pure true _ ws)))))
-      (λ _. halts refl))
+  asking_copy n a ts (Some p) = by_taking (λ e. cc) (λ w us _. deeper a.1 d _
+      (λ _. goes (copies_after _ _ quiet (started (alike.expr true 1 us)) (λ x vs. copies_after _ _ quiet (started (expects true mark.Colon vs)) (λ _ os. copies_after _ _ quiet (started (alike.expr n 1 os)) (λ y ws. copies_pure true _ ws))))))
 
   pub conditional_copy : (n : Bool) (a : Sized RawExpr) (ts : L) → Copies true Quiet (s.conditional d turns inner n a) ts (t.conditional d turns outer n a ts)
   conditional_copy n a ts = subst (λ o. Copies true Quiet (s.conditional d turns inner n a) ts o) (sym (asks_same_token n a ts))
@@ -254,10 +263,10 @@ module _ (d turns : ℕ) (inner : In) (outer : t.In) (alike : CopyInner inner ou
   assigns_same_token n a (Some o) None ts = refl
   assigns_same_token n a None g ts = refl
 
-  assigning_copy : (n : Bool) (a : Sized RawExpr) (g : Option RawTarget) (ts : L) (v : Option (Option BinOp × RawTarget)) → Chosen true Quiet (λ w. assigns (assign_of w.kind) g) v (assigning n a v) (assigning_token n a v) ts
+  assigning_copy : (n : Bool) (a : Sized RawExpr) (g : Option RawTarget) (ts : L) (v : Option (Option BinOp × RawTarget)) → Chosen true Quiet (λ w. assigns (assign_of w.kind) g) v (assigning n a v) (assigning n a None) (assigning_token n a v) ts
   unfolding assigning assigning_token
   assigning_copy n a g ts None = by_none refl (copies_pure true a ts)
-  assigning_copy n a g ts (Some p) = by_taking (λ e. cc) (λ w us _. split_outcome (nat_lt a.1 d) _ _ (λ _. goes (copies_after _ _ quiet (started (alike.expr n 1 us)) (λ b vs. copies_pure true _ vs))) (λ _. halts refl))
+  assigning_copy n a g ts (Some p) = by_taking (λ e. cc) (λ w us _. deeper a.1 d _ (λ _. goes (copies_after _ _ quiet (started (alike.expr n 1 us)) (λ b vs. copies_pure true _ vs))))
 
   pub assign_copy : (n : Bool) (a : Sized RawExpr) (ts : L) → Copies true Quiet (s.assign d turns inner n a) ts (t.assign d turns outer n a ts)
   unfolding r.assign
@@ -267,14 +276,14 @@ module _ (d turns : ℕ) (inner : In) (outer : t.In) (alike : CopyInner inner ou
 
   comma_copy : (n : Bool) (a : Sized RawExpr) (again : Sized RawExpr → s.Reader (Sized RawExpr)) (onward : Sized RawExpr → t.Reader (Sized RawExpr)) (ts : L)
       → ((b : Sized RawExpr) (us : L) → Copies true Quiet (again b) us (onward b us))
-      → (v : Bool) → Chosen true Quiet (λ w. is_mark mark.Comma w.kind) v (s.comma_by d turns inner again n a v) (t.comma_by d turns outer onward n a v) ts
+      → (v : Bool) → Chosen true Quiet (λ w. is_mark mark.Comma w.kind) v (s.comma_by d turns inner again n a v) (s.comma_by d turns inner again n a false) (t.comma_by d turns outer onward n a v) ts
   comma_copy n a again onward ts f false = by_none refl (copies_pure true a ts)
-  comma_copy n a again onward ts f true = by_taking absent (λ w us _. split_outcome (nat_lt a.1 d) _ _ (λ _. goes (copies_after _ _ quiet (started (alike.expr n 1 us)) (λ b vs. f _ vs))) (λ _. halts refl))
+  comma_copy n a again onward ts f true = by_taking absent (λ w us _. deeper a.1 d _ (λ _. goes (copies_after _ _ quiet (started (alike.expr n 1 us)) (λ b vs. f _ vs))))
 
   pub commas_copy : (n : Bool) (m : ℕ) (a : Sized RawExpr) (ts : L) → Copies true Quiet (s.commas d turns inner n m a) ts (t.commas d turns outer n m a ts)
   unfolding r.commas
   commas_copy n zero a ts = decide (λ w. is_mark mark.Comma w.kind) (s.comma_by d turns inner (λ _. r.stops Symbols look rest r.semicolon_symbol r.depth) n a) (t.comma_by d turns outer (λ _. r.stops L look_token rest_tokens r.semicolon_token r.depth) n a) ts quiet
-      (λ v _. comma_copy n a _ _ ts (λ b us. started (stops_here true r.depth us)) v)
+      (λ v _. comma_copy n a _ _ ts (λ b us. started (stops_here true r.depth refl us)) v)
   commas_copy n (suc m) a ts = decide (λ w. is_mark mark.Comma w.kind) (s.comma_by d turns inner (s.commas d turns inner n m) n a) (t.comma_by d turns outer (t.commas d turns outer n m) n a) ts quiet
       (λ v _. comma_copy n a _ _ ts (λ b us. commas_copy n m b us) v)
 
@@ -287,19 +296,28 @@ module _ (d turns : ℕ) (inner : In) (outer : t.In) (alike : CopyInner inner ou
 
   pub after_head_copy : (n : Bool) (l : ℕ) (a : Sized RawExpr) (ts : L) → Copies true Quiet (s.after_head d turns inner n l a) ts (t.after_head d turns outer n l a ts)
   unfolding r.after_head
-  after_head_copy n l a ts = copies_after _ _ quiet (suffixes_copy d turns inner outer alike true (suc d) a ts) (λ x us. copies_after _ _ quiet (postfix_copy x us) (λ y vs. after_unary_copy n l y vs))
+  after_head_copy n l a ts = copies_after _ _ quiet (suffixes_copy d turns inner outer alike bars some true (suc d) a ts) (λ x us. copies_after _ _ quiet (postfix_copy x us) (λ y vs. after_unary_copy n l y vs))
 
-  expr_by_copy : (n : Bool) (l : ℕ) (o : Option Prefix) (w : Lexeme) (us : L) → Headed true Quiet (λ xs. s.expr_by d turns inner n l o (real w ∷ xs)) w us (t.expr_by d turns outer n l o (w ∷ us))
-  expr_by_copy n l None w us = goes_after _ _ quiet (head_of_start (primary_copy d turns inner outer alike n (w ∷ us))) (λ a vs. after_head_copy n l a vs)
+  expr_by_copy : (n : Bool) (l : ℕ) (o : Option Prefix) (w : Lexeme) (us : L) → Head true true Quiet (λ xs. s.expr_by d turns inner n l o (real w ∷ xs)) w us (t.expr_by d turns outer n l o (w ∷ us))
+  expr_by_copy n l None w us = goes_after _ _ quiet (head_of_start (primary_copy d turns inner outer alike bars some n (w ∷ us))) (λ a vs. after_head_copy n l a vs)
   expr_by_copy n l (Some o) w us = goes_after _ _ quiet (prefixed_copy n o w us) (λ a vs. after_unary_copy n l a vs)
+
+  pub expr_bar : (n : Bool) (l : ℕ) → Bars (s.expr_of d turns inner n l)
+  unfolding r.expr_of
+  expr_bar n l xs = by (l == 17) where
+    head : Shut (s.primary d turns inner n (inserted ∷ xs)) xs
+    head = primary_bar d turns inner outer alike bars some n xs
+    by : (c : Bool) → Shut (cond {A = s.Reader (Sized RawExpr)} c (λ i. and_then (s.primary d turns inner n i) (s.suffixes d turns inner false (suc d))) (λ i. s.expr_by d turns inner n l (prefix_of (look i).kind) i) (inserted ∷ xs)) xs
+    by true = shut_after _ head
+    by false = shut_after _ head
 
   pub expr_copy : (n : Bool) (l : ℕ) (ts : L) → Starts true Quiet (s.expr_of d turns inner n l) ts (t.expr_of d turns outer n l ts)
   unfolding r.expr_of
   expr_copy n l [] = by (l == 17) where
     by : (c : Bool) → Starts true Quiet (cond {A = s.Reader (Sized RawExpr)} c (λ i. and_then (s.primary d turns inner n i) (s.suffixes d turns inner false (suc d))) (λ i. s.expr_by d turns inner n l (prefix_of (look i).kind) i)) []
         (cond {A = t.Reader (Sized RawExpr)} c (λ i. and_then (t.primary d turns outer n i) (t.suffixes d turns outer false (suc d))) (λ i. t.expr_by d turns outer n l (prefix_of (look_token i).kind) i) [])
-    by true = starts_after _ _ quiet (primary_copy d turns inner outer alike n []) (λ a us. suffixes_copy d turns inner outer alike false (suc d) a us)
-    by false = at_end _ (starts_after _ _ quiet (primary_copy d turns inner outer alike n []) (λ a us. after_head_copy n l a us)) refl
+    by true = starts_after _ _ quiet (primary_copy d turns inner outer alike bars some n []) (λ a us. suffixes_copy d turns inner outer alike bars some false (suc d) a us)
+    by false = at_end _ (starts_after _ _ quiet (primary_copy d turns inner outer alike bars some n []) (λ a us. after_head_copy n l a us)) refl
   expr_copy n l (w ∷ us) = starts (split (l == 17) _ _ _ _
-      (λ _. goes_after _ _ quiet (head_of_start (primary_copy d turns inner outer alike n (w ∷ us))) (λ a vs. suffixes_copy d turns inner outer alike false (suc d) a vs))
-      (λ _. expr_by_copy n l (prefix_of w.kind) w us))
+      (λ _. goes_after _ _ quiet (head_of_start (primary_copy d turns inner outer alike bars some n (w ∷ us))) (λ a vs. suffixes_copy d turns inner outer alike bars some false (suc d) a vs))
+      (λ _. expr_by_copy n l (prefix_of w.kind) w us)) (expr_bar n l)

@@ -48,6 +48,7 @@ pub mod FrontsClauses
 pub mod FrontsFor
 pub mod OneReading
 pub mod Copies
+pub mod Paired
 pub mod CopySteps
 pub mod CopyLists
 pub mod CopyAhead
@@ -56,5 +57,4 @@ pub mod CopyExpressions
 pub mod CopyStatements
 pub mod CopyJumps
 pub mod CopyPrograms
-pub mod Paired
 pub mod SoundTokens

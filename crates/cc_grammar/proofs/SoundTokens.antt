@@ -93,7 +93,7 @@ never [] a e = cc
 never (m ∷ b) a e = cc
 
 read_by : (turns d : ℕ) (ts : L) (b : List RawStmt) (h : ℕ) → Copies false Quiet (read_symbols turns d) ts (Ok ((b, h), [])) → ReadsWithin h ts b × (h ≤ d)
-read_by turns d ts b h (read w e j k) =
+read_by turns d ts b h (read w e j k _) =
     let xs = put w [] in
     let x = ended_at d xs (b, h) [] (read_symbols turns d xs) (symbols_sound turns d xs) (e [] refl) in
     (record { symbols = xs; tokens = put_lexemes w [] refl; justified = justified turns d w [] never refl j (body_ready x.body (at_ready x.ends tt)).paired; derives = record { last = x.last; body = x.body; ends = x.ends } }, x.low)
