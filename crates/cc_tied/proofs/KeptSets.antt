@@ -13,9 +13,8 @@ use Rattle.cc_meaning.specs.Store.{name_of, dotted, global_kind, same_numbers, s
 use Rattle.cc_meaning.specs.Alike.{In, here, there}
 use Rattle.cc_meaning.specs.Shapes.{longer, path_of, path_of_ref, path_of_key, path_of_target, is_object_global, names_object, is_named, is_create, is_prototype, is_prototype_alone, creates, set_by, prototype_target, declared_in, declared_by, sets_by, sets_by_fields, sets_by_option, sets_by_vars, sets_by_value, sets_by_fun, sets_by_stmt, sets_by_stmts, sets_by_chunks}
 use Rattle.cc_tied.specs.Placed.{Place, a_value, an_assigned, a_callee, a_deleted, an_object}
-use Rattle.cc_tied.specs.Rewrites.{re, re_target, re_all, re_fields, re_value, re_option, re_declarator, re_declarators, re_stmt, re_stmts}
+use Rattle.cc_tied.specs.Rewrites.{re, re_target, re_all, re_fields, re_value, re_option, re_declarator, re_declarators, re_stmt, re_stmts, whole, whole_in}
 use Rattle.cc_tied.specs.Mixed.{MixedScopes, no_scopes, as_it_was, with_other}
-use Rattle.cc_tied.proofs.RewritingBodies.{whole, whole_in}
 use Rattle.cc_tied.proofs.KeptPaths.{Stays, guard_same, put_same, re_fun, re_object, re_var, re_member, re_assign, path_kept, target_kept, creates_kept}
 
 -- ---- lists

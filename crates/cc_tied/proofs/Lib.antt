@@ -66,3 +66,4 @@ pub mod InjectRewrites
 pub mod KeptPaths
 pub mod KeptSets
 pub mod MixedSame
+pub mod FoldKeeps

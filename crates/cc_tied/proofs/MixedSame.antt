@@ -9,14 +9,14 @@ use Rattle.cc_meaning.specs.Shapes.{head_of, body_in, body_of, sets_by_chunks, s
 use Rattle.cc_meaning.specs.Same.{Same}
 use Rattle.cc_meaning.specs.WellMade.{WellMade}
 use Rattle.cc_tied.specs.Tied.{built_of}
-use Rattle.cc_tied.specs.Rewrites.{re_stmts}
+use Rattle.cc_tied.specs.Rewrites.{re_stmts, whole, whole_in}
 use Rattle.cc_tied.specs.Promises.{HasNoPaths}
 use Rattle.cc_tied.specs.PlainFacts.{plain_facts}
 use Rattle.cc_tied.specs.Mixed.{MixedScopes, no_scopes, as_it_was, with_other, IsMixed}
 use Rattle.cc_tied.proofs.Kit.{Kit}
 use Rattle.cc_tied.proofs.Parts.{Below}
 use Rattle.cc_tied.proofs.Rewriting.{StepRules}
-use Rattle.cc_tied.proofs.RewritingBodies.{Rules, whole, whole_in, whole_rules}
+use Rattle.cc_tied.proofs.RewritingBodies.{Rules, whole_rules}
 use Rattle.cc_tied.proofs.Subsets.{Pass, Rewrites, rewritten}
 use Rattle.cc_tied.proofs.KeptPaths.{Stays}
 use Rattle.cc_tied.proofs.KeptSets.{Within, within_both, stmts_within, declares_same, declares_within}
@@ -89,5 +89,5 @@ module _ (built : Ref → Bool) (step : Expr → Expr) (step_call : ℕ → Expr
         declares = λ s. record { keeps = declares_same (tables_of P) (tables_of Q).set sets_more s };
       }
 
-      same_by_scopes : Same P Q
+      pub same_by_scopes : Same P Q
       same_by_scopes = pass_same P Q W none same_but_set built builts whole_pass pass chosen

@@ -4,7 +4,7 @@ use Rattle.cc_ast.specs.Syntax.{Prim, Expr, Exprs, Declarator, ForInit, no_init,
 use Rattle.cc_ast.specs.declared.tree.Ref.{Ref}
 use Rattle.cc_meaning.specs.Shapes.{declared_by}
 use Rattle.cc_meaning.specs.Meaning as M
-use Rattle.cc_tied.specs.Rewrites.{init_of, re_declarator, re_declarators, re_init, re_names, re_stmt, re_stmts, re_maybe, re_cases}
+use Rattle.cc_tied.specs.Rewrites.{init_of, re_declarator, re_declarators, re_init, re_names, re_stmt, re_stmts, re_maybe, re_cases, whole, whole_in}
 use Rattle.cc_tied.specs.Fine.{FineDeclarator, FineDeclarators, FineInit, FineNames, FineStmt, FineStmts, FineMaybe, FineCases}
 use Rattle.cc_tied.proofs.Kit.{Kit}
 use Rattle.cc_tied.proofs.Parts.{Below}
@@ -116,12 +116,6 @@ module _ (K : Kit) (X : Below K) (built : Ref → Bool) (Here : K.Ctx → Type 0
     re_like_chunk n here (more_stmts s ss) o = rules.chunks n here s ss _ o.0 o.1 (re_like_stmt (K.outer n) here [] s o.1) (re_like_chunk n here ss o.2)
 
 -- ---- a pass that leaves statements and declarators whole
-
-abbrev pub whole : Declarator → List Declarator
-whole d = d ∷ []
-
-abbrev pub whole_in : Declarator → Declarator
-whole_in d = d
 
 module _ (K : Kit) (X : Below K) (built : Ref → Bool) (Here : K.Ctx → Type 0) (Stands : K.Ctx → List (List ℕ) → Stmt → Type 0) (step : Expr → Expr) (step_call : ℕ → Expr → Exprs → Expr) where
   -- statements of chunks declare the prototypes that they declared before

@@ -5,7 +5,7 @@ use Rattle.cc_ast.specs.declared.tree.Ref.{Ref}
 use Rattle.cc_meaning.specs.Monad.{pick}
 use Rattle.cc_meaning.specs.Shapes.{declared_by}
 use Rattle.cc_tied.specs.Placed.{Place, a_value, an_assigned, a_callee, a_deleted, an_object, keeps, guard, operand}
-use Rattle.cc_tied.specs.Rewrites.{put, put_call, put_on_value, re, re_target, re_all, re_fields, re_value, re_option, re_declarator}
+use Rattle.cc_tied.specs.Rewrites.{put, put_call, put_on_value, re, re_target, re_all, re_fields, re_value, re_option, re_declarator, stay_call}
 use Rattle.cc_tied.specs.Fine.{FineOption, FineDeclarator, FineDeclarators, FineInit, FineNames, FineStmt, FineStmts, FineMaybe, FineCases, Fine, FineTarget}
 use Rattle.cc_tied.proofs.Kit.{Kit}
 use Rattle.cc_tied.proofs.Parts.{Below}
@@ -20,9 +20,6 @@ use Rattle.cc_tied.proofs.Rewriting.{allowed}
 -- no step
 unfoldable pub stay : Expr → Expr
 stay e = e
-
-unfoldable pub stay_call : ℕ → Expr → Exprs → Expr
-stay_call i f es = call i f es
 
 pick_same : (b : Bool) (e : Expr) → pick b e e ≡ e
 pick_same true e = refl
