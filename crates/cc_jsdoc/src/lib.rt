@@ -1,0 +1,10 @@
+//! What annotation comments say: `read_doc` answers the doc that the relation `IsDocOf` of
+//! `specs/Docs.antt` gives a comment's units. The tags stand in `specs/Tags.antt`, the grammar of
+//! types in `specs/Types.antt`.
+#![tactic(auto)]
+
+mod classes;
+pub mod doc;
+mod span;
+mod tag;
+pub mod types;
