@@ -4,6 +4,7 @@
 #![tactic(auto)]
 
 mod classes;
+mod comment;
 pub mod doc;
 mod span;
 mod tag;
