@@ -7,5 +7,6 @@ mod classes;
 mod comment;
 pub mod doc;
 mod span;
+mod symbol;
 mod tag;
 pub mod types;
