@@ -1,3 +1,5 @@
 pub mod TextLemmas
 pub mod SymbolLemmas
 pub mod ClosingLemmas
+pub mod WordLemmas
+pub mod NameLemmas

@@ -8,7 +8,7 @@ use Rattle.cc_lexer.proofs.ItemLemmas.{start_part}
 use Rattle.cc_lexer.proofs.PlaceLemmas.{shorter_end}
 use Rattle.cc_lexer.proofs.Runs.{behind_ends}
 use Rattle.cc_jsdoc.specs.Classes.{is_blank}
-use Rattle.cc_jsdoc.specs.Symbols.{Symbol, word, mark, symbol, first_symbol}
+use Rattle.cc_jsdoc.specs.Symbols.{Symbol, word, mark, symbol, first_symbol, Word, Mark}
 
 module _ (text begin : List ℕ) (at : begin ≡ behind is_blank text) where
   first : (o : Option (Symbol × List ℕ)) → first_symbol begin ≡ o → symbol text ≡ o
@@ -36,3 +36,37 @@ word_ends c cs e = subst (λ b. Ends cs (if b then behind is_part cs else c ∷ 
 pub behind_word : (begin behind_first rest : List ℕ) (c : ℕ) → IsUtf8 behind_first → IsUtf8 rest → chars begin ≡ c ∷ chars behind_first → is_start c ≡ true → chars rest ≡ behind is_part (chars begin) → length rest ≤ length behind_first
 behind_word begin behind_first rest c u v e h k =
     shorter_end behind_first rest u v (subst (Ends (chars behind_first)) (sym (k ∙ ap (behind is_part) e)) (word_ends c (chars behind_first) h))
+
+-- ---- a text has one next symbol
+
+symbol_in : Option (Symbol × List ℕ) → Symbol
+symbol_in None = mark 0
+symbol_in (Some (s, rest)) = s
+
+rest_in : Option (Symbol × List ℕ) → List ℕ
+rest_in None = []
+rest_in (Some (s, rest)) = rest
+
+word_in : Symbol → List ℕ
+word_in (word w) = w
+word_in (mark c) = []
+
+mark_in : Symbol → ℕ
+mark_in (word w) = 0
+mark_in (mark c) = c
+
+module _ (text : List ℕ) where
+  pub symbol_once : (s t : Symbol) (r q : List ℕ) → symbol text ≡ Some (s, r) → symbol text ≡ Some (t, q) → (s ≡ t) × (r ≡ q)
+  unfolding symbol_in rest_in
+  symbol_once s t r q e h = (ap symbol_in (sym e ∙ h), ap rest_in (sym e ∙ h))
+
+  pub word_once : (v w r q : List ℕ) → Word v text r → Word w text q → (v ≡ w) × (r ≡ q)
+  unfolding word_in
+  word_once v w r q e h = let k = symbol_once (word v) (word w) r q e h in (ap word_in k.0, k.1)
+
+  pub mark_once : (c d : ℕ) (r q : List ℕ) → Mark c text r → Mark d text q → (c ≡ d) × (r ≡ q)
+  unfolding mark_in
+  mark_once c d r q e h = let k = symbol_once (mark c) (mark d) r q e h in (ap mark_in k.0, k.1)
+
+  pub no_mark : {A : Type 0} (w r : List ℕ) (c : ℕ) (q : List ℕ) → Word w text r → Mark c text q → A
+  no_mark w r c q e h = let k = (symbol_once (word w) (mark c) r q e h).0 in cc

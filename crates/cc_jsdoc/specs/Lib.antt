@@ -3,6 +3,7 @@ pub mod Texts
 pub mod Symbols
 pub mod Shown
 pub mod Types
+pub mod Continuing
 pub mod Tags
 pub mod Docs
 pub mod Laws

@@ -103,7 +103,11 @@ pub data Means : List ℕ → TypeExpr → Type 0 where
   derived : {text : List ℕ} {ts : List Alternative} → IsExpression text ts → Means text (record { alternatives = ts })
   outside : {text : List ℕ} → ((ts : List Alternative) → ¬ IsExpression text ts) → Means text (record { alternatives = one.Unknown ∷ [] })
 
--- the whole text is a name, or `!` and a name
+-- the whole text is a name
+pub data IsNameAlone : List ℕ → List (List ℕ) → Type 0 where
+  alone : {text rest : List ℕ} {ws : List (List ℕ)} → IsName text ws rest → IsEnd rest → IsNameAlone text ws
+
+-- also behind `!`
 pub data IsClassName : List ℕ → List (List ℕ) → Type 0 where
-  bare : {text rest : List ℕ} {ws : List (List ℕ)} → IsName text ws rest → IsEnd rest → IsClassName text ws
-  marked : {text a rest : List ℕ} {ws : List (List ℕ)} → Mark 33 text a → IsName a ws rest → IsEnd rest → IsClassName text ws
+  bare : {text : List ℕ} {ws : List (List ℕ)} → IsNameAlone text ws → IsClassName text ws
+  marked : {text a : List ℕ} {ws : List (List ℕ)} → Mark 33 text a → IsNameAlone a ws → IsClassName text ws

@@ -6,6 +6,8 @@
 mod classes;
 mod comment;
 pub mod doc;
+mod name;
+mod reading;
 mod span;
 mod symbol;
 mod tag;
