@@ -3,3 +3,7 @@ pub mod SymbolLemmas
 pub mod ClosingLemmas
 pub mod WordLemmas
 pub mod NameLemmas
+pub mod ViewLemmas
+pub mod MarkLemmas
+pub mod FunctionLemmas
+pub mod StepLemmas

@@ -13,7 +13,7 @@ name-more (last k) m h = dotted k m (last h)
 name-more (dotted k l n) m h = dotted k l (name-more n m h)
 
 -- a name, and another one of the same text: it is the same or goes on behind a dot
-pub NameCase : List (List ℕ) → List ℕ → List (List ℕ) → List ℕ → Type 0
+unfoldable pub NameCase : List (List ℕ) → List ℕ → List (List ℕ) → List ℕ → Type 0
 NameCase vs r ws rest = ((vs ≡ ws) × (r ≡ rest)) ⊎ ((a : List ℕ) × Mark 46 r a)
 
 pub begins : {text r : List ℕ} {vs : List (List ℕ)} → IsName text vs r → (w : List ℕ) × (q : List ℕ) × Word w text q

@@ -34,6 +34,9 @@ pub no_word : (text lit : List ℕ) → IsUtf8 text → is_plain lit ≡ true �
 no_word text lit u p h =
     false_from_ne_true _ (λ e. h (sym (encodes-chars text u) ∙ ap encode_utf8_all (sym ((bytes_eq-Decides lit (chars text)).0 e)) ∙ encodes-IsAscii lit (ascii lit p)))
 
+pub not_plain : (text lit : List ℕ) → IsUtf8 text → is_plain lit ≡ true → (text ≡ lit → ⊥) → chars text ≡ lit → ⊥
+not_plain text lit u p h e = h (sym (encodes-chars text u) ∙ ap encode_utf8_all e ∙ encodes-IsAscii lit (ascii lit p))
+
 -- ---- names
 
 pub single : (n : Name) (w : List ℕ) (ws : List (List ℕ)) → n ≡ name_of (w ∷ ws) → length n.parts ≤ 1 → ws ≡ []

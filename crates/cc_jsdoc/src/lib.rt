@@ -3,6 +3,7 @@
 //! types in `specs/Types.antt`.
 #![tactic(auto)]
 
+mod begin;
 mod classes;
 mod comment;
 pub mod doc;

@@ -1,15 +1,9 @@
-// Types, read with a list of what is open round the place that is reached.
+// How far a type is read.
 
-ghost use Rattle.std.specs.Prelude.{◌≡◌, ◌≢◌, ◌↔◌, ◌<◌, ◌≤◌, ◌+◌, ◌*◌, ◌++◌, ◌∷◌, [], ℕ, List, IfOk, OnOk, IfSome, IsTrue, MatchOption, length, reverse, take, vec_len};
-ghost use Rattle.std.specs.Str.{chars, IsUtf8};
-ghost use Rattle.cc_jsdoc.specs.declared.types.Alternative.{Alternative};
-ghost use Rattle.cc_jsdoc.specs.Types as types;
-ghost use Rattle.cc_jsdoc.specs.Continuing as continuing;
+ghost use Rattle.std.specs.Prelude.{◌≡◌, ◌++◌, ◌∷◌, [], IfOk, OnOk};
 
-use crate::symbol::{Symbol, behind_mark, close, next_symbol};
-use crate::types::{Alternative, Simple, TypeExpr};
-use sqlite_items::Items;
-use std::alloc::{AllocError, Global};
+use crate::types::Alternative;
+use std::alloc::AllocError;
 
 /// What is open: a union in parentheses, the element type of an array, the type behind `...`, or
 /// the result of a function. All but a union know how many alternatives stand before them.
@@ -37,8 +31,8 @@ pub(crate) struct Reading {
     pub(crate) alternatives: Vec<Alternative>,
 }
 
-// An alternative, behind which the type ends.
-fn done<'a>(
+/// An alternative, behind which the type ends.
+pub(crate) fn done<'a>(
     reading: &mut Reading,
     alternative: Alternative,
     rest: &'a str,
@@ -51,8 +45,12 @@ fn done<'a>(
     Ok(Step::Done(rest))
 }
 
-// What begins here, behind which a type is due.
-fn opened<'a>(reading: &mut Reading, open: Open, rest: &'a str) -> Result<Step<'a>, AllocError>
+/// What begins here, behind which a type is due.
+pub(crate) fn opened<'a>(
+    reading: &mut Reading,
+    open: Open,
+    rest: &'a str,
+) -> Result<Step<'a>, AllocError>
     ensures step { IfOk result (λ step. step ≡ Step.Due rest.entry) }
     ensures stack { OnOk result (reading.new.stack.items ≡ reading.old.stack.items ++ «open» ∷ []) }
     ensures alternatives { OnOk result (reading.new.alternatives.items ≡ reading.old.alternatives.items) }
