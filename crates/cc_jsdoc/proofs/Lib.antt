@@ -7,3 +7,4 @@ pub mod ViewLemmas
 pub mod MarkLemmas
 pub mod FunctionLemmas
 pub mod StepLemmas
+pub mod GoOnLemmas

@@ -59,6 +59,10 @@ AwaitsIn r text ts = Awaits (reverse r.stack.items) r.alternatives.items text ts
 abbrev pub CompletesIn : Reading → List ℕ → List Alternative → Type 0
 CompletesIn r text ts = Completes (reverse r.stack.items) r.alternatives.items text ts
 
+-- with this open too
+abbrev pub CompletesWith : Open → Reading → List ℕ → List Alternative → Type 0
+CompletesWith x r text ts = Completes (x ∷ reverse r.stack.items) r.alternatives.items text ts
+
 -- the step keeps what the whole type can be
 abbrev pub Keeps : (List Alternative → Type 0) → Reading → Step → Type 0
 Keeps before r step = (ts : List Alternative) → before ts ↔ GoesOn step (reverse r.stack.items) r.alternatives.items ts

@@ -7,6 +7,8 @@ mod begin;
 mod classes;
 mod comment;
 pub mod doc;
+mod expression;
+mod go_on;
 mod name;
 mod reading;
 mod span;
