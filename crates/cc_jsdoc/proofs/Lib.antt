@@ -8,3 +8,6 @@ pub mod MarkLemmas
 pub mod FunctionLemmas
 pub mod StepLemmas
 pub mod GoOnLemmas
+pub mod TagLemmas
+pub mod GivesLemmas
+pub mod PieceLemmas
