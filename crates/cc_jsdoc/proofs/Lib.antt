@@ -11,3 +11,4 @@ pub mod GoOnLemmas
 pub mod TagLemmas
 pub mod GivesLemmas
 pub mod PieceLemmas
+pub mod CollectLemmas

@@ -83,12 +83,15 @@ abbrev pub with_param : List Param → Param → List Param
 with_param [] p = p ∷ []
 with_param (q ∷ qs) p = if bytes_eq p.name q.name then p ∷ qs else q ∷ with_param qs p
 
+abbrev pub params_of : List Tag → List Param
+params_of tags = fold with_param [] (filter_map param_of tags)
+
 unfoldable pub doc_of : List Tag → Doc
 doc_of tags = record {
   kind = unwrap_or (latest kind_of tags) kind.Plain;
   extends = latest extends_of tags;
   implements = filter_map implements_of tags;
-  params = fold with_param [] (filter_map param_of tags);
+  params = params_of tags;
   result = latest result_of tags;
   value = latest value_of tags;
   receiver = latest receiver_of tags;

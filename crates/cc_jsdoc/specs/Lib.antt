@@ -6,4 +6,5 @@ pub mod Types
 pub mod Continuing
 pub mod Tags
 pub mod Docs
+pub mod Collecting
 pub mod Laws
