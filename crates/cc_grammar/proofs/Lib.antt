@@ -39,6 +39,12 @@ pub mod AlikeStatements
 pub mod NoFront
 pub mod Moves
 pub mod MovesDerived
+pub mod Fails
+pub mod FrontsLists
+pub mod FrontsPrimary
+pub mod FrontsExpressions
+pub mod FrontsClauses
+pub mod FrontsFor
 pub mod OneReading
 pub mod OnTokens
 pub mod Copies

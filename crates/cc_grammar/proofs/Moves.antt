@@ -71,7 +71,7 @@ fits_front {xs} {ys} f zs l = by f.before (f.prefix ys) (f.prefix zs) l where
   by [] e h (same q) = same (ap look h ∙ q ∙ sym (ap look e) ∙ ap look f.is)
   by (m ∷ before) e h l = same (ap look h ∙ sym (ap look e) ∙ ap look f.is)
 
-no_tail : (w : Word) (x : Kind) → is_tail (k.word w) ≡ true → is_tail x ≡ false → is_word w x ≡ false
+pub no_tail : (w : Word) (x : Kind) → is_tail (k.word w) ≡ true → is_tail x ≡ false → is_word w x ≡ false
 no_tail w x t f = by (is_word w x) refl where
   by : (b : Bool) → is_word w x ≡ b → is_word w x ≡ false
   by false e = e
