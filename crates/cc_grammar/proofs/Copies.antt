@@ -9,6 +9,7 @@ use Rattle.cc_grammar.specs.Symbols as k
 use Rattle.cc_grammar.specs.Fronts.{offends}
 use Rattle.cc_grammar.specs.Reading.{Outcome, Fault, fault, and_then, look_token}
 use Rattle.cc_grammar.specs.Reading as r
+use Rattle.cc_grammar.proofs.Alike.{is_limit}
 
 abbrev pub L : Type 0
 L = List Lexeme
@@ -123,10 +124,33 @@ pub kept_brace : (late : Bool) {ts us : L} (t : Lexeme) (w : Copy ts us) → is_
 kept_brace true t w e = inl e
 kept_brace false t w e = tt
 
+-- an inserted semicolon is not read there
+pub record Shut {A : Type 0} (o : Outcome Symbols A) (xs : Symbols) : Type 0 where
+  pub fault : Fault
+  pub no_limit : is_limit fault.cause ≡ false
+  pub is : o ≡ Err (fault, inserted ∷ xs)
+
+-- a reader that reads none first
+abbrev pub Bars : {A : Type 0} → (Symbols → Outcome Symbols A) → Type 0
+Bars q = (xs : Symbols) → Shut (q (inserted ∷ xs)) xs
+
+-- what an insertion there comes to, behind what was read: it is left to what follows, or it isn't read
+pub data Beyond {A : Type 0} {ts us : L} (q : Symbols → Outcome Symbols A) (w : Copy ts us) (a : A) : Type 0 where
+  passes : ((xs : Symbols) → lexemes_of xs ≡ us → q (put w (inserted ∷ xs)) ≡ Ok (a, inserted ∷ xs)) → Beyond q w a
+  shuts : ((xs : Symbols) → lexemes_of xs ≡ us → Shut (q (put w (inserted ∷ xs))) xs) → Beyond q w a
+
+-- A colon doesn't go on with an insertion, so where it isn't read nothing is said.
+abbrev pub Excused : Fault → Lexeme → Type 0
+Excused c t = is_limit c.cause ≡ false → offends t ≡ true → is_mark mark.Colon t.kind ≡ true
+
+-- what an insertion comes to, where reading stopped, but not at a limit
+abbrev pub Bar : {A : Type 0} {ts us : L} → Fault → (Symbols → Outcome Symbols A) → Copy ts us → Type 0
+Bar {us} c q w = is_limit c.cause ≡ false → offends (look_token us) ≡ true → (is_mark mark.Colon (look_token us).kind ≡ true) ⊎ Shut (q (put w (inserted ∷ map real us))) (map real us)
+
 -- F: which symbols may follow
 pub data Copies {A : Type 0} (late : Bool) (F : Symbols → L → Type 0) (q : Symbols → Outcome Symbols A) (ts : L) : Outcome L A → Type 0 where
-  read : {a : A} {us : L} (w : Copy ts us) → ((xs : Symbols) → F xs us → q (put w xs) ≡ Ok (a, xs)) → Just q w → Kept late w → Copies late F q ts (Ok (a, us))
-  stop : {c : Fault} {us : L} (w : Copy ts us) → q (put w (map real us)) ≡ Err (c, map real us) → Just q w → Kept late w → Copies late F q ts (Err (c, us))
+  read : {a : A} {us : L} (w : Copy ts us) → ((xs : Symbols) → F xs us → q (put w xs) ≡ Ok (a, xs)) → Just q w → Kept late w → Beyond q w a → Copies late F q ts (Ok (a, us))
+  stop : {c : Fault} {us : L} (w : Copy ts us) → q (put w (map real us)) ≡ Err (c, map real us) → Just q w → Kept late w → Bar c q w → Copies late F q ts (Err (c, us))
 
 -- the tokens that follow, with any insertions
 abbrev pub Quiet : Symbols → L → Type 0
@@ -136,24 +160,56 @@ Quiet xs us = lexemes_of xs ≡ us
 abbrev pub Shows : Symbols → L → Type 0
 Shows xs us = (lexemes_of xs ≡ us) × (look xs ≡ look_token us)
 
--- A reader that takes a token first, or stops at it.
+pub reads : {A : Type 0} {late : Bool} {q : Symbols → Outcome Symbols A} {a : A} {ts us : L} (w : Copy ts us) → ((xs : Symbols) → Quiet xs us → q (put w xs) ≡ Ok (a, xs)) → Just q w → Kept late w → Copies late Quiet q ts (Ok (a, us))
+reads w e j k = read w e j k (passes (λ xs h. e (inserted ∷ xs) h))
+
+-- why nothing is said of an insertion before the token: the reader as a whole says it, or it is excused
+abbrev pub Free : Bool → Fault → Lexeme → Type 0
+Free true c t = Unit {0}
+Free false c t = Excused c t
+
+-- A reader that goes on with a token, or stops at it: q reads behind the token.
+pub data Head {A : Type 0} (free late : Bool) (F : Symbols → L → Type 0) (q : Symbols → Outcome Symbols A) (t : Lexeme) (us : L) : Outcome L A → Type 0 where
+  goes : {o : Outcome L A} → Copies late F q us o → Head free late F q t us o
+  goes_in : {o : Outcome L A} → is_mark mark.OpenBrace t.kind ≡ true → Copies false F q us o → Head free late F q t us o
+  halts : {c : Fault} → q (map real us) ≡ Err (c, real t ∷ map real us) → Free free c t → Head free late F q t us (Err (c, t ∷ us))
+
+-- a reader that takes a token first, or stops, and reads no insertion first
 pub data Starts {A : Type 0} (late : Bool) (F : Symbols → L → Type 0) (q : Symbols → Outcome Symbols A) : L → Outcome L A → Type 0 where
-  begins : {t : Lexeme} {us : L} {o : Outcome L A} → Copies late F (λ xs. q (real t ∷ xs)) us o → Starts late F q (t ∷ us) o
-  opens : {t : Lexeme} {us : L} {o : Outcome L A} → is_mark mark.OpenBrace t.kind ≡ true → Copies false F (λ xs. q (real t ∷ xs)) us o → Starts late F q (t ∷ us) o
-  fails : {c : Fault} {ts : L} → ((xs : Symbols) → look xs ≡ look_token ts → q xs ≡ Err (c, xs)) → Starts late F q ts (Err (c, ts))
+  starts : {t : Lexeme} {us : L} {o : Outcome L A} → Head true late F (λ xs. q (real t ∷ xs)) t us o → Bars q → Starts late F q (t ∷ us) o
+  halts_end : {c : Fault} → q [] ≡ Err (c, []) → Starts late F q [] (Err (c, []))
+  limits : {c : Fault} {ts : L} → q (map real ts) ≡ Err (c, map real ts) → is_limit c.cause ≡ true → Starts late F q ts (Err (c, ts))
 
 pub taken : {A : Type 0} {late : Bool} {F : Symbols → L → Type 0} {q : Symbols → Outcome Symbols A} {us : L} {o : Outcome L A} (t : Lexeme) → Copies late F (λ xs. q (real t ∷ xs)) us o → Copies late F q (t ∷ us) o
-taken {late} t (read w e j k) = read (take t w) e j (kept_take late t w k)
-taken {late} t (stop w e j k) = stop (take t w) e j (kept_take late t w k)
+taken {late} t (read w e j k (passes b)) = read (take t w) e j (kept_take late t w k) (passes b)
+taken {late} t (read w e j k (shuts b)) = read (take t w) e j (kept_take late t w k) (shuts b)
+taken {late} t (stop w e j k b) = stop (take t w) e j (kept_take late t w k) b
 
 pub braced : {A : Type 0} {late : Bool} {F : Symbols → L → Type 0} {q : Symbols → Outcome Symbols A} {us : L} {o : Outcome L A} (t : Lexeme) → is_mark mark.OpenBrace t.kind ≡ true → Copies false F (λ xs. q (real t ∷ xs)) us o → Copies late F q (t ∷ us) o
-braced {late} t b (read w e j k) = read (take t w) e j (kept_brace late t w b)
-braced {late} t b (stop w e j k) = stop (take t w) e j (kept_brace late t w b)
+braced {late} t b (read w e j k (passes f)) = read (take t w) e j (kept_brace late t w b) (passes f)
+braced {late} t b (read w e j k (shuts f)) = read (take t w) e j (kept_brace late t w b) (shuts f)
+braced {late} t b (stop w e j k f) = stop (take t w) e j (kept_brace late t w b) f
+
+pub clash : (c : Fault) → is_limit c.cause ≡ true → is_limit c.cause ≡ false → ⊥
+clash c l n = let no : true ≡ false = sym l ∙ n in (cc)
+
+pub excused : (c : Fault) (t : Lexeme) → is_limit c.cause ≡ true → Excused c t
+excused c t l n o = absurd (clash c l n)
+
+pub went : {A : Type 0} {late : Bool} {F : Symbols → L → Type 0} {q : Symbols → Outcome Symbols A} {t : Lexeme} {us : L} {o : Outcome L A} → Head false late F (λ xs. q (real t ∷ xs)) t us o → Copies late F q (t ∷ us) o
+went {t} (goes h) = taken t h
+went {t} (goes_in b h) = braced t b h
+went {late} {t} {us} (halts h f) = stop end h tt (kept_end late (t ∷ us)) (λ n o. inl (f n o))
+
+pub no_offence : offends (look_token []) ≡ true → ⊥
+no_offence e = cc
 
 pub started : {A : Type 0} {late : Bool} {F : Symbols → L → Type 0} {q : Symbols → Outcome Symbols A} {ts : L} {o : Outcome L A} → Starts late F q ts o → Copies late F q ts o
-started (begins {t} h) = taken t h
-started (opens {t} b h) = braced t b h
-started {late} (fails {ts} h) = stop end (h (map real ts) (look_real ts)) tt (kept_end late ts)
+started (starts {t} (goes h) b) = taken t h
+started (starts {t} (goes_in e h) b) = braced t e h
+started {late} (starts {t} {us} (halts h f) b) = stop end h tt (kept_end late (t ∷ us)) (λ n o. inr (b (real t ∷ map real us)))
+started {late} (halts_end e) = stop end e tt (kept_end late []) (λ n o. absurd (no_offence o))
+started {late} (limits {c} {ts} e l) = stop end e tt (kept_end late ts) (λ n o. absurd (clash c l n))
 
 kept_any : (late : Bool) {ts us : L} (w : Copy ts us) → Late w → Kept late w
 kept_any true w h = h
@@ -161,23 +217,40 @@ kept_any false w h = tt
 
 -- that nothing is inserted before a brace may be forgotten
 pub relaxed : {A : Type 0} {F : Symbols → L → Type 0} {q : Symbols → Outcome Symbols A} {ts : L} {o : Outcome L A} (late : Bool) → Copies true F q ts o → Copies late F q ts o
-relaxed late (read w e j k) = read w e j (kept_any late w k)
-relaxed late (stop w e j k) = stop w e j (kept_any late w k)
+relaxed late (read w e j k b) = read w e j (kept_any late w k) b
+relaxed late (stop w e j k b) = stop w e j (kept_any late w k) b
 
 pub loosened : {A : Type 0} {late : Bool} {F : Symbols → L → Type 0} {q : Symbols → Outcome Symbols A} {ts : L} {o : Outcome L A} → Copies late F q ts o → Copies false F q ts o
-loosened (read w e j k) = read w e j tt
-loosened (stop w e j k) = stop w e j tt
+loosened (read w e j k b) = read w e j tt b
+loosened (stop w e j k b) = stop w e j tt b
+
+relaxed_head : {A : Type 0} {free : Bool} {F : Symbols → L → Type 0} {q : Symbols → Outcome Symbols A} {t : Lexeme} {us : L} {o : Outcome L A} (late : Bool) → Head free true F q t us o → Head free late F q t us o
+relaxed_head late (goes h) = goes (relaxed late h)
+relaxed_head late (goes_in b h) = goes_in b h
+relaxed_head late (halts h f) = halts h f
 
 pub relaxed_start : {A : Type 0} {F : Symbols → L → Type 0} {q : Symbols → Outcome Symbols A} {ts : L} {o : Outcome L A} (late : Bool) → Starts true F q ts o → Starts late F q ts o
-relaxed_start late (begins h) = begins (relaxed late h)
-relaxed_start late (opens b h) = opens b h
-relaxed_start late (fails h) = fails h
+relaxed_start late (starts h b) = starts (relaxed_head late h) b
+relaxed_start late (halts_end h) = halts_end h
+relaxed_start late (limits h l) = limits h l
 
 just_same : {A : Type 0} {ts us : L} (p q : Symbols → Outcome Symbols A) (w : Copy ts us) → ((xs : Symbols) → lexemes_of xs ≡ ts → q xs ≡ p xs) → Just p w → Just q w
 just_same {ts} p q w h j = each_map (λ vs xs. StopsAt p vs xs × (lexemes_of xs ≡ ts)) (StopsAt q) w (λ vs xs m. h xs m.1 ∙ m.0) (each_both (StopsAt p) (λ vs xs. lexemes_of xs ≡ ts) w j (each_lexemes w))
 
+pub shut_by : {A : Type 0} {o u : Outcome Symbols A} {xs : Symbols} → o ≡ u → Shut u xs → Shut o xs
+shut_by e h = record { fault = h.fault; no_limit = h.no_limit; is = e ∙ h.is }
+
+beyond_same : {A : Type 0} {ts us : L} {p : Symbols → Outcome Symbols A} (q : Symbols → Outcome Symbols A) {a : A} (w : Copy ts us) → ((xs : Symbols) → lexemes_of xs ≡ ts → q xs ≡ p xs) → Beyond p w a → Beyond q w a
+beyond_same q w h (passes b) = passes (λ xs l. h (put w (inserted ∷ xs)) (put_lexemes w (inserted ∷ xs) l) ∙ b xs l)
+beyond_same q w h (shuts b) = shuts (λ xs l. shut_by (h (put w (inserted ∷ xs)) (put_lexemes w (inserted ∷ xs) l)) (b xs l))
+
+bar_same : {B A : Type 0} {o u : Outcome Symbols A} {xs : Symbols} → o ≡ u → B ⊎ Shut u xs → B ⊎ Shut o xs
+bar_same e (inl b) = inl b
+bar_same e (inr h) = inr (shut_by e h)
+
 -- where two readers agree on the tokens, whatever is inserted
 pub same_copies : {A : Type 0} {late : Bool} {F : Symbols → L → Type 0} {p : Symbols → Outcome Symbols A} {ts : L} {o : Outcome L A} (q : Symbols → Outcome Symbols A)
     → ((xs : Symbols) (us : L) → F xs us → lexemes_of xs ≡ us) → Copies late F p ts o → ((xs : Symbols) → lexemes_of xs ≡ ts → q xs ≡ p xs) → Copies late F q ts o
-same_copies {p} q quiet (read w e j k) h = read w (λ xs f. h (put w xs) (put_lexemes w xs (quiet xs _ f)) ∙ e xs f) (just_same p q w h j) k
-same_copies {p} q quiet (stop {us} w e j k) h = stop w (h (put w (map real us)) (put_lexemes w (map real us) (lexemes_real us)) ∙ e) (just_same p q w h j) k
+same_copies {p} q quiet (read w e j k b) h = read w (λ xs f. h (put w xs) (put_lexemes w xs (quiet xs _ f)) ∙ e xs f) (just_same p q w h j) k (beyond_same q w h b)
+same_copies {p} q quiet (stop {us} w e j k b) h = stop w (h (put w (map real us)) (put_lexemes w (map real us) (lexemes_real us)) ∙ e) (just_same p q w h j) k
+    (λ n o. bar_same (h (put w (inserted ∷ map real us)) (put_lexemes w (inserted ∷ map real us) (lexemes_real us))) (b n o))

@@ -51,4 +51,13 @@ pub mod FrontsProgram
 pub mod OneReading
 pub mod OnTokens
 pub mod Copies
+pub mod Paired
 pub mod CopySteps
+pub mod CopyLists
+pub mod CopyAhead
+pub mod CopyPrimary
+pub mod CopyExpressions
+pub mod CopyStatements
+pub mod CopyJumps
+pub mod CopyPrograms
+pub mod SoundTokens

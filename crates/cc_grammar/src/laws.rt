@@ -1,6 +1,7 @@
 //! The laws of the reading function. The functions here state them, and do nothing.
 
 ghost use Rattle.cc_grammar.specs.Laws.{IsOne, IsSmall};
+ghost use Rattle.cc_grammar.specs.Laws.{IsSound};
 
 /// With justified insertions a list of tokens derives one tree.
 pub fn one_tree()
@@ -10,4 +11,9 @@ pub fn one_tree()
 /// A tree has at most four expressions, statements and declarators for each token of its list.
 pub fn trees_are_small()
     ensures { IsSmall }
+{}
+
+/// What is read is derived from exactly the tokens, with justified insertions, within the depth.
+pub fn reading_is_sound()
+    ensures { IsSound }
 {}
