@@ -140,3 +140,7 @@ pub record FailsInner (d n : ℕ) (inner : In) : Type 0 where
   pub expr : 0 < d → (b : Bool) (l : ℕ) (xs : Symbols) → reals xs < n → l ≤ 13 → Fails d (λ j i. Begun (EE j b l) xs i) (inner.expr b l xs)
   pub callee : 0 < d → (b : Bool) (xs : Symbols) → reals xs < n → Fails d (λ j i. Begun (EE j b 17) xs i) (inner.expr b 17 xs)
   pub stmt : 0 < d → (c : Context) (xs : Symbols) → reals xs < n → Fails d (λ j i. Begun (TT c j) xs i) (inner.stmt c xs)
+
+pub any_done : {A : Type 0} (o : Outcome Symbols A) → Done (λ _ _. Unit {0}) o
+any_done (Ok p) = ok tt
+any_done (Err x) = err

@@ -46,6 +46,9 @@ pub mod FrontsPrimary
 pub mod FrontsExpressions
 pub mod FrontsClauses
 pub mod FrontsFor
+pub mod FrontsStatements
+pub mod FrontsJumps
+pub mod FrontsProgram
 pub mod OneReading
 pub mod Copies
 pub mod Paired

@@ -26,11 +26,11 @@ use Rattle.cc_grammar.proofs.SoundExpressions.{after_head_sound, expr_sound}
 use Rattle.cc_grammar.proofs.SoundStatements.{head_sound, declarators_sound, SoundExpr}
 
 -- the label of a jump
-label_name : (x : Kind) (b : Bool) (n : List ℕ) → label_by x b ≡ Some n → x ≡ k.name n
+pub label_name : (x : Kind) (b : Bool) (n : List ℕ) → label_by x b ≡ Some n → x ≡ k.name n
 label_name (k.name u) false n e = let same : u ≡ n = cc in ap k.name same
 label_name _ b n e = absurd (cc)
 
-label_line : (x : Kind) (b : Bool) (n : List ℕ) → label_by x b ≡ Some n → b ≡ false
+pub label_line : (x : Kind) (b : Bool) (n : List ℕ) → label_by x b ≡ Some n → b ≡ false
 label_line x false n e = refl
 label_line (k.name u) true n e = absurd (cc)
 label_line _ true n e = absurd (cc)

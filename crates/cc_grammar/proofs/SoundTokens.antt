@@ -13,7 +13,7 @@ use Rattle.cc_grammar.proofs.Meets.{Done, ok, err}
 use Rattle.cc_grammar.proofs.Alike.{is_limit}
 use Rattle.cc_grammar.proofs.NoFront.{no_front}
 use Rattle.cc_grammar.proofs.Sound.{Ended, symbols_sound}
-use Rattle.cc_grammar.proofs.Paired.{Begun, Paired, at_ready, body_ready}
+use Rattle.cc_grammar.proofs.Paired.{Begun, Paired, end_ready, body_ready}
 use Rattle.cc_grammar.proofs.Copies.{L, Copy, end, take, insert, put, put_lexemes, Each, StopsAt, Just, Copies, read, stop, Quiet}
 use Rattle.cc_grammar.proofs.CopyPrograms.{program_copy}
 
@@ -51,7 +51,7 @@ at_insertion P (insert o w) xs n j (m ∷ before) after e =
 
 begun_behind : (before after : Symbols) → Paired (before ++ (inserted ∷ after)) → Begun after
 begun_behind [] after p = p.0
-begun_behind (real t ∷ before) after p = begun_behind before after p
+begun_behind (real t ∷ before) after p = begun_behind before after p.1
 begun_behind (inserted ∷ before) after p = begun_behind before after p.1
 
 shown_copy : {ts us : L} (c : Copy ts us) (xs after : Symbols) → look xs ≡ look_token us → after ≡ put c xs → Begun after → look after ≡ look_token ts
@@ -96,7 +96,7 @@ read_by : (turns d : ℕ) (ts : L) (b : List RawStmt) (h : ℕ) → Copies false
 read_by turns d ts b h (read w e j k _) =
     let xs = put w [] in
     let x = ended_at d xs (b, h) [] (read_symbols turns d xs) (symbols_sound turns d xs) (e [] refl) in
-    (record { symbols = xs; tokens = put_lexemes w [] refl; justified = justified turns d w [] never refl j (body_ready x.body (at_ready x.ends tt)).paired; derives = record { last = x.last; body = x.body; ends = x.ends } }, x.low)
+    (record { symbols = xs; tokens = put_lexemes w [] refl; justified = justified turns d w [] never refl j (body_ready x.body (end_ready x.ends)).paired; derives = record { last = x.last; body = x.body; ends = x.ends } }, x.low)
 
 pub sound : IsSound
 sound turns d h ts b e = read_by turns d ts b h (subst (λ o. Copies false Quiet (read_symbols turns d) ts o) e (program_copy turns d ts))
