@@ -58,6 +58,7 @@ pub mod InjectUses
 pub mod InjectFrames
 pub mod InjectCalls
 pub mod InjectUpkeep
+pub mod InjectDead
 pub mod InjectEnds
 pub mod FineParts
 pub mod InjectFacts
