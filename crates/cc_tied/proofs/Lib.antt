@@ -8,6 +8,7 @@ pub mod Expressions
 pub mod AtValues
 pub mod Ends
 pub mod Statements
+pub mod Cuts
 pub mod Turns
 pub mod Sim
 pub mod Upkeep
