@@ -8,6 +8,7 @@ pub mod Expressions
 pub mod AtValues
 pub mod Ends
 pub mod Statements
+pub mod Cuts
 pub mod Turns
 pub mod Sim
 pub mod Upkeep
@@ -58,6 +59,7 @@ pub mod InjectUses
 pub mod InjectFrames
 pub mod InjectCalls
 pub mod InjectUpkeep
+pub mod InjectDead
 pub mod InjectEnds
 pub mod FineParts
 pub mod InjectFacts

@@ -21,7 +21,7 @@ unfoldable pub declares_function : Stmt → Bool
 declares_function (fun_decl i r f) = true
 declares_function _ = false
 
-hoists_nothing : (J : Mode) (g : Env) (s : Stmt) → declares_function s ≡ false → hoist_one J g s ≡ skip
+pub hoists_nothing : (J : Mode) (g : Env) (s : Stmt) → declares_function s ≡ false → hoist_one J g s ≡ skip
 unfolding hoist_one declares_function
 hoists_nothing J g (fun_decl i r f) e = absurd (cc)
 hoists_nothing J g (simple i e1) e = refl
