@@ -60,14 +60,14 @@ module _ (J : Mode) (B : Bodies) where
   unary_on i Delete r d = absurd (cc)
   unary_on i op r d = refl
 
-  unary_value : (g : Env) (q : Option Path) (i : ℕ) (op : UnOp) (a : Expr) → deletes op ≡ false → value J B (ev J B g q (unary i op a)) ≡ (value J B (ev J B g None a) >>= λ x. operate_one J (at_site i) op x)
+  pub unary_value : (g : Env) (q : Option Path) (i : ℕ) (op : UnOp) (a : Expr) → deletes op ≡ false → value J B (ev J B g q (unary i op a)) ≡ (value J B (ev J B g None a) >>= λ x. operate_one J (at_site i) op x)
   unfolding ev value
   unary_value g q i op a d =
       value_after (ev J B g None a) (λ r. apply_unary J B i op r)
       ∙ bind_alike (ev J B g None a) (λ r. apply_unary J B i op r) (λ r. value_of J B r >>= λ v. operate_one J (at_site i) op v) (λ r. unary_on i op r d)
       ∙ sym (bind_assoc (ev J B g None a) (value_of J B) (λ v. operate_one J (at_site i) op v))
 
-  binary_value : (g : Env) (q : Option Path) (i : ℕ) (op : BinOp) (a b : Expr) → value J B (ev J B g q (binary i op a b)) ≡ (value J B (ev J B g None a) >>= λ x. value J B (ev J B g None b) >>= λ y. operate J (at_site i) op x y)
+  pub binary_value : (g : Env) (q : Option Path) (i : ℕ) (op : BinOp) (a b : Expr) → value J B (ev J B g q (binary i op a b)) ≡ (value J B (ev J B g None a) >>= λ x. value J B (ev J B g None b) >>= λ y. operate J (at_site i) op x y)
   unfolding ev value
   binary_value g q i op a b =
       let va = value J B (ev J B g None a) in let vb = value J B (ev J B g None b) in
@@ -80,12 +80,12 @@ module _ (J : Mode) (B : Bodies) where
   unfolding allowed outcome_rule outcome_value
   allowed_gives i a o r e = subst (λ z. allowed J i a (outcome_rule z) (ret (outcome_value z)) ≡ ret (prim r)) (sym e) refl
 
-  operates_one : (i : Spot) (op : UnOp) (p r : Prim) → unary_of op (prim p) ≡ gives (prim r) → operate_one J i op (prim p) ≡ ret (prim r)
+  pub operates_one : (i : Spot) (op : UnOp) (p r : Prim) → unary_of op (prim p) ≡ gives (prim r) → operate_one J i op (prim p) ≡ ret (prim r)
   unfolding operate_one judged least_broken operate_rule unary_rule
   operates_one i Typeof p r e = allowed_gives i (operates (unary_op Typeof) (prim p ∷ [])) (unary_of Typeof (prim p)) r e
   operates_one i op p r e = allowed_gives i (operates (unary_op op) (prim p ∷ [])) (unary_of op (prim p)) r e
 
-  operates_two : (i : Spot) (op : BinOp) (p q r : Prim) → (op ≡ Instance → ⊥) → (op ≡ Has → ⊥) → binary_of op (prim p) (prim q) ≡ gives (prim r) → operate J i op (prim p) (prim q) ≡ ret (prim r)
+  pub operates_two : (i : Spot) (op : BinOp) (p q r : Prim) → (op ≡ Instance → ⊥) → (op ≡ Has → ⊥) → binary_of op (prim p) (prim q) ≡ gives (prim r) → operate J i op (prim p) (prim q) ≡ ret (prim r)
   unfolding operate judged least_broken operate_rule binary_rule
   operates_two i Instance p q r n m e = absurd (n refl)
   operates_two i Has p q r n m e = absurd (m refl)
