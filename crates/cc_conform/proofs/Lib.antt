@@ -7,3 +7,5 @@ pub mod MetLemmas
 pub mod ReadLemmas
 pub mod PrototypeLemmas
 pub mod WriteLemmas
+pub mod CallLemmas
+pub mod OperatorLemmas

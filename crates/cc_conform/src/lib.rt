@@ -3,13 +3,17 @@
 #![tactic(auto)]
 
 pub mod act;
+mod calls;
 mod docs;
 mod fields;
+mod host;
 mod look_up;
 mod names;
+mod operators;
 mod prototypes;
 mod reads;
 mod rules;
 mod slots;
 mod types;
+mod variables;
 mod writes;

@@ -17,8 +17,9 @@ use cc_heap::heap::Heap;
 use cc_heap::names::is_spelled;
 use cc_value::value::Value;
 
+/// Whether the number is this one.
 #[tactic(auto, unfolding(cc_meaning::specs::Store::is_number))]
-fn is_number(number: Option<u32>, other: u32) -> bool
+pub(crate) fn is_number(number: Option<u32>, other: u32) -> bool
     ensures { result ≡ Store.is_number number other }
 {
     match number {
