@@ -17,6 +17,8 @@ mod reading;
 mod span;
 mod symbol;
 mod tag;
+#[cfg(test)]
+mod tests;
 pub mod types;
 
 ghost use Rattle.std.specs.Prelude.{IfOk};
