@@ -61,3 +61,4 @@ pub mod CopyStatements
 pub mod CopyJumps
 pub mod CopyPrograms
 pub mod SoundTokens
+pub mod CompleteTokens

@@ -49,7 +49,7 @@ at_insertion P (insert o w) xs n j (m ∷ before) after e =
     let p = at_insertion (λ vs ys. P vs (inserted ∷ ys)) w xs n j.1 before after (tail_is _ _ _ _ e) in
     record { tokens = p.tokens; offends_there = p.offends_there; holds = subst (λ (s : Symbol). P p.tokens (s ∷ (before ++ map real p.tokens))) (head_is _ _ _ _ e) p.holds; copy = p.copy; is = p.is }
 
-begun_behind : (before after : Symbols) → Paired (before ++ (inserted ∷ after)) → Begun after
+pub begun_behind : (before after : Symbols) → Paired (before ++ (inserted ∷ after)) → Begun after
 begun_behind [] after p = p.0
 begun_behind (real t ∷ before) after p = begun_behind before after p.1
 begun_behind (inserted ∷ before) after p = begun_behind before after p.1

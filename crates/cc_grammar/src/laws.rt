@@ -1,7 +1,6 @@
 //! The laws of the reading function. The functions here state them, and do nothing.
 
-ghost use Rattle.cc_grammar.specs.Laws.{IsOne, IsSmall};
-ghost use Rattle.cc_grammar.specs.Laws.{IsSound};
+ghost use Rattle.cc_grammar.specs.Laws.{IsSound, IsOne, IsComplete, IsSmall};
 
 /// With justified insertions a list of tokens derives one tree.
 pub fn one_tree()
@@ -16,4 +15,10 @@ pub fn trees_are_small()
 /// What is read is derived from exactly the tokens, with justified insertions, within the depth.
 pub fn reading_is_sound()
     ensures { IsSound }
+{}
+
+/// What is derived within the depth, with justified insertions, is read, whatever the turns, if there
+/// are more than the tokens.
+pub fn reading_is_complete()
+    ensures { IsComplete }
 {}
