@@ -1,9 +1,10 @@
 -- Where reading stops, what came before is a front: what the laws of the parts have in common.
-use Rattle.std.specs.Prelude.{◌≡◌, ℕ, zero, suc, ◌+◌, ◌<◌, ◌≤◌, Bool, true, false, cond, nat_lt, Ok, Err, List, [], ◌∷◌, ◌++◌, Option, Some, None}
-use Rattle.std.proofs.Common.{refl, sym, ap, ◌∙◌, subst, arith, ltb-true, ltb-false}
+use Rattle.std.specs.Prelude.{◌≡◌, ℕ, zero, suc, ◌+◌, ◌<◌, ◌≤◌, Bool, true, false, cond, nat_lt, Ok, Err, List, [], ◌∷◌, ◌++◌, ◌⊎◌, Option, Some, None}
+use Rattle.std.proofs.Common.{refl, sym, ap, ◌∙◌, subst, arith, inl, inr, ltb-true, ltb-false}
 use Rattle.cc_ast.specs.Syntax.{undefined}
 use Rattle.cc_ast.specs.declared.place.Place.{Place}
 use Rattle.cc_ast.specs.declared.reading.Construct.{Construct}
+use Rattle.cc_ast.specs.declared.reading.Construct.TheVariants as construct
 use Rattle.cc_lexer.specs.declared.token.Mark.{Mark}
 use Rattle.cc_grammar.specs.declared.word.Word.{Word}
 use Rattle.cc_grammar.specs.Symbols.{Kind, Lexeme, Symbols, real, inserted, look, rest, nowhere, is_mark, is_word}
@@ -13,7 +14,7 @@ use Rattle.cc_grammar.specs.RawTree as raw
 use Rattle.cc_grammar.specs.Signs.{refused_kind}
 use Rattle.cc_grammar.specs.Grammar as g
 use Rattle.cc_grammar.specs.Grammar.{Context, At, Variable, E, T, is_tail, opens_no_expression}
-use Rattle.cc_grammar.specs.Reading.{Outcome, Fault, Cause, Due, and_then, fault, either, refused_there, depth, variable_of}
+use Rattle.cc_grammar.specs.Reading.{Outcome, Fault, Cause, Due, and_then, fault, either, refused_there, depth, refused, variable_of}
 use Rattle.cc_grammar.specs.Reading as r
 use Rattle.cc_grammar.proofs.Marked.{In}
 use Rattle.cc_grammar.proofs.Meets.{Done, ok, err}
@@ -83,22 +84,32 @@ no_t xs c j = record { front = stays xs; more = λ zs. real (token (k.due k.stat
 
 -- ---- where reading stops
 
+-- What isn't read: the next token as it is, or a construct that is refused there or earlier.
+pub data Why (c : Fault) (i : Symbols) : Type 0 where
+  by_token : (d : Due) → c ≡ fault d (look i) → Why c i
+  by_construct : (x : Construct) → c.cause ≡ refused x → Why c i
+
 -- If it isn't read, then what came before is a front. At the depth it is one below b, and with the next token it is one too.
 pub data Fails {A : Type 0} (b : ℕ) (P : ℕ → Symbols → Type 0) : Outcome Symbols A → Type 0 where
   fine : {p : A × Symbols} → Fails b P (Ok p)
-  stop : {c : Fault} {i : Symbols} → is_limit c.cause ≡ false → (j : ℕ) → P j i → Fails b P (Err (c, i))
+  stop : {c : Fault} {i : Symbols} → is_limit c.cause ≡ false → (j : ℕ) → (j < b) ⊎ (c.cause ≡ refused construct.DeleteName) → Why c i → P j i → Fails b P (Err (c, i))
   deep : {c : Fault} {i ys : Symbols} → c.cause ≡ depth → (j : ℕ) → j < b → P j i → (t : Lexeme) → real t ∷ ys ≡ i → (u : ℕ) → P u ys → Fails b P (Err (c, i))
 
 pub fails_after : {A B : Type 0} {b : ℕ} {D : A → Symbols → Type 0} {P : ℕ → Symbols → Type 0} {o : Outcome Symbols A} {f : A → s.Reader B}
     → Done D o → Fails b P o → ((a : A) (i : Symbols) → D a i → Fails b P (f a i)) → Fails b P (and_then o f)
 fails_after (ok {a} {i} h) e k = k a i h
-fails_after err (stop l j h) k = stop l j h
+fails_after err (stop l j lt w h) k = stop l j lt w h
 fails_after err (deep e j lt h t q u w) k = deep e j lt h t q u w
+
+-- within another bound
+rebound : {X : Type 0} {b c j k : ℕ} → (j < b → k < c) → (j < b) ⊎ X → (k < c) ⊎ X
+rebound f (inl lt) = inl (f lt)
+rebound f (inr x) = inr x
 
 -- what begins it begins what it is a part of
 pub fails_map : {A : Type 0} {b c : ℕ} {P Q : ℕ → Symbols → Type 0} {o : Outcome Symbols A} (f : ℕ → ℕ) → ((j : ℕ) → j < b → f j < c) → ((j : ℕ) (i : Symbols) → P j i → Q (f j) i) → Fails b P o → Fails c Q o
 fails_map f lt m fine = fine
-fails_map f lt m (stop l j h) = stop l (f j) (m j _ h)
+fails_map f lt m (stop l j le w h) = stop l (f j) (rebound (lt j) le) w (m j _ h)
 fails_map f lt m (deep e j le h t q u w) = deep e (f j) (lt j le) (m j _ h) t q (f u) (m u _ w)
 
 pub fails_fork : {A : Type 0} {b : ℕ} {P : ℕ → Symbols → Type 0} (c : Bool) (p q : s.Reader A) {i : Symbols} → (c ≡ true → Fails b P (p i)) → (c ≡ false → Fails b P (q i)) → Fails b P (cond c p q i)
@@ -114,22 +125,22 @@ either_sharp (Some c) d = refl
 either_sharp None (Some d) = refl
 either_sharp None None = refl
 
-pub fails_here : {A : Type 0} {b : ℕ} {P : ℕ → Symbols → Type 0} (d : Due) (xs : Symbols) (j : ℕ) → P j xs → Fails {A = A} b P (Err (fault d (look xs), xs))
-fails_here d xs j h = stop (either_sharp (refused_kind (look xs).kind) (refused_there d (look xs).kind)) j h
+pub fails_here : {A : Type 0} {b : ℕ} {P : ℕ → Symbols → Type 0} (d : Due) (xs : Symbols) (j : ℕ) → j < b → P j xs → Fails {A = A} b P (Err (fault d (look xs), xs))
+fails_here d xs j lt h = stop (either_sharp (refused_kind (look xs).kind) (refused_there d (look xs).kind)) j (inl lt) (by_token d refl) h
 
-pub expect_fails : {b : ℕ} {P : ℕ → Symbols → Type 0} (m : Mark) (xs : Symbols) (j : ℕ) → P j xs → Fails b P (s.expect m xs)
+pub expect_fails : {b : ℕ} {P : ℕ → Symbols → Type 0} (m : Mark) (xs : Symbols) (j : ℕ) → j < b → P j xs → Fails b P (s.expect m xs)
 unfolding r.expect
-expect_fails m xs j h = fails_choice (is_mark m (look xs).kind) (λ _. fine) (λ _. fails_here r.a_token xs j h)
+expect_fails m xs j lt h = fails_choice (is_mark m (look xs).kind) (λ _. fine) (λ _. fails_here r.a_token xs j lt h)
 
-pub expect_word_fails : {b : ℕ} {P : ℕ → Symbols → Type 0} (w : Word) (xs : Symbols) (j : ℕ) → P j xs → Fails b P (s.expect_word w xs)
+pub expect_word_fails : {b : ℕ} {P : ℕ → Symbols → Type 0} (w : Word) (xs : Symbols) (j : ℕ) → j < b → P j xs → Fails b P (s.expect_word w xs)
 unfolding r.expect_word
-expect_word_fails w xs j h = fails_choice (is_word w (look xs).kind) (λ _. fine) (λ _. fails_here r.a_token xs j h)
+expect_word_fails w xs j lt h = fails_choice (is_word w (look xs).kind) (λ _. fine) (λ _. fails_here r.a_token xs j lt h)
 
-pub variable_fails : {b : ℕ} {P : ℕ → Symbols → Type 0} (xs : Symbols) (j : ℕ) → P j xs → Fails b P (s.variable xs)
+pub variable_fails : {b : ℕ} {P : ℕ → Symbols → Type 0} (xs : Symbols) (j : ℕ) → j < b → P j xs → Fails b P (s.variable xs)
 unfolding r.variable
-variable_fails {b} {P} xs j h = by (variable_of (look xs).kind) where
+variable_fails {b} {P} xs j lt h = by (variable_of (look xs).kind) where
   by : (v : Option (List ℕ)) → Fails b P (s.variable_by v xs)
-  by None = fails_here r.a_variable xs j h
+  by None = fails_here r.a_variable xs j lt h
   by (Some v) = fine
 
 pub deeper_fails : {A : Type 0} {b d h : ℕ} {P : ℕ → Symbols → Type 0} {x : Kind} {xs ys : Symbols} {o : Outcome Symbols A} → At x xs ys → (h < d → Fails b P o) → (j : ℕ) → j < b → P j xs → (u : ℕ) → P u ys

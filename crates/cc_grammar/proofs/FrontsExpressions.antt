@@ -1,10 +1,11 @@
 -- Where reading stops, what came before is a front: expressions.
 use Rattle.std.specs.Prelude.{◌≡◌, ℕ, zero, suc, ◌+◌, ◌<◌, ◌≤◌, max, not, Bool, true, false, cond, nat_lt, ◌==◌, is_some, List, [], ◌∷◌, Ok, Err, Option, Some, None}
-use Rattle.std.proofs.Common.{refl, sym, ap, arith, ◌∙◌, subst, ltb-true, ltb-false, eqb-true}
+use Rattle.std.proofs.Common.{refl, inl, inr, sym, ap, arith, ◌∙◌, subst, ltb-true, ltb-false, eqb-true}
 use Rattle.cc_ast.specs.declared.operator.BinOp.{BinOp}
 use Rattle.cc_ast.specs.declared.operator.UnOp.TheVariants as op
 use Rattle.cc_ast.specs.declared.place.Place.{Place}
 use Rattle.cc_ast.specs.Syntax.{undefined}
+use Rattle.cc_ast.specs.declared.reading.Construct.TheVariants as construct
 use Rattle.cc_lexer.specs.declared.token.Mark.TheVariants as mark
 use Rattle.cc_grammar.specs.Symbols.{Kind, Symbols, real, look, rest, nowhere, is_mark}
 use Rattle.cc_grammar.specs.Symbols as k
@@ -25,7 +26,7 @@ use Rattle.cc_grammar.proofs.SoundPrimary.{Chained, callable, primary_sound, suf
 use Rattle.cc_grammar.proofs.SoundExpressions.{lowered, operator_at, postfix_sound, prefixed_sound, Climbs, begin_climb, climbed, climb_sound, conditional_sound, assign_sound}
 use Rattle.cc_grammar.proofs.Moves.{Front, joined, look_kept}
 use Rattle.cc_grammar.proofs.MovesDerived.{e_moves}
-use Rattle.cc_grammar.proofs.Fails.{token, new_at, taken, again, First, same, fresh, Begun, EE, no_e, Fails, fine, stop, fails_after, fails_map, fails_fork, fails_choice, fails_here, expect_fails, deeper_fails, FailsInner}
+use Rattle.cc_grammar.proofs.Fails.{token, new_at, taken, again, First, same, fresh, Begun, EE, no_e, Fails, fine, stop, by_construct, fails_after, fails_map, fails_fork, fails_choice, fails_here, expect_fails, deeper_fails, FailsInner}
 use Rattle.cc_grammar.proofs.FrontsPrimary.{whole_e, lower_begun, primary_fails, suffixes_fail}
 use Rattle.cc_grammar.proofs.OnSymbols as s
 
@@ -158,6 +159,7 @@ module _ (d n : ℕ) (inner : In) (sound : SoundInner d inner) (all : FailsInner
   prefix_expr_fails : (b : Bool) (o : Prefix) (xs : Symbols) → 0 < d → reals xs < n → prefix_of (look xs).kind ≡ Some o → Fails (suc d) (XE b 13 xs) (s.prefix_expr d n inner b o xs)
   unfolding r.prefix_expr
   prefix_expr_fails b o xs lt ln e = fails_after (sound.expr b 13 (rest xs) (omega arith)) (fails_map suc (λ j l. omega arith) (λ j i w. prefix_begun o j c e w) (all.expr lt b 13 (rest xs) (omega (arith, at_less c)) (omega arith)))
+<<<<<<< HEAD
       (λ a ys p. by a ys p.0.whole.tree (prefix_tree o (look xs).place a.0) refl) where
         c : At (look xs).kind xs (rest xs)
         c = found prefix_of xs o refl refl e
@@ -169,6 +171,17 @@ module _ (d n : ℕ) (inner : In) (sound : SoundInner d inner) (all : FailsInner
         by : (a : Sized RawExpr) (ys : Symbols) → E a.1 b 13 (rest xs) a.0 ys → (f : Option RawExpr) → prefix_tree o (look xs).place a.0 ≡ f → Fails (suc d) (XE b 13 xs) (s.prefix_by d n inner o (look xs).place a f ys)
         by a ys x (Some f) q = fine
         by a ys x None q = fails_fork (is_remedy (look ys).kind) _ _ (λ _. fine) (λ _. wrong o (look xs).place ys (suc a.1) (wrong_begun o c e x q))
+=======
+      (λ a ys p. by a ys p.1 p.0.whole.tree (prefix_tree o (look xs).place a.0) refl) where
+    c : At (look xs).kind xs (rest xs)
+    c = found prefix_of xs o refl refl e
+    wrong : (x : Prefix) (p : Place) (ys : Symbols) (j : ℕ) → j < suc d → XE b 13 xs j ys → Fails (suc d) (XE b 13 xs) (s.wrong_prefix d n inner x p ys)
+    wrong (sign.step up) p ys j lt h = fails_here r.a_token ys j lt h
+    wrong (sign.unary x) p ys j lt h = stop refl j (inl lt) (by_construct construct.DeleteName refl) h
+    by : (a : Sized RawExpr) (ys : Symbols) → a.1 < d → E a.1 b 13 (rest xs) a.0 ys → (f : Option RawExpr) → prefix_tree o (look xs).place a.0 ≡ f → Fails (suc d) (XE b 13 xs) (s.prefix_by d n inner o (look xs).place a f ys)
+    by a ys lt x (Some f) q = fine
+    by a ys lt x None q = fails_fork (is_remedy (look ys).kind) _ _ (λ _. fine) (λ _. wrong o (look xs).place ys (suc a.1) (omega arith) (wrong_begun o c e x q))
+>>>>>>> 7b1742ed975dbed9ebb501259f78c4400571fc20
 
   deep_prefix : (b : Bool) (o : Prefix) (xs : Symbols) → reals xs < n → prefix_of (look xs).kind ≡ Some o
       → Fails (suc d) (XE b 13 xs) (cond (nat_lt 0 d) (s.prefix_expr d n inner b o xs) (Err (record { cause = r.depth; place = (look xs).place }, xs)))
@@ -193,7 +206,7 @@ module _ (d n : ℕ) (inner : In) (sound : SoundInner d inner) (all : FailsInner
   prefixed_fails b o xs ln e = fails_fork (is_delete o) _ _ (λ t. by t (opened_looks n 0 (rest xs) (omega (arith, at_less (found prefix_of xs o refl refl e))))) (λ _. deep_prefix b o xs ln e) where
     by : is_delete o ≡ true → {u : Outcome Symbols Bool} → Looks 0 (rest xs) u
         → Fails (suc d) (XE b 13 xs) (r.unless_deleted Symbols look rest r.semicolon_symbol u (look xs).place (cond (nat_lt 0 d) (s.prefix_expr d n inner b o xs) (Err (record { cause = r.depth; place = (look xs).place }, xs))))
-    by t (looks_true h) = let p = delete_begun b o t (found prefix_of xs o refl refl e) e h in stop refl p.0 p.1
+    by t (looks_true h) = let p = delete_begun b o t (found prefix_of xs o refl refl e) e h in stop refl p.0 (inr refl) (by_construct construct.DeleteName refl) p.1
     by t looks_false = deep_prefix b o xs ln e
 
   -- ---- binary operators
@@ -249,6 +262,7 @@ module _ (d n : ℕ) (inner : In) (sound : SoundInner d inner) (all : FailsInner
   unfolding r.conditional
   conditional_fails b a xs ys ln h = fails_fork (is_mark mark.Question (look ys).kind) _ _
       (λ e. let c = marked mark.Question ys e in deeper_fails c
+<<<<<<< HEAD
       (λ (lt : a.1 < d). fails_after (sound.expr true 1 (rest ys) (omega arith))
       (fails_map (λ j. suc (max a.1 j)) (λ j m. omega arith) (λ j i w. then_begun b j h.tree c w) (all.expr (omega arith) true 1 (rest ys) (omega (arith, e_less h.tree, at_less c)) (omega arith)))
       (λ x zs p. fails_after (expected mark.Colon zs) (expect_fails mark.Colon zs (suc (max a.1 x.1)) (then_begun b x.1 h.tree c (whole_e p.0.whole.tree)))
@@ -256,6 +270,15 @@ module _ (d n : ℕ) (inner : In) (sound : SoundInner d inner) (all : FailsInner
       (fails_map (λ j. suc (max (max a.1 x.1) j)) (λ j m. omega (arith, p.1)) (λ j i w. else_begun b j h.tree c p.0.whole.tree o w) (all.expr (omega arith) b 1 us (omega (arith, e_less h.tree, at_less c, e_less p.0.whole.tree, at_less o)) (omega arith)))
       (λ y ws q. fine))))
       a.1 (omega (arith, h.low)) (lower_begun 2 (omega arith) (λ z. absurd (omega arith)) (whole_e h.tree)) (suc (max a.1 0)) (then_begun b 0 h.tree c (no_e (rest ys) 0 true 1)))
+=======
+        (λ (lt : a.1 < d). fails_after (sound.expr true 1 (rest ys) (omega arith))
+          (fails_map (λ j. suc (max a.1 j)) (λ j m. omega arith) (λ j i w. then_begun b j h.tree c w) (all.expr (omega arith) true 1 (rest ys) (omega (arith, e_less h.tree, at_less c)) (omega arith)))
+          (λ x zs p. fails_after (expected mark.Colon zs) (expect_fails mark.Colon zs (suc (max a.1 x.1)) (omega arith) (then_begun b x.1 h.tree c (whole_e p.0.whole.tree)))
+            (λ _ us o. fails_after (sound.expr b 1 us (omega arith))
+              (fails_map (λ j. suc (max (max a.1 x.1) j)) (λ j m. omega (arith, p.1)) (λ j i w. else_begun b j h.tree c p.0.whole.tree o w) (all.expr (omega arith) b 1 us (omega (arith, e_less h.tree, at_less c, e_less p.0.whole.tree, at_less o)) (omega arith)))
+              (λ y ws q. fine))))
+        a.1 (omega (arith, h.low)) (lower_begun 2 (omega arith) (λ z. absurd (omega arith)) (whole_e h.tree)) (suc (max a.1 0)) (then_begun b 0 h.tree c (no_e (rest ys) 0 true 1)))
+>>>>>>> 7b1742ed975dbed9ebb501259f78c4400571fc20
       (λ _. fine)
 
   assign_begun : (b : Bool) {h : ℕ} (j : ℕ) {e : RawExpr} {t : RawTarget} {o : Option BinOp} {xs ys i : Symbols} → E h b 15 xs e ys → target_of e ≡ Some t → assign_of (look ys).kind ≡ Some o → Begun (EE j b 1) (rest ys) i → XE b 1 xs (suc (max h j)) i

@@ -1,6 +1,6 @@
 -- Where reading stops, what came before is a front: lists and functions.
 use Rattle.std.specs.Prelude.{◌≡◌, ℕ, zero, suc, ◌+◌, ◌<◌, ◌≤◌, max, ◌&&◌, Bool, true, false, is_some, List, [], ◌∷◌, ◌++◌, Ok, Err, Option, Some, None}
-use Rattle.std.proofs.Common.{refl, sym, ap, arith, ◌∙◌, subst}
+use Rattle.std.proofs.Common.{refl, inl, inr, sym, ap, arith, ◌∙◌, subst}
 use Rattle.cc_ast.specs.declared.place.Place.{Place}
 use Rattle.cc_ast.specs.declared.reading.Construct.TheVariants as construct
 use Rattle.cc_ast.specs.Syntax.{undefined}
@@ -24,7 +24,7 @@ use Rattle.cc_grammar.proofs.SoundLists.{key_sound, field_sound, body_sound}
 use Rattle.cc_grammar.proofs.Moves.{Front, stays, joined, Fits, free, look_kept}
 use Rattle.cc_grammar.proofs.Moves as moves
 use Rattle.cc_grammar.proofs.MovesDerived.{e_moves, field_moves, t_moves, params_move}
-use Rattle.cc_grammar.proofs.Fails.{token, new_at, taken, again, variable_taken, variable_again, First, same, fresh, Begun, EE, TT, Fails, fine, stop, fails_after, fails_map, fails_fork, fails_choice, fails_here, expect_fails, variable_fails, FailsInner}
+use Rattle.cc_grammar.proofs.Fails.{token, new_at, taken, again, variable_taken, variable_again, First, same, fresh, Begun, EE, TT, Fails, fine, stop, by_construct, fails_after, fails_map, fails_fork, fails_choice, fails_here, expect_fails, variable_fails, FailsInner}
 use Rattle.cc_grammar.proofs.OnSymbols as s
 
 -- ---- parameters
@@ -41,8 +41,9 @@ no_params xs = record {
   first = λ zs. fresh (k.due k.variable) refl refl;
 }
 
-params_fail : {b : ℕ} (m : ℕ) (before : List Named) (xs : Symbols) → reals xs < m → Fails b (λ _ i. Begun PP xs i) (s.params m before xs)
+params_fail : {b : ℕ} (m : ℕ) (before : List Named) (xs : Symbols) → reals xs < m → 0 < b → Fails b (λ _ i. Begun PP xs i) (s.params m before xs)
 unfolding r.params
+<<<<<<< HEAD
 params_fail zero before xs lt = absurd (omega arith)
 params_fail (suc m) before xs lt = fails_after (read_variable xs) (variable_fails xs 0 (no_params xs)) (λ v ys p. fails_fork (is_mark mark.Comma (look ys).kind) _ _
     (λ e. let c = marked mark.Comma ys e in fails_map (λ j. j) (λ j lt. lt) (λ j i w. record {
@@ -60,14 +61,23 @@ params_fail (suc m) before xs lt = fails_after (read_variable xs) (variable_fail
       holds = λ zs. g.last_param (variable_again p.0 _) (new_at (k.mark mark.CloseParen));
       first = λ zs. same refl;
     })) (λ _ zs c. fine)))
+=======
+params_fail zero before xs lt some = absurd (omega arith)
+params_fail (suc m) before xs lt some = fails_after (read_variable xs) (variable_fails xs 0 (omega arith) (no_params xs)) (λ v ys p. fails_fork (is_mark mark.Comma (look ys).kind) _ _
+    (λ e. let c = marked mark.Comma ys e in fails_map (λ j. j) (λ j lt. lt) (λ j i w. record { front = joined (variable_taken p.0) (joined (taken c) w.front); more = w.more;
+      tree = record { place = (look xs).place; name = v.name } ∷ w.tree; holds = λ zs. g.more_params (variable_again p.0 _) (again c _) (w.holds zs); first = λ zs. same refl })
+      (params_fail m _ (rest ys) (omega (arith, variable_less p.0, at_less c)) some))
+    (λ _. fails_after (expected mark.CloseParen ys) (expect_fails mark.CloseParen ys 0 (omega arith) (record { front = variable_taken p.0; more = λ zs. real (token (k.mark mark.CloseParen)) ∷ zs;
+      tree = record { place = (look xs).place; name = v.name } ∷ []; holds = λ zs. g.last_param (variable_again p.0 _) (new_at (k.mark mark.CloseParen)); first = λ zs. same refl })) (λ _ zs c. fine)))
+>>>>>>> 7b1742ed975dbed9ebb501259f78c4400571fc20
 
 abbrev PO : List Named → Symbols → Symbols → Type 0
 PO ps us vs = Params us ps vs
 
-pub params_of_fail : {b : ℕ} (m : ℕ) (xs : Symbols) → reals xs < m → Fails b (λ _ i. Begun PO xs i) (s.params_of m xs)
+pub params_of_fail : {b : ℕ} (m : ℕ) (xs : Symbols) → reals xs < m → 0 < b → Fails b (λ _ i. Begun PO xs i) (s.params_of m xs)
 unfolding r.params_of
-params_of_fail m xs lt = fails_fork (is_mark mark.CloseParen (look xs).kind) _ _ (λ _. fine)
-    (λ _. fails_map (λ j. j) (λ j lt. lt) (λ j i w. record { front = w.front; more = w.more; tree = w.tree; holds = λ zs. g.some_params (w.holds zs); first = w.first }) (params_fail m [] xs lt))
+params_of_fail m xs lt some = fails_fork (is_mark mark.CloseParen (look xs).kind) _ _ (λ _. fine)
+    (λ _. fails_map (λ j. j) (λ j lt. lt) (λ j i w. record { front = w.front; more = w.more; tree = w.tree; holds = λ zs. g.some_params (w.holds zs); first = w.first }) (params_fail m [] xs lt some))
 
 abbrev pub LL : ℕ → List RawExpr → Symbols → Symbols → Type 0
 LL j es us vs = Elements j us es vs
@@ -119,6 +129,7 @@ module _ (d n : ℕ) (inner : In) (sound : SoundInner d inner) (all : FailsInner
   elements_fail zero before h xs lt lm ln = absurd (omega arith)
   elements_fail (suc m) before h xs lt lm ln = fails_fork (is_mark mark.CloseBracket (look xs).kind) _ _ (λ _. fine)
       (λ _. fails_fork (is_element (look xs).kind) _ _
+<<<<<<< HEAD
       (λ e. let c = consumed xs (k.due k.element) refl (element_true _ e) in fails_after (expected mark.CloseBracket (rest xs)) (expect_fails mark.CloseBracket (rest xs) 0 (record {
         front = taken c;
         more = λ zs. real (token (k.mark mark.CloseBracket)) ∷ zs;
@@ -152,6 +163,21 @@ module _ (d n : ℕ) (inner : In) (sound : SoundInner d inner) (all : FailsInner
         holds = λ zs. g.last_element (a.holds _) (new_at (k.mark mark.CloseBracket));
         first = λ zs. same (look_kept a.front (e_less t) _);
       })) (λ _ zs q. fine))))))
+=======
+        (λ e. let c = consumed xs (k.due k.element) refl (element_true _ e) in fails_after (expected mark.CloseBracket (rest xs)) (expect_fails mark.CloseBracket (rest xs) 0 (omega arith) (record {
+          front = taken c; more = λ zs. real (token (k.mark mark.CloseBracket)) ∷ zs; tree = []; holds = λ zs. g.any_element (again c _) (new_at (k.mark mark.CloseBracket)); first = λ zs. same refl })) (λ _ zs q. fine))
+        (λ _. fails_fork (is_mark mark.Comma (look xs).kind) _ _
+          (λ _. stop refl 0 (inl (omega arith)) (by_construct construct.Hole refl) (record { front = stays xs; more = λ zs. real (token (k.mark mark.CloseBracket)) ∷ zs; tree = []; holds = λ zs. g.no_element (new_at (k.mark mark.CloseBracket)); first = λ zs. fresh (k.mark mark.CloseBracket) refl refl }))
+          (λ _. fails_after (sound.expr true 1 xs (omega arith))
+            (fails_map (λ j. j) (λ j l. l) (λ j i w. record { front = w.front; more = λ zs. w.more (real (token (k.mark mark.CloseBracket)) ∷ zs); tree = w.tree ∷ []; holds = λ zs. g.last_element (w.holds _) (new_at (k.mark mark.CloseBracket));
+              first = λ zs. w.first _ }) (all.expr lt true 1 xs ln (omega arith)))
+            (λ x ys p. let t = p.0.whole.tree in let a = e_moves t in fails_fork (is_mark mark.Comma (look ys).kind) _ _
+              (λ e. let c = marked mark.Comma ys e in fails_map (λ j. max x.1 j) (λ j l. omega (arith, p.1)) (λ j i w. record { front = joined a.front (joined (taken c) w.front); more = w.more; tree = x.0 ∷ w.tree;
+                holds = λ zs. g.more_elements (higher (max x.1 j) (omega arith) (a.holds _)) (again c _) (higher_elements (max x.1 j) (omega arith) (w.holds zs)); first = λ zs. same (look_kept a.front (e_less t) _) })
+                (elements_fail m _ _ (rest ys) lt (omega (arith, e_less t, at_less c)) (omega (arith, e_less t, at_less c))))
+              (λ _. fails_after (expected mark.CloseBracket ys) (expect_fails mark.CloseBracket ys x.1 (omega arith) (record { front = a.front; more = λ zs. real (token (k.mark mark.CloseBracket)) ∷ zs; tree = x.0 ∷ [];
+                holds = λ zs. g.last_element (a.holds _) (new_at (k.mark mark.CloseBracket)); first = λ zs. same (look_kept a.front (e_less t) _) })) (λ _ zs q. fine))))))
+>>>>>>> 7b1742ed975dbed9ebb501259f78c4400571fc20
 
   pub all_elements_fail : (xs : Symbols) → 0 < d → reals xs < n → Fails d (λ j i. Begun (LL j) xs i) (s.elements d n inner n [] 0 xs)
   all_elements_fail xs lt ln = elements_fail n [] 0 xs lt ln ln
@@ -177,9 +203,9 @@ module _ (d n : ℕ) (inner : In) (sound : SoundInner d inner) (all : FailsInner
     first = λ zs. same refl;
   }
 
-  key_fails : {b : ℕ} (xs : Symbols) (v : Option RawKey) → key_of (look xs).kind ≡ v → Fails b (λ j i. Begun (FF j) xs i) (s.key_by d n inner v xs)
-  key_fails xs None e = fails_here r.a_token xs 0 (no_field_yet xs 0)
-  key_fails xs (Some y) e = fails_fork (is_accessor (look xs).kind && is_some (key_of (look (rest xs)).kind)) _ _ (λ _. stop refl 0 (key_begun 0 (found key_of xs y refl refl e) e)) (λ _. fine)
+  key_fails : {b : ℕ} (xs : Symbols) (v : Option RawKey) → key_of (look xs).kind ≡ v → 0 < b → Fails b (λ j i. Begun (FF j) xs i) (s.key_by d n inner v xs)
+  key_fails xs None e some = fails_here r.a_token xs 0 (omega arith) (no_field_yet xs 0)
+  key_fails xs (Some y) e some = fails_fork (is_accessor (look xs).kind && is_some (key_of (look (rest xs)).kind)) _ _ (λ _. stop refl 0 (inl some) (by_construct construct.Accessor refl) (key_begun 0 (found key_of xs y refl refl e) e)) (λ _. fine)
 
   -- a key and its colon
   key_held : {y : Place × RawKey} {xs ys zs i : Symbols} (j : ℕ) → IsKey xs y ys → Sign mark.Colon ys zs → Begun (EE j true 1) zs i → Begun (FF j) xs i
@@ -199,8 +225,8 @@ module _ (d n : ℕ) (inner : In) (sound : SoundInner d inner) (all : FailsInner
 
   field_fails : (xs : Symbols) → 0 < d → reals xs < n → Fails d (λ j i. Begun (FF j) xs i) (s.field d n inner xs)
   unfolding r.field
-  field_fails xs lt ln = fails_after (key_sound d n inner sound xs (key_of (look xs).kind) refl) (key_fails xs (key_of (look xs).kind) refl) (λ y ys q.
-      fails_after (expected mark.Colon ys) (expect_fails mark.Colon ys 0 (key_there 0 q)) (λ _ zs c.
+  field_fails xs lt ln = fails_after (key_sound d n inner sound xs (key_of (look xs).kind) refl) (key_fails xs (key_of (look xs).kind) refl lt) (λ y ys q.
+      fails_after (expected mark.Colon ys) (expect_fails mark.Colon ys 0 (omega arith) (key_there 0 q)) (λ _ zs c.
       fails_after (sound.expr true 1 zs (omega arith)) (fails_map (λ j. j) (λ j l. l) (λ j i w. key_held j q c w) (all.expr lt true 1 zs (omega (arith, key_less q, at_less c)) (omega arith))) (λ x ws p. fine)))
 
   fields_fail : (m : ℕ) (before : List RawField) (h : ℕ) (xs : Symbols) → 0 < d → reals xs < m → reals xs < n → Fails d (λ j i. Begun (FS j) xs i) (s.object_fields d n inner m before h xs)
@@ -208,6 +234,7 @@ module _ (d n : ℕ) (inner : In) (sound : SoundInner d inner) (all : FailsInner
   fields_fail zero before h xs lt lm ln = absurd (omega arith)
   fields_fail (suc m) before h xs lt lm ln = fails_fork (is_mark mark.CloseBrace (look xs).kind) _ _ (λ _. fine)
       (λ _. fails_after (field_sound d n inner sound xs)
+<<<<<<< HEAD
       (fails_map (λ j. j) (λ j l. l) (λ j i w. record {
         front = w.front;
         more = λ zs. w.more (real (token (k.mark mark.CloseBrace)) ∷ zs);
@@ -231,6 +258,16 @@ module _ (d n : ℕ) (inner : In) (sound : SoundInner d inner) (all : FailsInner
         holds = λ zs. g.last_field (a.holds _) (new_at (k.mark mark.CloseBrace));
         first = λ zs. same (look_kept a.front (field_less p.0) _);
       })) (λ _ zs q. fine))))
+=======
+        (fails_map (λ j. j) (λ j l. l) (λ j i w. record { front = w.front; more = λ zs. w.more (real (token (k.mark mark.CloseBrace)) ∷ zs); tree = w.tree ∷ []; holds = λ zs. g.last_field (w.holds _) (new_at (k.mark mark.CloseBrace));
+          first = λ zs. w.first _ }) (field_fails xs lt ln))
+        (λ x ys p. let a = field_moves p.0 in fails_fork (is_mark mark.Comma (look ys).kind) _ _
+          (λ e. let c = marked mark.Comma ys e in fails_map (λ j. max x.1 j) (λ j l. omega (arith, p.1)) (λ j i w. record { front = joined a.front (joined (taken c) w.front); more = w.more; tree = x.0 ∷ w.tree;
+            holds = λ zs. g.more_fields (higher_field (max x.1 j) (omega arith) (a.holds _)) (again c _) (higher_fields (max x.1 j) (omega arith) (w.holds zs)); first = λ zs. same (look_kept a.front (field_less p.0) _) })
+            (fields_fail m _ _ (rest ys) lt (omega (arith, field_less p.0, at_less c)) (omega (arith, field_less p.0, at_less c))))
+          (λ _. fails_after (expected mark.CloseBrace ys) (expect_fails mark.CloseBrace ys x.1 (omega arith) (record { front = a.front; more = λ zs. real (token (k.mark mark.CloseBrace)) ∷ zs; tree = x.0 ∷ [];
+            holds = λ zs. g.last_field (a.holds _) (new_at (k.mark mark.CloseBrace)); first = λ zs. same (look_kept a.front (field_less p.0) _) })) (λ _ zs q. fine))))
+>>>>>>> 7b1742ed975dbed9ebb501259f78c4400571fc20
 
   pub all_fields_fail : (xs : Symbols) → 0 < d → reals xs < n → Fails d (λ j i. Begun (FS j) xs i) (s.object_fields d n inner n [] 0 xs)
   all_fields_fail xs lt ln = fields_fail n [] 0 xs lt ln ln
@@ -249,6 +286,7 @@ module _ (d n : ℕ) (inner : In) (sound : SoundInner d inner) (all : FailsInner
         first = λ zs. w.first _;
       }) (all.expr lt true 1 xs ln (omega arith)))
       (λ x ys p. let t = p.0.whole.tree in let a = e_moves t in fails_fork (is_mark mark.Comma (look ys).kind) _ _
+<<<<<<< HEAD
       (λ e. let c = marked mark.Comma ys e in fails_map (λ j. max x.1 j) (λ j l. omega (arith, p.1)) (λ j i w. record {
         front = joined a.front (joined (taken c) w.front);
         more = w.more;
@@ -264,6 +302,13 @@ module _ (d n : ℕ) (inner : In) (sound : SoundInner d inner) (all : FailsInner
         holds = λ zs. g.last_argument (a.holds _) (new_at (k.mark mark.CloseParen));
         first = λ zs. same (look_kept a.front (e_less t) _);
       })) (λ _ zs q. fine)))
+=======
+        (λ e. let c = marked mark.Comma ys e in fails_map (λ j. max x.1 j) (λ j l. omega (arith, p.1)) (λ j i w. record { front = joined a.front (joined (taken c) w.front); more = w.more; tree = x.0 ∷ w.tree;
+          holds = λ zs. g.more_arguments (higher (max x.1 j) (omega arith) (a.holds _)) (again c _) (higher_more (max x.1 j) (omega arith) (w.holds zs)); first = λ zs. same (look_kept a.front (e_less t) _) })
+          (arguments_fail m _ _ (rest ys) lt (omega (arith, e_less t, at_less c)) (omega (arith, e_less t, at_less c))))
+        (λ _. fails_after (expected mark.CloseParen ys) (expect_fails mark.CloseParen ys x.1 (omega arith) (record { front = a.front; more = λ zs. real (token (k.mark mark.CloseParen)) ∷ zs; tree = x.0 ∷ [];
+          holds = λ zs. g.last_argument (a.holds _) (new_at (k.mark mark.CloseParen)); first = λ zs. same (look_kept a.front (e_less t) _) })) (λ _ zs q. fine)))
+>>>>>>> 7b1742ed975dbed9ebb501259f78c4400571fc20
 
   pub arguments_of_fail : (xs : Symbols) → 0 < d → reals xs < n → Fails d (λ j i. Begun (AA j) xs i) (s.arguments_of d n inner xs)
   unfolding r.arguments_of
@@ -303,6 +348,7 @@ module _ (d n : ℕ) (inner : In) (sound : SoundInner d inner) (all : FailsInner
   unfolding r.body
   body_fails c xs lt ln = fails_after (Rattle.cc_grammar.proofs.SoundLists.list_sound d n inner sound c n [] 0 xs lt) (fails_map (λ j. j) (λ j l. l) (λ j i w. closing w) (statements_fail c xs lt ln)) (λ b ys p.
       let t = Rattle.cc_grammar.proofs.SoundParts.whole_list p.0 in let m = Rattle.cc_grammar.proofs.MovesDerived.body_moves t in
+<<<<<<< HEAD
       fails_after (expected mark.CloseBrace ys) (expect_fails mark.CloseBrace ys b.1 (record {
         front = m.front;
         more = λ zs. real (token (k.mark mark.CloseBrace)) ∷ zs;
@@ -340,3 +386,22 @@ module _ (d n : ℕ) (inner : In) (sound : SoundInner d inner) (all : FailsInner
         holds = λ zs. g.function_body (again o _) (m.holds _) (again q _) (w.holds zs).body (w.holds zs).close;
         first = λ zs. same refl;
       }) (body_fails of_function us lt (omega (arith, at_less o, params_less p, at_less q)))) (λ b ws x. fine))))
+=======
+      fails_after (expected mark.CloseBrace ys) (expect_fails mark.CloseBrace ys b.1 (omega arith) (record { front = m.front; more = λ zs. real (token (k.mark mark.CloseBrace)) ∷ zs; tree = b.0;
+        holds = λ zs. record { last = _; body = m.holds _ (free refl); close = new_at (k.mark mark.CloseBrace) }; first = λ zs. body_first m.front zs })) (λ _ zs c. fine)) where
+    body_first : {xs ys : Symbols} (f : Front xs ys) (zs : Symbols) → First xs (f.go (real (token (k.mark mark.CloseBrace)) ∷ zs))
+    body_first {xs} {ys} f zs = by f.before (f.prefix ys) (f.prefix (real (token (k.mark mark.CloseBrace)) ∷ zs)) where
+      by : (before : Symbols) → f.go ys ≡ before ++ ys → f.go (real (token (k.mark mark.CloseBrace)) ∷ zs) ≡ before ++ real (token (k.mark mark.CloseBrace)) ∷ zs → First xs (f.go (real (token (k.mark mark.CloseBrace)) ∷ zs))
+      by [] e h = fresh (k.mark mark.CloseBrace) refl (ap look h)
+      by (m ∷ before) e h = same (ap look h ∙ sym (ap look e) ∙ ap look f.is)
+
+  pub function_fails : (xs : Symbols) → 0 < d → reals xs < n → Fails d (λ j i. Begun (UU j) xs i) (s.function d n inner xs)
+  unfolding r.function
+  function_fails xs lt ln = fails_after (expected mark.OpenParen xs) (expect_fails mark.OpenParen xs 0 (omega arith) (no_function xs 0)) (λ _ ys o.
+      fails_after (params_of_sound n ys) (fails_map (λ j. j) (λ j l. l) (λ j i w. record { front = joined (taken o) w.front; more = λ zs. w.more (real (token (k.mark mark.OpenBrace)) ∷ real (token (k.mark mark.CloseBrace)) ∷ zs); tree = (w.tree, []);
+        holds = λ zs. g.function_body (again o _) (w.holds _) (new_at (k.mark mark.OpenBrace)) g.done (new_at (k.mark mark.CloseBrace)); first = λ zs. same refl }) (params_of_fail n ys (omega (arith, at_less o)) (omega arith))) (λ ps zs p. let m = params_move p in
+      fails_after (expected mark.OpenBrace zs) (expect_fails mark.OpenBrace zs 0 (omega arith) (record { front = joined (taken o) m.front; more = λ zs. real (token (k.mark mark.OpenBrace)) ∷ real (token (k.mark mark.CloseBrace)) ∷ zs; tree = (ps, []);
+        holds = λ zs. g.function_body (again o _) (m.holds _) (new_at (k.mark mark.OpenBrace)) g.done (new_at (k.mark mark.CloseBrace)); first = λ zs. same refl })) (λ _ us q.
+      fails_after (body_sound d n inner sound of_function us lt) (fails_map (λ j. j) (λ j l. l) (λ j i w. record { front = joined (taken o) (joined m.front (joined (taken q) w.front)); more = w.more; tree = (ps, w.tree);
+        holds = λ zs. g.function_body (again o _) (m.holds _) (again q _) (w.holds zs).body (w.holds zs).close; first = λ zs. same refl }) (body_fails of_function us lt (omega (arith, at_less o, params_less p, at_less q)))) (λ b ws x. fine))))
+>>>>>>> 7b1742ed975dbed9ebb501259f78c4400571fc20
