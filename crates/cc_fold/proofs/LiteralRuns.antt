@@ -39,12 +39,12 @@ primitive _ l h = absurd (cc)
 
 -- ---- what an operator gives
 
-record IsComputed (i n : ℕ) (o : Outcome) (r : Expr) : Type 0 where
+pub record IsComputed (i n : ℕ) (o : Outcome) (r : Expr) : Type 0 where
   pub value : Prim
   pub gives_it : o ≡ gives (prim value)
   pub is : r ≡ marked i n (lit i value)
 
-charged_is : (i n : ℕ) (e r : Expr) → charged i n e ≡ Some r → r ≡ marked i n e
+pub charged_is : (i n : ℕ) (e r : Expr) → charged i n e ≡ Some r → r ≡ marked i n e
 unfolding charged
 charged_is i n e r = by_test (nat_lt (n + price_of e) (2 ^ 64))
   where
@@ -52,7 +52,7 @@ charged_is i n e r = by_test (nat_lt (n + price_of e) (2 ^ 64))
     by_test true h = cc
     by_test false h = absurd (cc)
 
-computed_is : (i n : ℕ) (o : Outcome) (r : Expr) → computed i n o ≡ Some r → IsComputed i n o r
+pub computed_is : (i n : ℕ) (o : Outcome) (r : Expr) → computed i n o ≡ Some r → IsComputed i n o r
 unfolding computed
 computed_is i n (gives (prim p)) r h = record { value = p; gives_it = refl; is = charged_is i n (lit i p) r h }
 computed_is i n (gives (obj m)) r h = absurd (cc)
