@@ -343,6 +343,7 @@ module _ (P Q : Program) (al : Alike P Q) where
     up_out_write = λ x y d d' i k f. out_write_t _ _ _ _ _ x y d d' _ _ k (f k.same);
     up_read_var = λ i e r. read_var_t _ _ e r;
     up_write_var = λ i e r x. rw (same_val x) (write_var_t _ _ _ e r);
+    up_set_var = λ i e h. absurd h;
     up_catch = λ e x. rw (same_val x) (catch_t _ e);
     up_frame = λ c t vs. rw (same_list vs) (frame_t _ _ _ _ _ c.function c.up (same_opt t));
     up_take_path = λ i p x k. absurd p;

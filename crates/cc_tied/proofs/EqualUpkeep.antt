@@ -359,6 +359,7 @@ module _ (X : Budgets) (Ts : Tables) (Y : Passes X Ts) where
     up_out_write = λ x y d d' i k f. rw (i, k) (out_write_t _ _ _ x y d d' _ _ (f (ap (λ z. name_of Ts z) k)));
     up_read_var = λ i e r. rw (i, e, r) (read_var_t _ _ _);
     up_write_var = λ i e r x. rw (i, e, r, same_val x) (write_var_t _ _ _ _);
+    up_set_var = λ i e h. absurd h;
     up_catch = λ e x. catch_two _ _ _ _ e x;
     up_frame = λ c t vs. frame_two _ _ _ _ _ _ (code_equal c) (same_opt t) (same_list vs);
     up_take_path = λ i p x k. rw (i, p, same_val x, k) (take_path_t _ _ _ _);

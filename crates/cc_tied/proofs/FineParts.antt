@@ -13,6 +13,8 @@ pub record PartsAllow (C : Type 0) (A : Allowed C) (at : ℕ → C) (Good : Part
   pub reads : (k : ℕ) (r : Ref) → Good (mentions k r) → A.reads (at k) r
   pub writes : (k : ℕ) (r : Ref) → Good (mentions k r) → A.writes (at k) r
   pub declared : (k : ℕ) (r : Ref) → Good (declares k r) → A.writes (at k) r
+  pub bound : (k : ℕ) (r : Ref) (f : ℕ) → Good (declares k r) → A.binds (at k) r f
+  pub set : (k : ℕ) (r : Ref) (o : Option Expr) → Good (declares k r) → A.sets (at k) r o
   pub receivers : (k : ℕ) → A.this_here (at k)
   pub made : (k f : ℕ) (d : Bool) → Good (makes k f d) → A.makes (at k) f
   pub stands : (k : ℕ) (ls : List (List ℕ)) (s : Stmt) → A.stands (at k) ls s
@@ -90,7 +92,7 @@ module _ (C : Type 0) (A : Allowed C) (at : ℕ → C) (Good : Part → Type 0) 
     fine_declarators : (ds : List Declarator) → All (vars_parts T k ds) → FineDeclarators C A (at k) ds
     unfolding FineDeclarators FineDeclarator vars_parts
     fine_declarators [] h = tt
-    fine_declarators (d ∷ ds) h = let r = rest _ _ (rest _ _ h) in ((P.declared k d.variable (h _ (there here)), fine_option d.value (left _ _ r)), fine_declarators ds (right (option_parts T k d.value) _ r))
+    fine_declarators (d ∷ ds) h = let r = rest _ _ (rest _ _ h) in ((P.set k d.variable d.value (h _ (there here)), fine_option d.value (left _ _ r)), fine_declarators ds (right (option_parts T k d.value) _ r))
 
     fine_init : (h : ForInit) → All (init_parts T k h) → FineInit C A (at k) h
     unfolding FineInit init_parts
@@ -101,7 +103,7 @@ module _ (C : Type 0) (A : Allowed C) (at : ℕ → C) (Good : Part → Type 0) 
     fine_names : (u : ForTarget) → All (name_parts T k u) → FineNames C A (at k) u
     unfolding FineNames FineDeclarators name_parts
     fine_names (in_target u) h = fine_target false u h
-    fine_names (in_declared d) h = (fine_declarators (d ∷ []) h).0
+    fine_names (in_declared d) h = (P.declared k d.variable (h _ (there here)), (fine_declarators (d ∷ []) h).0)
 
   mutual
     unfolding FineStmt stmt_parts
@@ -109,7 +111,7 @@ module _ (C : Type 0) (A : Allowed C) (at : ℕ → C) (Good : Part → Type 0) 
     pub fine_stmt : (k : ℕ) (ls : List (List ℕ)) (s : Stmt) → All (stmt_parts T k s) → FineStmt C A (at k) ls s
     fine_stmt k ls (simple i e) h = fine_expr k e (rest _ _ h)
     fine_stmt k ls (vars i ds) h = fine_declarators k ds (rest _ _ h)
-    fine_stmt k ls (fun_decl i r f) h = (P.declared k r (h _ (there here)), P.made k f true (h _ (there (there here))))
+    fine_stmt k ls (fun_decl i r f) h = (P.bound k r f (h _ (there here)), P.made k f true (h _ (there (there here))))
     fine_stmt k ls (if i e a b) h = let r = left (expr_parts T k e ++ stmts_parts T k a) (stmts_parts T k b) (rest _ _ h) in (fine_expr k e (left _ _ r), fine_stmts k [] a (right (expr_parts T k e) _ r), fine_stmts k [] b (right (expr_parts T k e ++ stmts_parts T k a) _ (rest _ _ h)))
     fine_stmt k ls (while i e b) h = (fine_expr k e (left _ _ (rest _ _ h)), fine_stmts k [] b (right (expr_parts T k e) _ (rest _ _ h)))
     fine_stmt k ls (do_while i b e) h = (fine_stmts k [] b (left _ _ (rest _ _ h)), fine_expr k e (right (stmts_parts T k b) _ (rest _ _ h)))

@@ -18,7 +18,7 @@ use Rattle.cc_tied.specs.PlainFacts.{owner, IsReached, plain_facts}
 use Rattle.cc_tied.proofs.Kit.{Kit}
 use Rattle.cc_tied.proofs.Parts.{Below, PathT}
 use Rattle.cc_tied.proofs.Nodes.{SameTables}
-use Rattle.cc_tied.proofs.Rewriting.{allowed}
+use Rattle.cc_tied.proofs.Rewriting.{allowed, bound_by_write, set_by_write}
 use Rattle.cc_tied.proofs.Erase as E
 use Rattle.cc_tied.proofs.AlikeReach.{no_flat}
 use Rattle.cc_tied.proofs.FineParts.{PartsAllow, fine_stmts}
@@ -109,6 +109,8 @@ module _ (P : Program) (W : WellMade P) (set' : List (Path × ℕ)) (Stands : Ct
     reads = λ k r i. read_sound (mention_sound f k r h (part_of P W f _ i));
     writes = λ k r i. write_sound (mention_sound f k r h (part_of P W f _ i));
     declared = λ k r i. write_sound (declared_sound f k r h (part_of P W f _ i));
+    bound = λ k r g i. bound_by_write (write_sound (declared_sound f k r h (part_of P W f _ i)));
+    set = λ k r o i. set_by_write (write_sound (declared_sound f k r h (part_of P W f _ i)));
     receivers = λ k. this_at;
     made = λ k g d i. let e = parent_is P W f k g d i in stands_at (record { reached = function_reached f g k d h i; function = made_apart f k g d (part_of P W f _ i) }) (ap (λ z. z.0) e) (ap (λ z. z.1) e);
     stands = λ k ls s. all _ ls s;

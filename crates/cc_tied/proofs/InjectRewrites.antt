@@ -65,6 +65,7 @@ module _ (P Q : Program) (W : WellMade P) (none : HasNoPaths P) (same : SameButS
     chunks = record {
       fine = λ c h. fine_chunk P W (tables_of Q).set Each (λ c ls s. tt) c (is_chunk_of c h);
       here = λ c h. tt;
+      written = λ c h r f b. b;
       declares = λ c h s k. pass.declares s;
       rules = λ c d d' h w le le' all tied. rules c (below_of K P Q d d' w tied);
     }

@@ -164,6 +164,9 @@ module _ (F : Facts) (S : Tables) (set' : List (Path × ℕ)) where
     StandT = StandI F;
     ReadT = ReadI F S;
     WriteT = WriteI F S;
+    SetT = λ c r p. ⊥;
+    BindT = λ c r f. ⊥;
+    bind_inside = λ h. h;
     ThisT = ThisI;
     DocT = λ d d'. d ≡ d';
     DeclaresT = DeclaresI;

@@ -48,6 +48,10 @@ pub record Kit : Type 1 where
   -- references that are read, and that are written; places where `this` may stand
   pub ReadT : Ctx → Ref → Ref → Type 0
   pub WriteT : Ctx → Ref → Ref → Type 0
+  -- variables that are set by their one declaration alone: to a literal, and, before a chunk's own list runs, to a function
+  pub SetT : Ctx → Ref → Prim → Type 0
+  pub BindT : Ctx → Ref → (function : ℕ) → Type 0
+  pub bind_inside : {f f' g : ℕ} {r : Ref} → BindT (inside f f') r g → ⊥
   pub ThisT : Ctx → Type 0
   -- docs of casts; functions whose prototype a statement declares; flat paths
   pub DocT : ℕ → ℕ → Type 0
@@ -133,6 +137,7 @@ pub record Kit : Type 1 where
 
   pub rel_read_var : {c : Ctx} {w : World} {g h : Env} {r r' : Ref} {i i' : Spot} → SpotT i i' → EnvT c w g h → ReadT c r r' → Rel (λ v. ValT (O v)) w (read_var J i g r) (read_var J' i' h r')
   pub rel_write_var : {c : Ctx} {w : World} {g h : Env} {r r' : Ref} {x y : Val} {i i' : Spot} → SpotT i i' → EnvT c w g h → WriteT c r r' → ValT (O w) x y → Rel (λ v p q. Unit {0}) w (write_var J i g r x) (write_var J' i' h r' y)
+  pub rel_set_var : {c : Ctx} {w : World} {g h : Env} {r : Ref} {p : Prim} {i i' : Spot} → SpotT i i' → EnvT c w g h → SetT c r p → Rel (λ v a b. Unit {0}) w (write_var J i g r (prim p)) (write_var J' i' h r (prim p))
   pub rel_catch : {c : Ctx} {w : World} {g h : Env} {x y : Val} → EnvT c w g h → ValT (O w) x y → Rel (λ v m n. EnvT (in_catch c) v (record g { at = Some m }) (record h { at = Some n })) w (push_frame of_catch g.at (Some x ∷ [])) (push_frame of_catch h.at (Some y ∷ []))
   pub rel_frame : {w : World} {a b : Code} {t t' : Option Val} {vs vs' : List Val} → CodeT SpotT FunT (UpT w) a b → OptT (ValT (O w)) t t' → ListT (ValT (O w)) vs vs' → Rel (λ v m n. EnvT (inside a.function b.function) v (record { at = Some m; this = t; declares = [] }) (record { at = Some n; this = t'; declares = [] })) w (call_frame J a vs) (call_frame J' b vs')
   pub rel_take_path : {w : World} {p p' : ℕ × ℕ} {x y : Val} {a b : Access} {i i' : Spot} → SpotT i i' → FlatT p p' → ValT (O w) x y → KeyT w x a b → Rel (λ v m n. Unit {0}) w (take_path J i (Some p) x a) (take_path J' i' (Some p') y b)

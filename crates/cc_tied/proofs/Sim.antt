@@ -65,6 +65,9 @@ pub record Tie : Type 1 where
   pub StandT : Ctx → ℕ → ℕ → Type 0
   pub ReadT : Ctx → Ref → Ref → Type 0
   pub WriteT : Ctx → Ref → Ref → Type 0
+  pub SetT : Ctx → Ref → Prim → Type 0
+  pub BindT : Ctx → Ref → (function : ℕ) → Type 0
+  pub bind_inside : {f f' g : ℕ} {r : Ref} → BindT (inside f f') r g → ⊥
   pub ThisT : Ctx → Type 0
   pub DocT : ℕ → ℕ → Type 0
   pub DeclaresT : List ℕ → List ℕ → Type 0

@@ -52,6 +52,7 @@ pub record Upkeep (T : Tie) : Type 1 where
 
   pub up_read_var : {c : T.Ctx} {w : World T} {g h : Env} {r r' : Ref} {i i' : Spot} → T.SpotT i i' → T.EnvT c w.w g h → T.ReadT c r r' → Sim T (λ v. ValT (T.O v.w)) w (read_var T.J i g r) (read_var T.J' i' h r')
   pub up_write_var : {c : T.Ctx} {w : World T} {g h : Env} {r r' : Ref} {x y : Val} {i i' : Spot} → T.SpotT i i' → T.EnvT c w.w g h → T.WriteT c r r' → ValT (T.O w.w) x y → Sim T (λ v p q. Unit {0}) w (write_var T.J i g r x) (write_var T.J' i' h r' y)
+  pub up_set_var : {c : T.Ctx} {w : World T} {g h : Env} {r : Ref} {p : Prim} {i i' : Spot} → T.SpotT i i' → T.EnvT c w.w g h → T.SetT c r p → Sim T (λ v a b. Unit {0}) w (write_var T.J i g r (prim p)) (write_var T.J' i' h r (prim p))
   pub up_catch : {c : T.Ctx} {w : World T} {g h : Env} {x y : Val} → T.EnvT c w.w g h → ValT (T.O w.w) x y → Sim T (λ v m n. T.EnvT (T.in_catch c) v.w (record g { at = Some m }) (record h { at = Some n })) w (push_frame of_catch g.at (Some x ∷ [])) (push_frame of_catch h.at (Some y ∷ []))
   pub up_frame : {w : World T} {a b : Code} {t t' : Option Val} {vs vs' : List Val} → CodeT T.SpotT T.FunT (T.UpT w.w) a b → OptT (ValT (T.O w.w)) t t' → ListT (ValT (T.O w.w)) vs vs' → Sim T (λ v m n. T.EnvT (T.inside a.function b.function) v.w (record { at = Some m; this = t; declares = [] }) (record { at = Some n; this = t'; declares = [] })) w (call_frame T.J a vs) (call_frame T.J' b vs')
   pub up_take_path : {w : World T} {p p' : ℕ × ℕ} {x y : Val} {a b : Access} {i i' : Spot} → T.SpotT i i' → T.FlatT p p' → ValT (T.O w.w) x y → T.KeyT w.w x a b → Sim T (λ v m n. Unit {0}) w (take_path T.J i (Some p) x a) (take_path T.J' i' (Some p') y b)
@@ -168,6 +169,9 @@ module _ (T : Tie) (U : Upkeep T) where
     StandT = T.StandT;
     ReadT = T.ReadT;
     WriteT = T.WriteT;
+    SetT = T.SetT;
+    BindT = T.BindT;
+    bind_inside = λ h. T.bind_inside h;
     ThisT = T.ThisT;
     DocT = T.DocT;
     DeclaresT = T.DeclaresT;
@@ -232,6 +236,7 @@ module _ (T : Tie) (U : Upkeep T) where
     rel_out_write = U.up_out_write;
     rel_read_var = U.up_read_var;
     rel_write_var = U.up_write_var;
+    rel_set_var = U.up_set_var;
     rel_catch = U.up_catch;
     rel_frame = U.up_frame;
     rel_take_path = U.up_take_path;
