@@ -33,7 +33,7 @@ in_right (y ∷ xs) i = there (in_right xs i)
 pub in_either : {A : Type 0} {x : A} (xs : List A) {ys : List A} → In x (xs ++ ys) → In x xs ⊎ In x ys
 in_either [] i = inr i
 in_either (y ∷ xs) here = inl here
-in_either (y ∷ xs) (there i) = elim (in_either xs i) [ | inl j ↦ inl (there j) | inr j ↦ inr j ]
+in_either (y ∷ xs) (there i) = elim (in_either xs i) [ inl j ↦ inl (there j) | inr j ↦ inr j ]
 
 pub within_both : {A : Type 0} (xs : List A) {ys us vs : List A} → Within xs us → Within ys vs → Within (xs ++ ys) (us ++ vs)
 within_both [] {us = us} f g x i = in_right us (g x i)
@@ -88,8 +88,8 @@ module _ (built : Ref → Bool) (step : Expr → Expr) (step_call : ℕ → Expr
 
     fields_nothing : (fs : Fields) (x : Path × ℕ) → In x (sets_by_fields None fs) → ⊥
     fields_nothing no_fields x j = elim j [ ]
-    fields_nothing (more_fields (Key.Dotted p) e fs) x j = elim (in_either (sets_by None e) j) [ | inl k ↦ set_nothing e x k | inr k ↦ fields_nothing fs x k ]
-    fields_nothing (more_fields (Key.Quoted t) e fs) x j = elim (in_either (sets_by None e) j) [ | inl k ↦ set_nothing e x k | inr k ↦ fields_nothing fs x k ]
+    fields_nothing (more_fields (Key.Dotted p) e fs) x j = elim (in_either (sets_by None e) j) [ inl k ↦ set_nothing e x k | inr k ↦ fields_nothing fs x k ]
+    fields_nothing (more_fields (Key.Quoted t) e fs) x j = elim (in_either (sets_by None e) j) [ inl k ↦ set_nothing e x k | inr k ↦ fields_nothing fs x k ]
 
   mutual
     unfolding sets_by sets_by_fields re_fields
