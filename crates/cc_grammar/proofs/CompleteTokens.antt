@@ -76,7 +76,7 @@ clash e = cc
 
 stopped : {b : ℕ} {c : Fault} {xs : Symbols} (p : Symbols) (us : L) {o : Outcome Symbols (Sized (List RawStmt))} → xs ≡ p ++ map real us → Fails b (λ j i. FrontAt j xs i) o → o ≡ Err (c, map real us) → Stopped c p us
 stopped p us e fine q = absurd (cc)
-stopped {c} p us e (stop {c = a} {i} l j h) q =
+stopped {c} p us e (stop {c = a} {i} l j _ _ h) q =
     let pairs : ◌≡◌ {A = Fault × Symbols} (a, i) (c, map real us) = cc in
     let cause : a ≡ c = ap (λ (z : Fault × Symbols). z.0) pairs in
     record {
