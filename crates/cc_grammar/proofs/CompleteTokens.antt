@@ -32,24 +32,24 @@ use Rattle.cc_grammar.proofs.SoundTokens.{justified, begun_behind, no_limit}
 
 -- ---- lists
 
-put_front : {ts us : L} (w : Copy ts us) (zs : Symbols) → put w zs ≡ put w [] ++ zs
+pub put_front : {ts us : L} (w : Copy ts us) (zs : Symbols) → put w zs ≡ put w [] ++ zs
 put_front end zs = refl
 put_front (take t w) zs = ap (λ l. real t ∷ l) (put_front w zs)
 put_front (insert o w) zs = ap (λ l. inserted ∷ l) (put_front w zs)
 
-tail_is : (x y : Symbol) (xs ys : Symbols) → x ∷ xs ≡ y ∷ ys → xs ≡ ys
+pub tail_is : (x y : Symbol) (xs ys : Symbols) → x ∷ xs ≡ y ∷ ys → xs ≡ ys
 tail_is x y xs ys e = cc
 
-head_is : (x y : Symbol) (xs ys : Symbols) → x ∷ xs ≡ y ∷ ys → x ≡ y
+pub head_is : (x y : Symbol) (xs ys : Symbols) → x ∷ xs ≡ y ∷ ys → x ≡ y
 head_is x y xs ys e = cc
 
-same_head : (t u : Lexeme) (ts us : L) → t ∷ ts ≡ u ∷ us → t ≡ u
+pub same_head : (t u : Lexeme) (ts us : L) → t ∷ ts ≡ u ∷ us → t ≡ u
 same_head t u ts us e = cc
 
-same_tail : (t u : Lexeme) (ts us : L) → t ∷ ts ≡ u ∷ us → ts ≡ us
+pub same_tail : (t u : Lexeme) (ts us : L) → t ∷ ts ≡ u ∷ us → ts ≡ us
 same_tail t u ts us e = cc
 
-nothing_some : (t : Lexeme) (ts : L) → [] ≡ t ∷ ts → ⊥
+pub nothing_some : (t : Lexeme) (ts : L) → [] ≡ t ∷ ts → ⊥
 nothing_some t ts e = cc
 
 real_is : (t u : Lexeme) → real t ≡ real u → t ≡ u
@@ -57,13 +57,13 @@ real_is t u e = cc
 
 -- ---- fronts
 
-shorter : (a zs : Symbols) → IsFront (a ++ zs) → IsFront a
+pub shorter : (a zs : Symbols) → IsFront (a ++ zs) → IsFront a
 shorter a zs f = record { height = f.height; within = record { more = zs ++ f.within.more; tree = f.within.tree; derives = subst (λ l. Derives f.height l f.within.tree) (append_assoc a zs f.within.more) f.within.derives } }
 
-first_token : (b : Symbols) (t : Lexeme) (zs : Symbols) → IsFront (b ++ real t ∷ zs) → IsFront (b ++ real t ∷ [])
+pub first_token : (b : Symbols) (t : Lexeme) (zs : Symbols) → IsFront (b ++ real t ∷ zs) → IsFront (b ++ real t ∷ [])
 first_token b t zs f = shorter (b ++ real t ∷ []) zs (subst (λ l. IsFront l) (sym (append_assoc b (real t ∷ []) zs)) f)
 
-front_at : {j : ℕ} {xs i : Symbols} (p : Symbols) → xs ≡ p ++ i → FrontAt j xs i → IsFront p
+pub front_at : {j : ℕ} {xs i : Symbols} (p : Symbols) → xs ≡ p ++ i → FrontAt j xs i → IsFront p
 front_at {j} {i} p e f = record { height = j; within = subst (λ l. IsFrontWithin j l) (append_cancel_right f.before p i (sym f.is ∙ e)) f.front }
 
 -- What is known of the symbols before a stop: they are a front, and at a limit they are one with the next token.
@@ -95,7 +95,7 @@ stopped {c} {xs} p us e (deep {c = a} {i} {ys} m j lt h t s u w) q =
 
 -- ---- the first difference
 
-no_colon : (x : Kind) → is_fresh x ≡ true → is_mark mark.Colon x ≡ true → ⊥
+pub no_colon : (x : Kind) → is_fresh x ≡ true → is_mark mark.Colon x ≡ true → ⊥
 no_colon x f c = clash (sym f ∙ ap is_fresh (mark_true mark.Colon x c))
 
 some_token : {ts : L} → offends (look_token ts) ≡ true → [] ≡ ts → ⊥

@@ -62,3 +62,4 @@ pub mod CopyJumps
 pub mod CopyPrograms
 pub mod SoundTokens
 pub mod CompleteTokens
+pub mod FirstDifference
