@@ -9,3 +9,4 @@ pub mod PrototypeLemmas
 pub mod WriteLemmas
 pub mod CallLemmas
 pub mod OperatorLemmas
+pub mod UseLemmas

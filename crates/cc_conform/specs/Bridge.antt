@@ -2,13 +2,19 @@
 use Rattle.std.specs.Prelude.{◌≡◌, map}
 use Rattle.std.specs.Option.{option_map}
 use Rattle.cc_value.specs.Bridge.{value_of}
-use Rattle.cc_meaning.specs.Builtins.{text_char_at, text_char_code_at, text_index_of, text_last_index_of, text_slice, text_substring, math_max, math_min, math_abs, array_push, array_unshift, array_pop, array_shift, array_slice, array_concat, array_join, array_index_of}
+use Rattle.cc_meaning.specs.Builtins.{ArrayUse, TextUse, MathUse, text_char_at, text_char_code_at, text_index_of, text_last_index_of, text_slice, text_substring, math_max, math_min, math_abs, array_push, array_unshift, array_pop, array_shift, array_slice, array_concat, array_join, array_index_of}
 use Rattle.cc_meaning.specs.Store.{Access, dotted, quoted, runtime, Use, of_array, of_text, of_math, string_of_value, from_codes, create_object, has_own, call_with}
 use Rattle.cc_meaning.specs.State.{State}
 use Rattle.cc_heap.specs.Store.{Store}
 use Rattle.cc_meaning.specs.Typed.{Variable, global, local, flat}
 use Rattle.cc_meaning.specs.Rules.{Op, unary_op, binary_op, built_op}
 use Rattle.cc_meaning.specs.Judge.{Act, operates, reads, writes, removes, probes, walks, calls, enters, leaves, takes, keeps, reads_this, casts, hosts, calls_inner, answers_with}
+use Rattle.cc_conform.specs.declared.act.ArrayUse as arrays
+use Rattle.cc_conform.specs.declared.act.ArrayUse.TheVariants as L
+use Rattle.cc_conform.specs.declared.act.TextUse as texts
+use Rattle.cc_conform.specs.declared.act.TextUse.TheVariants as X
+use Rattle.cc_conform.specs.declared.act.MathUse as numbers
+use Rattle.cc_conform.specs.declared.act.MathUse.TheVariants as M
 use Rattle.cc_conform.specs.declared.act.BuiltInUse.{BuiltInUse}
 use Rattle.cc_conform.specs.declared.act.BuiltInUse.TheVariants as U
 use Rattle.cc_conform.specs.declared.act.Op as operation
@@ -20,26 +26,35 @@ use Rattle.cc_conform.specs.declared.act.Access.TheVariants as K
 use Rattle.cc_conform.specs.declared.act.Act as told
 use Rattle.cc_conform.specs.declared.act.Act.TheVariants as A
 
+abbrev pub array_use_of : arrays.ArrayUse → ArrayUse
+array_use_of L.Push = array_push
+array_use_of L.Unshift = array_unshift
+array_use_of L.Pop = array_pop
+array_use_of L.Shift = array_shift
+array_use_of L.Slice = array_slice
+array_use_of L.Concat = array_concat
+array_use_of L.Join = array_join
+array_use_of L.IndexOf = array_index_of
+
+abbrev pub text_use_of : texts.TextUse → TextUse
+text_use_of X.CharAt = text_char_at
+text_use_of X.CharCodeAt = text_char_code_at
+text_use_of X.IndexOf = text_index_of
+text_use_of X.LastIndexOf = text_last_index_of
+text_use_of X.Slice = text_slice
+text_use_of X.Substring = text_substring
+
+abbrev pub math_use_of : numbers.MathUse → MathUse
+math_use_of M.Max = math_max
+math_use_of M.Min = math_min
+math_use_of M.Abs = math_abs
+
 abbrev pub use_of : BuiltInUse → Use
-use_of U.ArrayPush = of_array array_push
-use_of U.ArrayUnshift = of_array array_unshift
-use_of U.ArrayPop = of_array array_pop
-use_of U.ArrayShift = of_array array_shift
-use_of U.ArraySlice = of_array array_slice
-use_of U.ArrayConcat = of_array array_concat
-use_of U.ArrayJoin = of_array array_join
-use_of U.ArrayIndexOf = of_array array_index_of
-use_of U.TextCharAt = of_text text_char_at
-use_of U.TextCharCodeAt = of_text text_char_code_at
-use_of U.TextIndexOf = of_text text_index_of
-use_of U.TextLastIndexOf = of_text text_last_index_of
-use_of U.TextSlice = of_text text_slice
-use_of U.TextSubstring = of_text text_substring
+use_of (U.Array u) = of_array (array_use_of u)
+use_of (U.Text u) = of_text (text_use_of u)
 use_of U.StringOf = string_of_value
 use_of U.FromCharCode = from_codes
-use_of U.MathMax = of_math math_max
-use_of U.MathMin = of_math math_min
-use_of U.MathAbs = of_math math_abs
+use_of (U.Math u) = of_math (math_use_of u)
 use_of U.ObjectCreate = create_object
 use_of U.HasOwnProperty = has_own
 use_of U.Call = call_with

@@ -2,3 +2,4 @@ pub mod Bridge
 pub mod Slots
 pub mod Met
 pub mod Prototypes
+pub mod Uses

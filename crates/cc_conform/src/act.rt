@@ -5,29 +5,47 @@ use cc_ast::units::Units;
 use cc_value::value::Value;
 use sqlite_items::Items;
 
-/// A use of what is built in (ECMA-262 5.1, 15): of arrays, of texts, of `String`, of `Math`, and
-/// of objects and functions. An array's length, its elements and a text's length are accesses.
+/// A method of arrays (ECMA-262 5.1, 15.4.4). An array's length and its elements are accesses.
+#[derive(Clone, Copy, Debug, PartialEq, Eq)]
+pub enum ArrayUse {
+    Push,
+    Unshift,
+    Pop,
+    Shift,
+    Slice,
+    Concat,
+    Join,
+    IndexOf,
+}
+
+/// A method of texts (ECMA-262 5.1, 15.5.4). A text's length is an access.
+#[derive(Clone, Copy, Debug, PartialEq, Eq)]
+pub enum TextUse {
+    CharAt,
+    CharCodeAt,
+    IndexOf,
+    LastIndexOf,
+    Slice,
+    Substring,
+}
+
+/// A function of `Math` (ECMA-262 5.1, 15.8.2).
+#[derive(Clone, Copy, Debug, PartialEq, Eq)]
+pub enum MathUse {
+    Max,
+    Min,
+    Abs,
+}
+
+/// A use of what is built in (ECMA-262 5.1, 15), with `String(v)`, `String.fromCharCode`,
+/// `Object.create`, and `hasOwnProperty` and `call` of every object and function.
 #[derive(Clone, Copy, Debug, PartialEq, Eq)]
 pub enum BuiltInUse {
-    ArrayPush,
-    ArrayUnshift,
-    ArrayPop,
-    ArrayShift,
-    ArraySlice,
-    ArrayConcat,
-    ArrayJoin,
-    ArrayIndexOf,
-    TextCharAt,
-    TextCharCodeAt,
-    TextIndexOf,
-    TextLastIndexOf,
-    TextSlice,
-    TextSubstring,
+    Array(ArrayUse),
+    Text(TextUse),
     StringOf,
     FromCharCode,
-    MathMax,
-    MathMin,
-    MathAbs,
+    Math(MathUse),
     ObjectCreate,
     HasOwnProperty,
     Call,

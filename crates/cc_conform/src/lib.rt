@@ -15,5 +15,6 @@ mod reads;
 mod rules;
 mod slots;
 mod types;
+mod uses;
 mod variables;
 mod writes;
