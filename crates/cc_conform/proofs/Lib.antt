@@ -3,3 +3,4 @@ pub mod DocLemmas
 pub mod TypeLemmas
 pub mod SlotLemmas
 pub mod FieldLemmas
+pub mod MetLemmas

@@ -5,6 +5,7 @@
 pub mod act;
 mod docs;
 mod fields;
+mod look_up;
 mod names;
 mod rules;
 mod slots;

@@ -1,0 +1,116 @@
+// What a look-up comes to before it comes to a slot: rule 10.
+
+ghost use Rattle.std.specs.Prelude.{◌≡◌, ◌&&◌, ◌||◌, Bool, None, is_none, is_some, slice_get, unwrap_or};
+ghost use Rattle.std.specs.List.{list_any};
+ghost use Rattle.cc_meaning.specs.Builtins.{text_method};
+ghost use Rattle.cc_meaning.specs.SlotRules as SlotRules;
+ghost use Rattle.cc_meaning.specs.Store.{chain_of, look_up, own_value};
+ghost use Rattle.cc_heap.specs.Store.{value_if_found};
+ghost use Rattle.cc_conform.specs.Met.{hides_at};
+
+use crate::names::{is_function_name, is_standard};
+use crate::rules::rule_if;
+use cc_ast::units::Units;
+use cc_heap::heap::Heap;
+use cc_heap::names::{is_array_method, is_spelled};
+
+// Whether the look-up has come to a function, or has come to a slot first.
+fn function_met(heap: &Heap, object: usize, name: &Units) -> Option<bool>
+    ensures { (rest : Bool) → (SlotRules.is_function (slice_get heap.now.objs object) || (is_none (own_value (slice_get heap.now.objs object) name.now) && rest)) ≡ unwrap_or result rest }
+{
+    if heap.code_of(object).is_some() {
+        return Some(true);
+    }
+    if heap.read_own(object, name).is_some() {
+        return Some(false);
+    }
+    None
+}
+
+fn meets_function_on(heap: &Heap, chain: &[usize], name: &Units) -> bool
+    ensures { result ≡ SlotRules.meets_function heap.now.objs chain.now name.now }
+{
+    for above in chain {
+        if let Some(met) = function_met(heap, *above, name) {
+            return met;
+        }
+    }
+    false
+}
+
+fn meets_function(heap: &Heap, object: usize, name: &Units) -> bool
+    ensures { result ≡ SlotRules.meets_function heap.now.objs (chain_of heap.now.objs object) name.now }
+{
+    match function_met(heap, object, name) {
+        Some(met) => met,
+        None => meets_function_on(heap, heap.chain(object), name),
+    }
+}
+
+/// A function's `name` or `length` that is read.
+#[tactic(auto, unfolding(cc_meaning::specs::SlotRules::function_rule))]
+pub(crate) fn function_rule(heap: &Heap, object: usize, name: &Units) -> Option<u8>
+    ensures { result ≡ SlotRules.function_rule heap.now.objs object name.now }
+{
+    let is_meant = is_function_name(name.list.as_slice());
+    rule_if(is_meant && meets_function(heap, object, name), 10)
+}
+
+// Whether a built-in method of arrays or functions stands at the object under this name.
+fn hides(heap: &Heap, object: usize, name: &[u16]) -> bool
+    ensures { result ≡ hides_at (slice_get heap.now.objs object) name.now }
+{
+    if heap.is_array(object) {
+        is_array_method(name)
+    } else {
+        heap.code_of(object).is_some() & is_spelled(name, b"call")
+    }
+}
+
+fn chain_hides(heap: &Heap, chain: &[usize], name: &[u16]) -> bool
+    ensures { result ≡ list_any (λ c. hides_at (slice_get heap.now.objs c) name.now) chain.now }
+{
+    chain.iter().any(|above| hides(heap, *above, name))
+}
+
+// Whether a built-in method of arrays or functions stands on the chain under this name.
+#[tactic(auto, unfolding(cc_meaning::specs::Store::chain_of))]
+fn meets_method(heap: &Heap, object: usize, name: &[u16]) -> bool
+    ensures { result ≡ list_any (λ c. hides_at (slice_get heap.now.objs c) name.now) (chain_of heap.now.objs object) }
+{
+    hides(heap, object, name) || chain_hides(heap, heap.chain(object), name)
+}
+
+/// What a look-up breaks that comes to no value.
+pub(crate) fn unfound_rule(heap: &Heap, object: usize, name: &[u16]) -> Option<u8>
+    requires { value_if_found (look_up heap.now.objs object name.now) ≡ None }
+    ensures { result ≡ SlotRules.unfound_rule name.now (look_up heap.now.objs object name.now) }
+{
+    let is_method = meets_method(heap, object, name) | is_spelled(name, b"hasOwnProperty");
+    rule_if(is_method | is_standard(name), 10)
+}
+
+fn is_text_method(name: &[u16]) -> bool
+    ensures { result ≡ is_some (text_method name.now) }
+{
+    is_spelled(name, b"charAt")
+        | is_spelled(name, b"charCodeAt")
+        | is_spelled(name, b"indexOf")
+        | is_spelled(name, b"lastIndexOf")
+        | is_spelled(name, b"slice")
+        | is_spelled(name, b"substring")
+}
+
+/// What a read of a text breaks (ECMA-262 5.1, 15.5.5).
+#[tactic(auto, unfolding(cc_meaning::specs::SlotRules::text_read))]
+pub(crate) fn text_read(name: &[u16]) -> Option<u8>
+    ensures { result ≡ SlotRules.text_read name.now }
+{
+    if is_spelled(name, b"length") {
+        None
+    } else if is_text_method(name) {
+        Some(10)
+    } else {
+        Some(2)
+    }
+}
