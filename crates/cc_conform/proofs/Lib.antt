@@ -4,3 +4,5 @@ pub mod TypeLemmas
 pub mod SlotLemmas
 pub mod FieldLemmas
 pub mod MetLemmas
+pub mod OperatorLemmas
+pub mod UseTexts

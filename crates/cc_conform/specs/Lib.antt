@@ -1,3 +1,5 @@
 pub mod Bridge
 pub mod Slots
 pub mod Met
+pub mod Operands
+pub mod Uses

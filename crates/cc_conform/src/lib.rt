@@ -7,6 +7,8 @@ mod docs;
 mod fields;
 mod look_up;
 mod names;
+mod operands;
+mod operators;
 mod rules;
 mod slots;
 mod types;

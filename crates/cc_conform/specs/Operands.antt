@@ -1,0 +1,44 @@
+-- The kinds and the number of operands.
+use Rattle.std.specs.Prelude.{Bool, true, false, List, [], ◌∷◌, Option, Some, None}
+use Rattle.cc_ast.specs.Syntax.{whole, text}
+use Rattle.cc_meaning.specs.Values.{Val, prim}
+
+abbrev pub is_whole : Val → Bool
+is_whole (prim (whole z)) = true
+is_whole _ = false
+
+abbrev pub is_text : Val → Bool
+is_text (prim (text t)) = true
+is_text _ = false
+
+abbrev pub has_none : List Val → Bool
+has_none [] = true
+has_none (v ∷ vs) = false
+
+abbrev pub has_one : List Val → Bool
+has_one [] = false
+has_one (v ∷ []) = true
+has_one (v ∷ w ∷ vs) = false
+
+abbrev pub has_one_or_two : List Val → Bool
+has_one_or_two [] = false
+has_one_or_two (v ∷ []) = true
+has_one_or_two (v ∷ w ∷ []) = true
+has_one_or_two (v ∷ w ∷ x ∷ vs) = false
+
+abbrev pub has_one_at_most : List Val → Bool
+has_one_at_most [] = true
+has_one_at_most (v ∷ []) = true
+has_one_at_most (v ∷ w ∷ vs) = false
+
+abbrev pub has_two_at_most : List Val → Bool
+has_two_at_most [] = true
+has_two_at_most (v ∷ []) = true
+has_two_at_most (v ∷ w ∷ []) = true
+has_two_at_most (v ∷ w ∷ x ∷ vs) = false
+
+-- the operand, where there is one alone
+abbrev pub only : {A : Type 0} → List A → Option A
+only [] = None
+only (x ∷ []) = Some x
+only (x ∷ y ∷ xs) = None
