@@ -6,3 +6,7 @@ pub mod FieldLemmas
 pub mod MetLemmas
 pub mod OperatorLemmas
 pub mod UseTexts
+pub mod PlaceLemmas
+pub mod PositionLemmas
+pub mod UnitLemmas
+pub mod OutcomeLemmas

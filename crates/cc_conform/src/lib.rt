@@ -9,6 +9,8 @@ mod look_up;
 mod names;
 mod operands;
 mod operators;
+mod places;
 mod rules;
 mod slots;
+mod text_uses;
 mod types;
