@@ -10,3 +10,5 @@ pub mod PlaceLemmas
 pub mod PositionLemmas
 pub mod UnitLemmas
 pub mod OutcomeLemmas
+pub mod UseGlobals
+pub mod UseObjects

@@ -1,7 +1,7 @@
 -- The kinds and the number of operands.
 use Rattle.std.specs.Prelude.{Bool, true, false, List, [], ◌∷◌, Option, Some, None}
-use Rattle.cc_ast.specs.Syntax.{whole, text}
-use Rattle.cc_meaning.specs.Values.{Val, prim}
+use Rattle.cc_ast.specs.Syntax.{null, whole, text}
+use Rattle.cc_meaning.specs.Values.{Val, prim, obj}
 
 abbrev pub is_whole : Val → Bool
 is_whole (prim (whole z)) = true
@@ -42,3 +42,14 @@ abbrev pub only : {A : Type 0} → List A → Option A
 only [] = None
 only (x ∷ []) = Some x
 only (x ∷ y ∷ xs) = None
+
+-- an object of the program
+abbrev pub is_object : Val → Bool
+is_object (obj n) = true
+is_object _ = false
+
+-- an object of the program, or null
+abbrev pub is_prototype : Val → Bool
+is_prototype (obj n) = true
+is_prototype (prim null) = true
+is_prototype _ = false

@@ -5,8 +5,10 @@
 pub mod act;
 mod docs;
 mod fields;
+mod global_uses;
 mod look_up;
 mod names;
+mod object_uses;
 mod operands;
 mod operators;
 mod places;

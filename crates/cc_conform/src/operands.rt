@@ -18,7 +18,7 @@ fn is_whole(value: &Value) -> bool
     }
 }
 
-fn is_text(value: &Value) -> bool
+pub(crate) fn is_text(value: &Value) -> bool
     ensures { result ≡ Operands.is_text (value_of value.now) }
 {
     match value {
