@@ -12,3 +12,5 @@ pub mod UnitLemmas
 pub mod OutcomeLemmas
 pub mod UseGlobals
 pub mod UseObjects
+pub mod UseArrays
+pub mod UseElements

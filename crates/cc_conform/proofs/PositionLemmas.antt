@@ -1,5 +1,7 @@
 -- Numbers that are counts and places.
-use Rattle.std.proofs.Common.{◌≡◌, ◌∙◌, ℕ, ◌<◌, ◌≤◌, ℤ, pos, Option, Some, None, IfSome, refl, sym, ap}
+use Rattle.std.proofs.Common.{◌≡◌, ◌∙◌, ℕ, ◌<◌, ◌≤◌, ℤ, pos, Option, Some, None, IfSome, Bool, nat_le, refl, sym, ap, inl, inr}
+use Rattle.std.proofs.lemmas.Bool.{cases_lt, le-leb, lt-leb}
+use Rattle.cc_meaning.specs.SlotRules.{rule_unless}
 use Rattle.cc_meaning.specs.Builtins.{position_number}
 use Rattle.cc_meaning.specs.Operators.{number}
 use Rattle.cc_meaning.specs.Rules.{outcome_rule}
@@ -29,3 +31,12 @@ position-none o e = sym (ap (λ (p : Option ℕ). outcome_rule (position_number 
 pub position-small : (o : Option ℕ) → IfSome o (λ p. p ≤ 9007199254740991) → None ≡ outcome_rule (position_number o)
 position-small None h = position-none None refl
 position-small (Some p) h = position-made (Some p) p refl h
+
+-- the rule of a count, by its size
+pub count-rule : (n : ℕ) → rule_unless (nat_le n 9007199254740991) 1 ≡ outcome_rule (number (pos n))
+unfolding rule_unless
+count-rule n =
+    elim (cases_lt 9007199254740991 n) [
+      | inl h ↦ ap (λ (b : Bool). rule_unless b 1) (lt-leb n 9007199254740991 h) ∙ sym (count-past n h)
+      | inr h ↦ ap (λ (b : Bool). rule_unless b 1) (le-leb n 9007199254740991 h) ∙ sym (count-made n h)
+    ]

@@ -1,7 +1,9 @@
 -- The kinds and the number of operands.
-use Rattle.std.specs.Prelude.{Bool, true, false, List, [], ◌∷◌, Option, Some, None}
+use Rattle.std.specs.Prelude.{Bool, true, false, List, [], ◌∷◌, slice_get, Option, Some, None, is_some}
 use Rattle.cc_ast.specs.Syntax.{null, whole, text}
-use Rattle.cc_meaning.specs.Values.{Val, prim, obj}
+use Rattle.cc_meaning.specs.Values.{Val, prim, obj, out}
+use Rattle.cc_meaning.specs.State.{Obj}
+use Rattle.cc_meaning.specs.Typed.{elements_in}
 
 abbrev pub is_whole : Val → Bool
 is_whole (prim (whole z)) = true
@@ -53,3 +55,9 @@ abbrev pub is_prototype : Val → Bool
 is_prototype (obj n) = true
 is_prototype (prim null) = true
 is_prototype _ = false
+
+-- an array among these objects
+abbrev pub is_array : List Obj → Val → Bool
+is_array os (obj n) = is_some (elements_in (slice_get os n))
+is_array os (out n) = false
+is_array os (prim p) = false

@@ -3,6 +3,8 @@
 #![tactic(auto)]
 
 pub mod act;
+mod array_uses;
+mod built_ins;
 mod docs;
 mod fields;
 mod global_uses;

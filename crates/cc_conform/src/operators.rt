@@ -11,6 +11,7 @@ ghost use Rattle.cc_value.specs.Bridge.{value_of};
 ghost use Rattle.cc_conform.specs.Bridge.{op_of, with_store};
 
 use crate::act::Op;
+use crate::built_ins::built_rule;
 use crate::rules::{rule_if, rule_unless};
 use cc_ast::operator::{BinOp, UnOp};
 use cc_ast::program::Program;
@@ -92,5 +93,22 @@ fn unary_operands_rule(op: UnOp, operands: &[Value]) -> Option<u8>
     match operands {
         [value] => unary_rule(op, value),
         _ => Some(2),
+    }
+}
+
+/// The rule that an operator or a built-in use breaks.
+#[tactic(auto, unfolding(cc_meaning::specs::Rules::operate_rule))]
+pub(crate) fn operate_rule(
+    program: &Program,
+    heap: &Heap,
+    op: &Op,
+    operands: &[Value],
+) -> Option<u8>
+    ensures { (s : State) → result ≡ Rules.operate_rule (tables_of program.now) (with_store s heap.now) (op_of op.now) (map value_of operands.now) }
+{
+    match op {
+        Op::Unary(op) => unary_operands_rule(*op, operands),
+        Op::Binary(op) => binary_operands_rule(heap, *op, operands),
+        Op::Built(built) => built_rule(program, heap, *built, operands),
     }
 }
