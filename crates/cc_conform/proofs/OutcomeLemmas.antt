@@ -1,5 +1,5 @@
 -- The rules of outcomes, and receivers of another kind.
-use Rattle.std.proofs.Common.{◌≡◌, ◌∙◌, ℕ, List, [], ◌∷◌, length, map, Option, Some, None, refl, sym, ap, arith}
+use Rattle.std.proofs.Common.{◌≡◌, ◌∙◌, ℕ, List, [], ◌∷◌, length, map, Some, refl, sym, ap, arith}
 use Rattle.cc_meaning.specs.Built.{outcome_of, rule_in, from_outcome}
 use Rattle.cc_meaning.specs.Builtins.{TextUse, text_use}
 use Rattle.cc_meaning.specs.Operators.{Outcome, gives, breaks}

@@ -1,5 +1,5 @@
 -- Numbers that are counts and places.
-use Rattle.std.proofs.Common.{◌≡◌, ◌∙◌, ℕ, ◌<◌, ◌≤◌, ℤ, pos, Option, Some, None, IfSome, Bool, nat_le, refl, sym, ap, inl, inr}
+use Rattle.std.proofs.Common.{◌≡◌, ◌∙◌, ℕ, ◌<◌, ◌≤◌, pos, Option, Some, None, IfSome, Bool, nat_le, refl, sym, ap, inl, inr}
 use Rattle.std.proofs.lemmas.Bool.{cases_lt, le-leb, lt-leb}
 use Rattle.cc_meaning.specs.SlotRules.{rule_unless}
 use Rattle.cc_meaning.specs.Builtins.{position_number}

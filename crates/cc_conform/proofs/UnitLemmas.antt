@@ -1,5 +1,5 @@
 -- The units of texts by place, and arguments of other kinds.
-use Rattle.std.proofs.Common.{◌≡◌, ◌∙◌, ℕ, ◌<◌, ◌≤◌, nat_lt, int_lt, ℤ, pos, negsuc, unsigned_abs, Bool, true, false, List, [], ◌∷◌, length, get_or, slice_get, Option, Some, None, Fits, w16, refl, sym, ap, inl, inr, arith}
+use Rattle.std.proofs.Common.{◌≡◌, ◌∙◌, ℕ, ◌<◌, nat_lt, int_lt, ℤ, pos, negsuc, unsigned_abs, Bool, true, false, List, [], ◌∷◌, length, get_or, slice_get, Option, Some, None, Fits, w16, refl, sym, ap, inl, inr, arith}
 use Rattle.std.proofs.lemmas.Bool.{cases_lt, lt-ltb, le-ltb}
 use Rattle.std.proofs.lemmas.Option.{slice_get-get_or, slice_get_past}
 use Rattle.cc_meaning.specs.Builtins.{text_use, text_char_code_at, text_index_of, text_last_index_of, char_code_at, code_outcome, position_number, first_place, last_place}

@@ -1,11 +1,11 @@
 -- What uses of arrays break, but for what they put in.
-use Rattle.std.proofs.Common.{◌≡◌, ◌∙◌, ◌+◌, ◌≤◌, ℕ, suc, Bool, true, false, not, ◌&&◌, cond, pos, List, [], ◌∷◌, ◌++◌, length, map, codes, slice_get, Option, Some, None, IfSome, is_some, refl, sym, ap, arith}
+use Rattle.std.proofs.Common.{◌≡◌, ◌∙◌, ◌+◌, ◌≤◌, ℕ, suc, Bool, true, false, ◌&&◌, cond, List, [], ◌∷◌, ◌++◌, length, map, codes, slice_get, Option, Some, None, IfSome, is_some, refl, sym, ap, arith}
 use Rattle.std.specs.List.{list_all}
 use Rattle.std.proofs.lemmas.List.Folds.{list_all-map}
 use Rattle.std.proofs.lemmas.List.{length-map}
 use Rattle.cc_ast.specs.Syntax.{Prim, undefined, null, truth, whole, text}
 use Rattle.cc_meaning.specs.Built.{as_arg, arg_of, args_of}
-use Rattle.cc_meaning.specs.Builtins.{Arg, ArrayResult, changes, array_breaks, changed, copied, copied_or_breaks, array_use, array_pop, array_shift, array_slice, array_join, array_index_of, arrays_after, concat_use, element_place, element_text, joined, joined_after, both_texts, text_outcome, position_number}
+use Rattle.cc_meaning.specs.Builtins.{Arg, changed, copied, copied_or_breaks, array_use, array_pop, array_shift, array_slice, array_join, array_index_of, arrays_after, concat_use, element_place, element_text, joined, joined_after, both_texts, text_outcome, position_number}
 use Rattle.cc_meaning.specs.Operators.{Outcome, gives, breaks, strict_equal}
 use Rattle.cc_meaning.specs.Rules.{outcome_rule, is_prim}
 use Rattle.cc_meaning.specs.SlotRules.{rule_unless}

@@ -1,5 +1,5 @@
 -- What uses of arrays break, with what they put in.
-use Rattle.std.proofs.Common.{◌≡◌, ◌∙◌, ◌+◌, ℕ, Bool, true, false, ◌&&◌, pos, List, [], ◌∷◌, ◌++◌, length, map, slice_get, Option, Some, None, length-append, refl, sym, ap, arith}
+use Rattle.std.proofs.Common.{◌≡◌, ◌∙◌, ◌+◌, ℕ, Bool, true, false, pos, List, [], ◌∷◌, ◌++◌, length, map, slice_get, Option, Some, None, length-append, refl, sym, ap, arith}
 use Rattle.std.proofs.lemmas.List.{length-map}
 use Rattle.cc_ast.specs.declared.tables.Element.{Element}
 use Rattle.cc_heap.specs.Store.{wanted_in}

@@ -1,10 +1,10 @@
 -- What uses of `Math` and of `String` break.
-use Rattle.std.proofs.Common.{◌≡◌, ◌∙◌, ℕ, ℤ, pos, nat_le, unsigned_abs, Bool, true, false, not, ◌&&◌, cond, List, [], ◌∷◌, ◌++◌, map, Option, Some, None, refl, sym, ap}
+use Rattle.std.proofs.Common.{◌≡◌, ◌∙◌, ℕ, ℤ, pos, nat_le, unsigned_abs, Bool, true, false, not, ◌&&◌, cond, List, [], ◌∷◌, ◌++◌, map, Some, None, refl, sym, ap}
 use Rattle.std.specs.List.{list_all}
 use Rattle.std.proofs.lemmas.List.Folds.{list_all-map}
 use Rattle.cc_ast.specs.Syntax.{whole}
 use Rattle.cc_meaning.specs.Builtins.{math_use, math_max, math_min, math_abs, outermost, string_use, string_of, from_char_codes, codes_after, to_uint16}
-use Rattle.cc_meaning.specs.Operators.{Outcome, gives, breaks, number}
+use Rattle.cc_meaning.specs.Operators.{gives, breaks, number}
 use Rattle.cc_meaning.specs.Rules.{outcome_rule, is_prim}
 use Rattle.cc_meaning.specs.SlotRules.{rule_unless}
 use Rattle.cc_meaning.specs.Values.{Val, prim, obj, out}

@@ -1,8 +1,8 @@
 -- What uses of texts break, by the kinds and the number of their arguments.
-use Rattle.std.proofs.Common.{◌≡◌, ◌∙◌, ℕ, ℤ, Bool, true, false, ◌&&◌, List, [], ◌∷◌, map, Option, Some, None, option_to_list, refl, sym, ap}
+use Rattle.std.proofs.Common.{◌≡◌, ◌∙◌, ℕ, Bool, true, false, ◌&&◌, List, [], ◌∷◌, map, Some, None, option_to_list, refl, sym, ap}
 use Rattle.std.specs.List.{list_all}
 use Rattle.std.proofs.lemmas.List.Folds.{list_all-map}
-use Rattle.cc_ast.specs.Syntax.{whole, text}
+use Rattle.cc_ast.specs.Syntax.{whole}
 use Rattle.cc_meaning.specs.Builtins.{text_use, text_char_at, text_char_code_at, text_index_of, text_last_index_of, text_slice, text_substring}
 use Rattle.cc_meaning.specs.Rules.{outcome_rule}
 use Rattle.cc_meaning.specs.SlotRules.{rule_unless}

@@ -1,4 +1,4 @@
-use Rattle.std.proofs.Common.{◌≡◌, ◌∙◌, ◌+◌, ◌<◌, ℕ, Bool, true, false, cond, List, length, get_or, drop, map, Option, Some, sym, ap}
+use Rattle.std.proofs.Common.{◌≡◌, ◌∙◌, ◌+◌, ◌<◌, ℕ, Bool, true, false, cond, List, length, get_or, drop, map, Some, sym, ap}
 use Rattle.cc_meaning.specs.Builtins.{element_place}
 use Rattle.cc_meaning.specs.Operators.{strict_equal}
 use Rattle.cc_value.specs.Bridge.{value_of}

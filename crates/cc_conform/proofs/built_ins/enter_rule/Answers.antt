@@ -1,4 +1,4 @@
-use Rattle.std.proofs.Common.{◌≡◌, ◌∙◌, ℕ, Bool, List, map, slice_get, Option, Some, None, refl, sym, ap}
+use Rattle.std.proofs.Common.{◌≡◌, ◌∙◌, ℕ, List, map, slice_get, Option, Some, None, refl, sym, ap}
 use Rattle.cc_ast.specs.declared.tables.Element.{Element}
 use Rattle.cc_heap.specs.Store.{wanted_in}
 use Rattle.cc_meaning.specs.Built.{rule_in, from_result}

@@ -1,4 +1,4 @@
-use Rattle.std.proofs.Common.{◌∙◌, List, map, Some, None}
+use Rattle.std.proofs.Common.{◌∙◌, map, Some, None}
 use Rattle.cc_meaning.specs.Shapes.{tables_of}
 use Rattle.cc_value.specs.Bridge.{value_of}
 use Rattle.cc_conform.specs.Bridge.{with_store}

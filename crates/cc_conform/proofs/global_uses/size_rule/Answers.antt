@@ -1,4 +1,4 @@
-use Rattle.std.proofs.Common.{◌∙◌, ℤ, ℕ, nat_le, unsigned_abs, ap}
+use Rattle.std.proofs.Common.{◌∙◌, ℕ, nat_le, unsigned_abs, ap}
 use Rattle.std.specs.Int.{w64}
 use Rattle.std.proofs.lemmas.Int.{to_z-of_z}
 use Rattle.cc_meaning.specs.SlotRules.{rule_unless}

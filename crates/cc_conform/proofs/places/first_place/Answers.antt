@@ -1,5 +1,5 @@
-use Rattle.std.proofs.Common.{◌≡◌, ◌∙◌, Bool, true, false, cond, ℕ, nat_eq, ◌≤◌, List, drop, Option, Some, None, length, refl, sym, ap, arith}
-use Rattle.cc_meaning.specs.Builtins.{begins_with, first_place}
+use Rattle.std.proofs.Common.{◌≡◌, ◌∙◌, Bool, true, false, cond, ℕ, nat_eq, ◌≤◌, List, drop, Some, None, length, sym, ap, arith}
+use Rattle.cc_meaning.specs.Builtins.{first_place}
 use Rattle.cc_conform.proofs.PlaceLemmas.{begins-rest, first-here, first-behind, first-end, begins-nothing}
 use Rattle.cc_conform.proofs.places.first_place.Goals as goal
 

@@ -1,4 +1,4 @@
-use Rattle.std.proofs.Common.{◌≡◌, ◌∙◌, ◌<◌, ◌≤◌, ◌+◌, ℕ, nat_eq, Bool, true, false, cond, List, drop, Option, Some, None, length, refl, sym, ap, arith}
+use Rattle.std.proofs.Common.{◌≡◌, ◌∙◌, ◌<◌, ◌≤◌, ◌+◌, ℕ, nat_eq, Bool, true, false, cond, List, drop, Option, Some, None, length, sym, ap, arith}
 use Rattle.cc_meaning.specs.Builtins.{begins_with, first_of_two, last_place}
 use Rattle.cc_conform.proofs.PlaceLemmas.{begins-rest, last-step, last-end, begins-nothing}
 use Rattle.cc_conform.proofs.places.last_place.Goals as goal

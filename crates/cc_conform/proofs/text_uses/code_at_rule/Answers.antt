@@ -1,4 +1,4 @@
-use Rattle.std.proofs.Common.{◌∙◌, ℤ, pos, int_lt, nat_lt, unsigned_abs, length, sym, ap, rules}
+use Rattle.std.proofs.Common.{◌∙◌, ℤ, pos, int_lt, nat_lt, unsigned_abs, length, sym, ap}
 use Rattle.std.specs.Int.{w64}
 use Rattle.std.proofs.lemmas.Int.{to_z-of_z}
 use Rattle.cc_meaning.specs.SlotRules.{rule_unless}
