@@ -1,23 +1,22 @@
 -- What folding owes for every node, over every kit for which sites don't count and prices add up.
-use Rattle.std.proofs.Common.{◌≡◌, refl, sym, ap, ◌∙◌, ℕ, zero, suc, ◌+◌, ◌^◌, Bool, true, false, List, Option, Some, None, unwrap_or, subst}
+use Rattle.std.proofs.Common.{◌≡◌, refl, sym, ap, ◌∙◌, ℕ, zero, suc, ◌+◌, Bool, true, false, List, Option, Some, None, unwrap_or, subst}
 use Rattle.std.specs.Prelude.{nat_eq, if◌then◌else◌}
-use Rattle.cc_ast.specs.Syntax.{Prim, Expr, Exprs, lit, var, unary, binary, and, or, cond, call, tick, Stmt}
+use Rattle.cc_ast.specs.Syntax.{Prim, Expr, lit, unary, binary, and, or, cond, tick, Stmt}
 use Rattle.cc_ast.specs.declared.operator.BinOp.{BinOp}
 use Rattle.cc_ast.specs.declared.operator.BinOp.TheVariants.{Instance, Has}
 use Rattle.cc_ast.specs.declared.operator.UnOp.{UnOp}
 use Rattle.cc_ast.specs.declared.operator.UnOp.TheVariants.{Void, Delete}
 use Rattle.cc_ast.specs.declared.tree.Ref.{Ref}
-use Rattle.cc_meaning.specs.Values.{Val, prim}
+use Rattle.cc_meaning.specs.Values.{Val}
 use Rattle.cc_meaning.specs.Operators.{Outcome, truthy, unary_of, binary_of}
 use Rattle.cc_meaning.specs.State.{Env, Path}
 use Rattle.cc_meaning.specs.Monad.{M, ret, ◌>>=◌, pick, Mode}
-use Rattle.cc_meaning.specs.Shapes.{site_of}
 use Rattle.cc_meaning.specs.Calls.{Bodies, plain, value}
 use Rattle.cc_meaning.specs.Meaning.{ev}
 use Rattle.cc_tied.specs.Placed.{accesses, variable, builds, reaches}
 use Rattle.cc_tied.proofs.Kit.{Kit}
 use Rattle.cc_tied.proofs.Parts.{V, SiteT, Below, truthy_tied, rel_pick}
-use Rattle.cc_tied.proofs.Laws.{ret_bind, bind_ret, bind_assoc, bind_alike}
+use Rattle.cc_tied.proofs.Laws.{ret_bind}
 use Rattle.cc_tied.proofs.Expressions as E
 use Rattle.cc_tied.proofs.Expressions.{deletes}
 use Rattle.cc_tied.proofs.Valued as W

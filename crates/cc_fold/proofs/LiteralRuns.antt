@@ -1,15 +1,15 @@
 -- An operator on literals runs as the literal that it gives.
-use Rattle.std.proofs.Common.{◌≡◌, refl, sym, ap, ◌∙◌, ℕ, ◌+◌, ◌^◌, Bool, true, false, Option, Some, None, subst}
+use Rattle.std.proofs.Common.{◌≡◌, refl, sym, ap, ◌∙◌, ℕ, ◌+◌, ◌^◌, Bool, true, false, Option, Some, None}
 use Rattle.std.specs.Prelude.{nat_lt, if◌then◌else◌}
-use Rattle.cc_ast.specs.Syntax.{Prim, Expr, lit, unary, binary, and, tick}
+use Rattle.cc_ast.specs.Syntax.{Prim, Expr, lit, unary, binary, tick}
 use Rattle.cc_ast.specs.declared.operator.BinOp.{BinOp}
 use Rattle.cc_ast.specs.declared.operator.BinOp.TheVariants.{Instance, Has}
 use Rattle.cc_ast.specs.declared.operator.UnOp.{UnOp}
 use Rattle.cc_meaning.specs.Values.{Val, prim, obj, out, at_site}
-use Rattle.cc_meaning.specs.Operators.{Outcome, gives, breaks, binary_of, unary_of, truthy}
+use Rattle.cc_meaning.specs.Operators.{Outcome, gives, breaks, binary_of, unary_of}
 use Rattle.cc_meaning.specs.Parts.{exact_prim}
 use Rattle.cc_meaning.specs.State.{Env, Path}
-use Rattle.cc_meaning.specs.Monad.{M, ret, ◌>>=◌, pick, Mode}
+use Rattle.cc_meaning.specs.Monad.{M, ret, ◌>>=◌, Mode}
 use Rattle.cc_meaning.specs.Acts.{operate, operate_one}
 use Rattle.cc_meaning.specs.Calls.{Bodies, value}
 use Rattle.cc_meaning.specs.Meaning.{ev}

@@ -1,14 +1,12 @@
 -- Runs of literals, of what has a price, and of operators on literals.
-use Rattle.std.proofs.Common.{◌≡◌, refl, sym, ap, ◌∙◌, ℕ, zero, suc, ◌+◌, Bool, true, false, List, [], ◌∷◌, Option, Some, None, subst, arith}
-use Rattle.std.specs.Prelude.{if◌then◌else◌}
-use Rattle.cc_ast.specs.Syntax.{Prim, Expr, lit, var, unary, binary, and, or, cond, tick}
+use Rattle.std.proofs.Common.{◌≡◌, refl, sym, ap, ◌∙◌, ℕ, zero, suc, ◌+◌, false, [], ◌∷◌, Option, None, subst, arith}
+use Rattle.cc_ast.specs.Syntax.{Prim, Expr, unary, binary, and, or, cond, tick}
 use Rattle.cc_ast.specs.declared.operator.BinOp.{BinOp}
 use Rattle.cc_ast.specs.declared.operator.BinOp.TheVariants.{Instance, Has}
 use Rattle.cc_ast.specs.declared.operator.UnOp.{UnOp}
 use Rattle.cc_ast.specs.declared.operator.UnOp.TheVariants.{Typeof, Delete}
 use Rattle.cc_meaning.specs.Values.{Val, prim, at_site, Spot}
 use Rattle.cc_meaning.specs.Operators.{Outcome, gives, binary_of, unary_of, truthy}
-use Rattle.cc_meaning.specs.Parts.{exact_prim}
 use Rattle.cc_meaning.specs.State.{Env, Path}
 use Rattle.cc_meaning.specs.Monad.{M, ret, skip, ◌>>=◌, pick, Mode}
 use Rattle.cc_meaning.specs.Rules.{binary_op, unary_op, operate_rule, binary_rule, unary_rule, outcome_rule}
@@ -17,9 +15,8 @@ use Rattle.cc_meaning.specs.Acts.{judged, allowed, operate, operate_one, outcome
 use Rattle.cc_meaning.specs.Calls.{Bodies, Reach, plain, value_of, value, apply_unary}
 use Rattle.cc_meaning.specs.Meaning.{ev}
 use Rattle.cc_tied.proofs.Laws.{ret_bind, bind_ret, bind_assoc, bind_alike}
-use Rattle.cc_tied.proofs.Expressions.{value_literal, deletes}
-use Rattle.cc_tied.proofs.AtValues.{tick_value}
-use Rattle.cc_fold.specs.Fold.{Literal, literal, literal_at, price_of, unmarked, marked}
+use Rattle.cc_tied.proofs.Expressions.{deletes}
+use Rattle.cc_fold.specs.Fold.{price_of, unmarked, marked}
 use Rattle.cc_fold.proofs.Prices.{marked_nothing, marked_more}
 
 -- prices that fall due one after the other cost what they cost together
