@@ -15,7 +15,7 @@ use Rattle.cc_jsdoc.proofs.SymbolLemmas.{word_once, mark_once, no_mark}
 use Rattle.cc_jsdoc.proofs.ViewLemmas.{View, v_name, v_all, v_any, v_nullable, v_not_null, v_variadic, v_union, v_function, v_returning, v_array, v_braced, viewed, unview, completes_follows}
 
 -- what a word can begin
-data ByWord (os : List Open) (us ts : List Alternative) (text : List ℕ) : Type 0 where
+pub data ByWord (os : List Open) (us ts : List Alternative) (text : List ℕ) : Type 0 where
   w_name : {rest : List ℕ} {ws : List (List ℕ)} → IsName text ws rest → Completes os (us ++ of_name ws ∷ []) rest ts → ByWord os us ts text
   w_function : {rest : List ℕ} → IsFunction text rest → Completes os (us ++ one.Simple simple.Function ∷ []) rest ts → ByWord os us ts text
   w_returning : {a b : List ℕ} → IsFunction text a → Mark 58 a b → Awaits (o.Result (length us) ∷ os) us b ts → ByWord os us ts text
@@ -81,13 +81,13 @@ name_then {text} {rest} w a h (last {w = v} k) f = inl (subst (λ x. may_follow 
 name_then {text} {rest} w a h (dotted {w = v} {a = b} {b = d} k m n) f =
     let e = word_once text v w b a k h in let x = begins n in inr (d, x.0, x.1, subst (λ y. Mark 46 y d) e.1 m, x.2)
 
-function_no_name : {A : Type 0} {text r rest : List ℕ} {ws : List (List ℕ)} → IsFunction text r → IsName text ws rest → may_follow (symbol rest) ≡ true → A
+pub function_no_name : {A : Type 0} {text r rest : List ℕ} {ws : List (List ℕ)} → IsFunction text r → IsName text ws rest → may_follow (symbol rest) ≡ true → A
 function_no_name {A} (head {a = a} {b = b} k m l) n f = by (name_then _ a k n f) where
   by : (may_follow (symbol a) ≡ true) ⊎ ((d : List ℕ) × (v : List ℕ) × (q : List ℕ) × Mark 46 a d × Word v d q) → A
   by (inl h) = let x = sym h ∙ ap may_follow m in absurd (cc)
   by (inr (d, v, q, h, i)) = let x = (mark_once a 40 46 b d m h).0 in absurd (omega arith)
 
-array_no_name : {A : Type 0} {text r rest : List ℕ} {ws : List (List ℕ)} → IsArray text r → IsName text ws rest → may_follow (symbol rest) ≡ true → A
+pub array_no_name : {A : Type 0} {text r rest : List ℕ} {ws : List (List ℕ)} → IsArray text r → IsName text ws rest → may_follow (symbol rest) ≡ true → A
 array_no_name {A} {text} {r} (plain {a = a} k m) n f = by (name_then _ a k n f) where
   by : (may_follow (symbol a) ≡ true) ⊎ ((d : List ℕ) × (v : List ℕ) × (q : List ℕ) × Mark 46 a d × Word v d q) → A
   by (inl h) = let x = sym h ∙ ap may_follow m in absurd (cc)
@@ -100,7 +100,7 @@ array_no_name {A} {text} {r} (with_dot {a = a} {b = b} k l m) n f = by (name_the
 -- ---- where a type is due
 
 module _ (os : List Open) (us ts : List Alternative) where
-  by_word : {text w rest : List ℕ} → Word w text rest → View os us ts text → ByWord os us ts text
+  pub by_word : {text w rest : List ℕ} → Word w text rest → View os us ts text → ByWord os us ts text
   by_word m (v_name n k) = w_name n k
   by_word m (v_function f k) = w_function f k
   by_word m (v_returning f n k) = w_returning f n k

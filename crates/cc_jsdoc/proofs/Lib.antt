@@ -12,3 +12,6 @@ pub mod TagLemmas
 pub mod GivesLemmas
 pub mod PieceLemmas
 pub mod CollectLemmas
+pub mod LengthLemmas
+pub mod OnceLemmas
+pub mod DocOnceLemmas

@@ -14,7 +14,7 @@ use Rattle.cc_jsdoc.proofs.SymbolLemmas.{mark_once, no_mark}
 use Rattle.cc_jsdoc.proofs.ViewLemmas.{View, v_name, v_all, v_any, v_nullable, v_not_null, v_variadic, v_union, v_function, v_returning, v_array, v_braced, viewed, unview, completes_follows, type_begins}
 
 -- what a mark can begin, and how the text goes on behind it
-data ByMark (os : List Open) (us ts : List Alternative) : ℕ → List ℕ → Type 0 where
+pub data ByMark (os : List Open) (us ts : List Alternative) : ℕ → List ℕ → Type 0 where
   m_all : {c : ℕ} {rest : List ℕ} → c ≡ 42 → Completes os (us ++ one.Unknown ∷ []) rest ts → ByMark os us ts c rest
   m_any : {c : ℕ} {rest : List ℕ} → c ≡ 63 → Completes os (us ++ one.Unknown ∷ []) rest ts → ByMark os us ts c rest
   m_nullable : {c : ℕ} {rest : List ℕ} → c ≡ 63 → Awaits os us rest ts → ByMark os us ts c rest
@@ -24,7 +24,7 @@ data ByMark (os : List Open) (us ts : List Alternative) : ℕ → List ℕ → T
   m_braced : {c : ℕ} {rest inside end : List ℕ} → c ≡ 123 → Closes 123 125 rest inside end → Completes os (us ++ one.Unknown ∷ []) end ts → ByMark os us ts c rest
 
 module _ (os : List Open) (us ts : List Alternative) where
-  by_mark : {c : ℕ} {text rest : List ℕ} → Mark c text rest → View os us ts text → ByMark os us ts c rest
+  pub by_mark : {c : ℕ} {text rest : List ℕ} → Mark c text rest → View os us ts text → ByMark os us ts c rest
   by_mark {c} {text} {rest} m (v_name n k) = let x = begins n in no_mark text x.0 x.1 c rest x.2 m
   by_mark {c} {text} {rest} m (v_all {rest = r} h k) = let e = mark_once text c 42 rest r m h in m_all e.0 (subst (λ x. Completes os (us ++ one.Unknown ∷ []) x ts) (sym e.1) k)
   by_mark {c} {text} {rest} m (v_any {rest = r} h k) = let e = mark_once text c 63 rest r m h in m_any e.0 (subst (λ x. Completes os (us ++ one.Unknown ∷ []) x ts) (sym e.1) k)

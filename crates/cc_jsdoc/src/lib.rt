@@ -11,6 +11,7 @@ pub mod doc;
 mod expression;
 mod gives;
 mod go_on;
+pub mod laws;
 mod name;
 mod pieces;
 mod reading;

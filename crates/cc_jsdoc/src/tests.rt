@@ -99,89 +99,69 @@ fn value_of(alloc: Global, expr: &str) -> Result<String, AllocError> {
     shown_option(alloc, &doc.value)
 }
 
-#[test]
-fn names_of_types(rt: HostRuntime) -> Result<(), Fail> {
-    let rows = [
-        ("number", "number"),
-        ("string", "string"),
-        ("boolean", "boolean"),
-        ("undefined", "empty"),
-        ("null", "empty"),
-        ("void", "empty"),
-        ("Function", "function"),
-        ("Array", "array"),
-        ("Object", "unknown"),
-        ("Foo", "Foo"),
-        (" goog.foo.Bar ", "goog.foo.Bar"),
-        ("Array.Foo", "Array.Foo"),
-        ("$_.number", "$_.number"),
-        ("é.𝒳\u{200D}", "é.𝒳\u{200D}"),
-        ("function", "function"),
-    ];
-    for (expr, expected) in rows {
-        let value = value_of(rt.alloc(), expr)?;
-        assert_eq!(rt; value.as_str(), expected, "{expr}");
-    }
-    Ok(())
-}
+// A type in each line, and behind the arrow what it means.
+const TYPES: &str = "\
+number→number
+string→string
+boolean→boolean
+undefined→empty
+null→empty
+void→empty
+Function→function
+Array→array
+Object→unknown
+Foo→Foo
+ goog.foo.Bar →goog.foo.Bar
+Array.Foo→Array.Foo
+$_.number→$_.number
+é.𝒳→é.𝒳
+function→function
+*→unknown
+?→unknown
+?Foo→Foo
+!Foo→Foo
+?!Foo==→Foo
+...number→unknown
+(number|string)→number|string
+( number | Foo.Bar )→number|Foo.Bar
+((a|b)|(c|?)=)→a|b|c|unknown
+(number)→number
+function()→function
+function(this:Foo, {a: (b)}): Array<number>=→function
+(function():...*|null)→function|empty
+Array<number>→[number]
+Array.<!Foo>→[Foo]
+Array<Array<number>>→[array]
+Array<?>→array
+Array<(number|{a: (b})>→array
+Array<(A|null|function():*)>→[A|empty|function]
+{a: number, b: {c: d}}→unknown
+number|string→unknown
+(A|B→unknown
+A)→unknown
+(A|)→unknown
+()→unknown
+Foo Bar→unknown
+Foo<T>→unknown
+Array<A,B>→unknown
+Array<A→unknown
+Array.<>→unknown
+a.→unknown
+.a→unknown
+1→unknown
+..A→unknown
+function(a→unknown
+function():→unknown
+!→unknown
+'a'→unknown
+→unknown";
 
 #[test]
-fn types_of_the_grammar(rt: HostRuntime) -> Result<(), Fail> {
-    let rows = [
-        ("*", "unknown"),
-        ("?", "unknown"),
-        ("?Foo", "Foo"),
-        ("!Foo", "Foo"),
-        ("?!Foo==", "Foo"),
-        ("...number", "unknown"),
-        ("(number|string)", "number|string"),
-        ("( number | Foo.Bar )", "number|Foo.Bar"),
-        ("((a|b)|(c|?)=)", "a|b|c|unknown"),
-        ("(number)", "number"),
-        ("function()", "function"),
-        ("function(this:Foo, {a: (b)}): Array<number>=", "function"),
-        ("(function():...*|null)", "function|empty"),
-        ("Array<number>", "[number]"),
-        ("Array.<!Foo>", "[Foo]"),
-        ("Array<Array<number>>", "[array]"),
-        ("Array<?>", "array"),
-        ("Array<(number|{a: (b})>", "array"),
-        ("Array<(A|null|function():*)>", "[A|empty|function]"),
-        ("{a: number, b: {c: d}}", "unknown"),
-    ];
-    for (expr, expected) in rows {
+fn types(rt: HostRuntime) -> Result<(), Fail> {
+    for row in TYPES.lines() {
+        let (expr, expected) = row.split_once('→').ok_or("a row has no arrow")?;
         let value = value_of(rt.alloc(), expr)?;
         assert_eq!(rt; value.as_str(), expected, "{expr}");
-    }
-    Ok(())
-}
-
-#[test]
-fn texts_outside_the_grammar(rt: HostRuntime) -> Result<(), Fail> {
-    let rows = [
-        "",
-        "number|string",
-        "(A|B",
-        "A)",
-        "(A|)",
-        "()",
-        "Foo Bar",
-        "Foo<T>",
-        "Array<A,B>",
-        "Array<A",
-        "Array.<>",
-        "a.",
-        ".a",
-        "1",
-        "..A",
-        "function(a",
-        "function():",
-        "!",
-        "'a'",
-    ];
-    for expr in rows {
-        let value = value_of(rt.alloc(), expr)?;
-        assert_eq!(rt; value.as_str(), "unknown", "{expr}");
     }
     Ok(())
 }
@@ -201,114 +181,105 @@ fn nested_parentheses(rt: HostRuntime) -> Result<(), Fail> {
     Ok(())
 }
 
-#[test]
-fn classes(rt: HostRuntime) -> Result<(), Fail> {
-    let doc = doc_of(rt.alloc(), "/** @constructor */")?;
-    assert_eq!(rt; doc.kind, DocKind::Constructor);
-    assert!(rt; doc.extends.is_none());
-    let doc = doc_of(rt.alloc(), "/** @constructor @extends {Base} */")?;
-    assert_eq!(rt; doc.kind, DocKind::Constructor);
-    let extends = doc.extends.ok_or("no class is extended")?;
-    let names = shown_names(rt.alloc(), &[extends])?;
-    assert_eq!(rt; names.as_str(), "Base;");
-    let doc = doc_of(
-        rt.alloc(),
-        "/** @constructor @interface @extends {A} @extends {(B)} @extends \
-         @implements {C} @implements {! d.E } @implements {?F} */",
-    )?;
-    assert_eq!(rt; doc.kind, DocKind::Interface);
-    let names = shown_names(rt.alloc(), doc.implements.as_slice())?;
-    assert_eq!(rt; names.as_str(), "C;d.E;");
-    let extends = doc.extends.ok_or("no class is extended")?;
-    let names = shown_names(rt.alloc(), &[extends])?;
-    assert_eq!(rt; names.as_str(), "A;");
-    Ok(())
-}
-
-#[test]
-fn parameters_and_results(rt: HostRuntime) -> Result<(), Fail> {
-    let doc = doc_of(rt.alloc(), "/** @param {Base} b */")?;
-    let params = shown_params(rt.alloc(), &doc)?;
-    assert_eq!(rt; params.as_str(), "b:Base;");
-    let doc = doc_of(
-        rt.alloc(),
-        "/**\n * @param {number} a The first.\n *   @param b\r\n\t** @param {(A|\n * B)}\n * c\n\
-         @param {string} a\n * @return {!Foo}\u{2028} @this {Bar} */",
-    )?;
-    let params = shown_params(rt.alloc(), &doc)?;
-    assert_eq!(rt; params.as_str(), "a:string;b:unknown;c:A|B;");
-    let result = shown_option(rt.alloc(), &doc.result)?;
-    assert_eq!(rt; result.as_str(), "Foo");
-    let receiver = shown_option(rt.alloc(), &doc.receiver)?;
-    assert_eq!(rt; receiver.as_str(), "Bar");
-    let doc = doc_of(
-        rt.alloc(),
-        "/** @param {A} @param {A}b @param {A} 1 @param$c @param @return */",
-    )?;
-    let params = shown_params(rt.alloc(), &doc)?;
-    assert_eq!(rt; params.as_str(), "");
-    assert!(rt; doc.result.is_none());
-    Ok(())
-}
-
-fn kind_and_value(alloc: Global, comment: &str) -> Result<(DocKind, String), AllocError> {
-    let doc = doc_of(alloc, comment)?;
-    let value = shown_option(alloc, &doc.value)?;
-    Ok((doc.kind, value))
-}
-
-#[test]
-fn kinds_and_values(rt: HostRuntime) -> Result<(), Fail> {
-    let rows = [
-        ("/***/", DocKind::Plain, "none"),
-        ("", DocKind::Plain, "none"),
-        ("/** @type {P} */", DocKind::Plain, "P"),
-        ("/** @type {A} @type {B} */", DocKind::Plain, "B"),
-        ("/** @type {A} @type */", DocKind::Plain, "A"),
-        ("/** @type\n * {A} */", DocKind::Plain, "A"),
-        ("/** @type {Array<Cat>} */", DocKind::Plain, "[Cat]"),
-        (
-            "/** @type {function({a: b}): {c: d}} */",
-            DocKind::Plain,
-            "function",
-        ),
-        ("/** @enum */", DocKind::Enum, "number"),
-        ("/** @enum {string} */", DocKind::Enum, "string"),
-        ("/** @typedef {A} */", DocKind::Typedef, "A"),
-        ("/** @type {A} @typedef */", DocKind::Plain, "A"),
-        (
-            "/** @typedef {A} @const {B} @constructor @const */",
-            DocKind::Constructor,
-            "B",
-        ),
-        (
-            "/** x@type {A} {@link B} @types {C} @typ {D} */",
-            DocKind::Plain,
-            "none",
-        ),
-        ("/** @type {A @const {B} */", DocKind::Plain, "B"),
-        ("/** @type {*} a * b*/", DocKind::Plain, "unknown"),
-    ];
-    for (comment, kind, value) in rows {
-        let told = kind_and_value(rt.alloc(), comment)?;
-        assert_eq!(rt; told.0, kind, "{comment}");
-        assert_eq!(rt; told.1.as_str(), value, "{comment}");
+fn kind_name(kind: DocKind) -> &'static str {
+    match kind {
+        DocKind::Plain => "plain",
+        DocKind::Constructor => "constructor",
+        DocKind::Interface => "interface",
+        DocKind::Enum => "enum",
+        DocKind::Typedef => "typedef",
     }
-    Ok(())
 }
 
+// The kind of a comment, the names of its classes and the types of its parameters.
+fn kind_shown(alloc: Global, doc: &Doc) -> Result<String, AllocError> {
+    let mut text = String::from_str(alloc, kind_name(doc.kind))?;
+    text.push(' ')?;
+    if let Some(name) = &doc.extends {
+        push_name(&mut text, alloc, name)?;
+    }
+    text.push(' ')?;
+    let implements = shown_names(alloc, doc.implements.as_slice())?;
+    text.push_str(implements.as_str())?;
+    text.push(' ')?;
+    let params = shown_params(alloc, doc)?;
+    text.push_str(params.as_str())?;
+    Ok(text)
+}
+
+// The types and the marks of a comment.
+fn types_shown(alloc: Global, doc: &Doc) -> Result<String, AllocError> {
+    let value = shown_option(alloc, &doc.value)?;
+    let result = shown_option(alloc, &doc.result)?;
+    let receiver = shown_option(alloc, &doc.receiver)?;
+    let mut text = format!(in alloc; "{value} {result} {receiver}")?;
+    if doc.constant {
+        text.push_str(" const")?;
+    }
+    if doc.define {
+        text.push_str(" define")?;
+    }
+    if doc.export {
+        text.push_str(" export")?;
+    }
+    if doc.nocollapse {
+        text.push_str(" nocollapse")?;
+    }
+    if doc.licence {
+        text.push_str(" licence")?;
+    }
+    Ok(text)
+}
+
+// What a comment says, in which `¶` is a line end.
+fn told(alloc: Global, comment: &str) -> Result<String, AllocError> {
+    let comment = comment.replace(alloc, '¶', "\n")?;
+    let doc = doc_of(alloc, comment.as_str())?;
+    let kind = kind_shown(alloc, &doc)?;
+    let types = types_shown(alloc, &doc)?;
+    format!(in alloc; "{kind}, {types}")
+}
+
+// A comment in each line, and behind the arrow its kind, the class that it extends, those that it
+// implements, its parameters, its value, result and receiver, and its marks.
+const COMMENTS: &str = "\
+→plain   , none none none
+/***/→plain   , none none none
+/** @constructor */→constructor   , none none none
+/** @constructor @extends {Base} */→constructor Base  , none none none
+/** @interface @extends {A} @extends {(B)} @extends */→interface A  , none none none
+/** @implements {C} @implements {! d.E } @implements {?F} @implements C */→plain  C;d.E; , none none none
+/** @constructor @interface */→interface   , none none none
+/** @param {Base} b */→plain   b:Base;, none none none
+/**¶ * @param {number} a The first.¶ *   @param b¶\t** @param {(A|¶ * B)}¶ * c¶@param {string} a¶ */→plain   a:string;b:unknown;c:A|B;, none none none
+/** @param {A} @param {A}b @param {A} 1 @param$c @param */→plain   , none none none
+/** @return {!Foo} @this {Bar} @return @this */→plain   , none Foo Bar
+/** @returns {A} @typ {B} x@type {C} {@type {D}} */→plain   , none none none
+/** @type {P} */→plain   , P none none
+/** @type {A} @type {B} */→plain   , B none none
+/** @type {A} @type */→plain   , A none none
+/**@type{A}*/→plain   , A none none
+/** @type¶ * {A} */→plain   , A none none
+/** @type {Array<Cat>} */→plain   , [Cat] none none
+/** @type {function({a: b}): {c: d}} */→plain   , function none none
+/** @type {*} a * b*/→plain   , unknown none none
+/** @type {A @const {B} */→plain   , B none none const
+/** @param {A @const {B}} c */→plain   , B none none const
+/** @enum */→enum   , number none none
+/** @enum {string} */→enum   , string none none
+/** @typedef {A} */→typedef   , A none none
+/** @type {A} @typedef */→plain   , A none none
+/** @typedef {A} @const {B} @constructor @const */→constructor   , B none none const
+/** @define {boolean} */→plain   , boolean none none define
+/** @license X */→plain   , none none none licence
+/** @preserve @export¶ * @nocollapse @const */→plain   , none none none const export nocollapse licence";
+
 #[test]
-fn marks(rt: HostRuntime) -> Result<(), Fail> {
-    let doc = doc_of(rt.alloc(), "/** @define {boolean} */")?;
-    assert!(rt; doc.define && !doc.constant);
-    let value = shown_option(rt.alloc(), &doc.value)?;
-    assert_eq!(rt; value.as_str(), "boolean");
-    let doc = doc_of(rt.alloc(), "/** @license X */")?;
-    assert!(rt; doc.licence && !doc.export);
-    let doc = doc_of(
-        rt.alloc(),
-        "/** @preserve @export\n * @nocollapse @const */",
-    )?;
-    assert!(rt; doc.licence && doc.export && doc.nocollapse && doc.constant && !doc.define);
+fn comments(rt: HostRuntime) -> Result<(), Fail> {
+    for row in COMMENTS.lines() {
+        let (comment, expected) = row.split_once('→').ok_or("a row has no arrow")?;
+        let said = told(rt.alloc(), comment)?;
+        assert_eq!(rt; said.as_str(), expected, "{comment}");
+    }
     Ok(())
 }
