@@ -1,0 +1,156 @@
+-- What is wrong with words, and what of it is answered.
+use Rattle.std.specs.Prelude.{◌≡◌, ◌⊎◌, ℕ, ◌+◌, ◌*◌, ◌<◌, ◌≤◌, List, [], Bool, true, false, not, ◌&&◌, ◌||◌, Option, Some, slice_get, take, count_by, option_and_then, is_some, codes}
+use Rattle.std.specs.Str.{bytes_eq}
+use Rattle.std.specs.Option.{option_map_or}
+use Rattle.std.specs.List.{list_any}
+use Rattle.cc_ast.specs.declared.reading.LimitKind.TheVariants as limit
+use Rattle.cc_flags.specs.declared.cut.Stop.{Stop}
+use Rattle.cc_flags.specs.declared.flag.Call.{Call}
+use Rattle.cc_flags.specs.declared.flag.Call.TheVariants as call
+use Rattle.cc_flags.specs.declared.flag.Flag.{Flag}
+use Rattle.cc_flags.specs.declared.flag.Flag.TheVariants as flag
+use Rattle.cc_flags.specs.declared.usage.Usage.{Usage}
+use Rattle.cc_flags.specs.declared.usage.Usage.TheVariants.{Word, Limit, Memory}
+use Rattle.cc_flags.specs.declared.usage.UsageKind.{UsageKind}
+use Rattle.cc_flags.specs.declared.usage.UsageKind.TheVariants as kind
+use Rattle.cc_flags.specs.Numbers.{decimal}
+use Rattle.cc_flags.specs.Flags.{row_of, is_once, same}
+use Rattle.cc_flags.specs.Words.{Setting, has_flag, is_given, sources_of, value_for, value_of, chunk_names}
+use Rattle.cc_flags.specs.Values.{HasForm}
+
+-- setting i, which begins at this word, is a flag
+pub record IsFlagAt (ss : List Setting) (i at : ℕ) (f : Flag) : Type 0 where
+  pub setting : Setting
+  pub found : slice_get ss i ≡ Some setting
+  pub word : setting.at ≡ at
+  pub flag : setting.flag ≡ Some f
+
+-- ---- faults of a word's form
+
+-- a flag has a value that isn't of its form, or none where it needs one
+pub record IsOutOfForm (ss : List Setting) (at : ℕ) : Type 0 where
+  pub i : ℕ
+  pub setting : Setting
+  pub found : slice_get ss i ≡ Some setting
+  pub word : setting.at ≡ at
+  pub f : Flag
+  pub flag : setting.flag ≡ Some f
+  pub no_form : ¬ HasForm (chunk_names ss) (row_of f).form setting.value
+
+-- a flag that may be given once is given by an earlier setting
+pub record IsRepeated (ss : List Setting) (at : ℕ) : Type 0 where
+  pub i : ℕ
+  pub f : Flag
+  pub this : IsFlagAt ss i at f
+  pub once : is_once f ≡ true
+  pub earlier : is_given f (take i ss) ≡ true
+
+-- ---- flags that don't stand together
+
+abbrev pub is_output : Flag → Bool
+is_output f = same f flag.JsOutputFile || same f flag.OutputWrapper
+
+-- one file doesn't stand with chunks, and generated input with no flag but `workers`
+abbrev pub is_against : Flag → Flag → Bool
+is_against f g = (is_output f && same g flag.Chunk)
+    || (same f flag.Synthesize && not (same g flag.Workers || same g flag.Synthesize))
+
+abbrev pub keeps_apart : Flag → Setting → Bool
+keeps_apart f s = option_map_or (λ g. is_against f g || is_against g f) s.flag false
+
+-- these say something of chunks
+abbrev pub needs_chunks : Flag → Bool
+needs_chunks f = same f flag.ChunkWrapper || same f flag.ChunkOutputPathPrefix
+
+-- a flag that doesn't stand with an earlier one, or not without chunks
+pub record IsTogether (ss : List Setting) (at : ℕ) : Type 0 where
+  pub i : ℕ
+  pub f : Flag
+  pub this : IsFlagAt ss i at f
+  pub why : (list_any (keeps_apart f) (take i ss) ≡ true) ⊎ ((needs_chunks f ≡ true) × (is_given flag.Chunk ss ≡ false))
+
+-- ---- what is missing
+
+-- a switch is on where it is given and its value isn't `=false`
+abbrev pub turns_on : Flag → Setting → Bool
+turns_on f s = has_flag f s && not (option_map_or (λ v. bytes_eq v (codes "false")) s.value false)
+
+abbrev pub is_on : Flag → List Setting → Bool
+is_on f ss = list_any (turns_on f) ss
+
+abbrev pub has_output : Call → List Setting → Bool
+has_output call.Compile ss = is_given flag.JsOutputFile ss || is_given flag.Chunk ss || is_given flag.Synthesize ss || is_on flag.ChecksOnly ss
+has_output call.Replay ss = is_some (value_of flag.Script ss)
+
+-- ---- limits
+
+-- a file: a source, externs or a script
+abbrev pub is_file : Setting → Bool
+is_file s = option_map_or (λ f. same f flag.Js || same f flag.Externs || same f flag.Script) s.flag true
+
+-- a setting that counts, behind as many as there may be
+pub record IsBeyond (counts : Setting → Bool) (most : ℕ) (ss : List Setting) (at : ℕ) : Type 0 where
+  pub i : ℕ
+  pub setting : Setting
+  pub found : slice_get ss i ≡ Some setting
+  pub word : setting.at ≡ at
+  pub counted : counts setting ≡ true
+  pub behind : count_by counts (take i ss) ≡ most
+
+-- more workers than there may be
+pub record AsksTooManyWorkers (ss : List Setting) (at : ℕ) : Type 0 where
+  pub i : ℕ
+  pub setting : Setting
+  pub found : slice_get ss i ≡ Some setting
+  pub word : setting.at ≡ at
+  pub n : ℕ
+  pub asked : option_and_then decimal (value_for flag.Workers setting) ≡ Some n
+  pub beyond : 64 < n
+
+-- ---- all of it
+
+-- A fault of the words of a call that are cut into these settings and this stop. `count` is the
+-- number of words.
+pub data HasFault (which : Call) (ss : List Setting) (count : ℕ) : Option Stop → Usage → Type 0 where
+  stopped : {s : Stop} → HasFault which ss count (Some s) (Word s.at s.kind)
+  out_of_form : {stop : Option Stop} {at : ℕ} → IsOutOfForm ss at → HasFault which ss count stop (Word at kind.Value)
+  repeated : {stop : Option Stop} {at : ℕ} → IsRepeated ss at → HasFault which ss count stop (Word at kind.Repeated)
+  together : {stop : Option Stop} {at : ℕ} → IsTogether ss at → HasFault which ss count stop (Word at kind.Together)
+  no_source : {stop : Option Stop} → sources_of ss ≡ [] → is_given flag.Synthesize ss ≡ false → HasFault which ss count stop (Word count kind.MissingJs)
+  no_output : {stop : Option Stop} → has_output which ss ≡ false → HasFault which ss count stop (Word count kind.MissingOutput)
+  files : {stop : Option Stop} {at : ℕ} → IsBeyond is_file 1024 ss at → HasFault which ss count stop (Limit at limit.Files)
+  chunks : {stop : Option Stop} {at : ℕ} → IsBeyond (has_flag flag.Chunk) 256 ss at → HasFault which ss count stop (Limit at limit.Chunks)
+  workers : {stop : Option Stop} {at : ℕ} → AsksTooManyWorkers ss at → HasFault which ss count stop (Limit at limit.Workers)
+
+-- Faults are answered in this order: those of a word's form, flags that don't stand together, what
+-- is missing, limits; among each the least word, and at one word in the order of the kinds.
+abbrev pub stage_of : UsageKind → ℕ
+stage_of kind.Unknown = 0
+stage_of kind.NoValue = 0
+stage_of kind.Value = 0
+stage_of kind.Repeated = 0
+stage_of kind.Together = 1
+stage_of kind.MissingJs = 2
+stage_of kind.MissingOutput = 3
+
+abbrev pub stage : Usage → ℕ
+stage (Word at k) = stage_of k
+stage (Limit at k) = 4
+stage Memory = 5
+
+abbrev pub order_of : UsageKind → ℕ
+order_of kind.Unknown = 0
+order_of kind.NoValue = 1
+order_of kind.Value = 2
+order_of kind.Repeated = 3
+order_of kind.Together = 0
+order_of kind.MissingJs = 0
+order_of kind.MissingOutput = 0
+
+abbrev pub place : Usage → ℕ
+place (Word at k) = 4 * at + order_of k
+place (Limit at k) = 4 * at
+place Memory = 0
+
+abbrev pub GoesBefore : Usage → Usage → Type 0
+GoesBefore u v = (stage u < stage v) ⊎ ((stage u ≡ stage v) × (place u ≤ place v))

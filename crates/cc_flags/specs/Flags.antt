@@ -1,0 +1,96 @@
+-- The table of flags.
+use Rattle.std.specs.Prelude.{ℕ, List, [], ◌∷◌, Bool, true, false, not, if◌then◌else◌, Option, Some, None, option_and_then, codes, map, find}
+use Rattle.std.specs.Str.{bytes_eq}
+use denote.Enum.Bare.{sameb}
+use Rattle.cc_flags.specs.declared.flag.Call.{Call}
+use Rattle.cc_flags.specs.declared.flag.Call.TheVariants.{Compile, Replay}
+use Rattle.cc_flags.specs.declared.flag.Flag.{Flag}
+use Rattle.cc_flags.specs.declared.flag.Flag.TheVariants as flag
+use Rattle.cc_flags.specs.contracts.flag.Flag as the_flag
+
+-- what a value may be (specs/Values.antt)
+pub data Form : Type 0 where
+  any_text chunk chunk_wrapper output_wrapper define switch level workers synthesis bound : Form
+
+-- how often a flag may be given
+pub data Times : Type 0 where
+  once any : Times
+
+-- which calls know it
+pub data Callers : Type 0 where
+  compiling replaying both : Callers
+
+pub record Row : Type 0 where
+  pub flag : Flag
+  pub name : List ℕ
+  pub form : Form
+  pub times : Times
+  pub callers : Callers
+
+abbrev pub row : Flag → List ℕ → Form → Times → Callers → Row
+row flag name form times callers = record { flag = flag; name = name; form = form; times = times; callers = callers }
+
+abbrev pub row_of : Flag → Row
+row_of flag.Js = row flag.Js (codes "js") any_text any both
+row_of flag.Externs = row flag.Externs (codes "externs") any_text any both
+row_of flag.JsOutputFile = row flag.JsOutputFile (codes "js_output_file") any_text once compiling
+row_of flag.Chunk = row flag.Chunk (codes "chunk") chunk any both
+row_of flag.ChunkOutputPathPrefix = row flag.ChunkOutputPathPrefix (codes "chunk_output_path_prefix") any_text once compiling
+row_of flag.ChunkWrapper = row flag.ChunkWrapper (codes "chunk_wrapper") chunk_wrapper any compiling
+row_of flag.OutputWrapper = row flag.OutputWrapper (codes "output_wrapper") output_wrapper once compiling
+row_of flag.Define = row flag.Define (codes "define") define any both
+row_of flag.GenerateExports = row flag.GenerateExports (codes "generate_exports") switch once both
+row_of flag.ChecksOnly = row flag.ChecksOnly (codes "checks_only") switch once compiling
+row_of flag.Plain = row flag.Plain (codes "plain") switch once replaying
+row_of flag.CompilationLevel = row flag.CompilationLevel (codes "compilation_level") level once compiling
+row_of flag.Workers = row flag.Workers (codes "workers") workers once compiling
+row_of flag.Synthesize = row flag.Synthesize (codes "synthesize") synthesis once compiling
+row_of flag.Script = row flag.Script (codes "script") any_text once replaying
+row_of flag.Bound = row flag.Bound (codes "bound") bound once replaying
+
+abbrev pub table : List Row
+table = map row_of (flag.Js ∷ flag.Externs ∷ flag.JsOutputFile ∷ flag.Chunk ∷ flag.ChunkOutputPathPrefix ∷ flag.ChunkWrapper
+    ∷ flag.OutputWrapper ∷ flag.Define ∷ flag.GenerateExports ∷ flag.ChecksOnly ∷ flag.Plain ∷ flag.CompilationLevel
+    ∷ flag.Workers ∷ flag.Synthesize ∷ flag.Script ∷ flag.Bound ∷ [])
+
+abbrev pub knows : Call → Callers → Bool
+knows Compile compiling = true
+knows Compile replaying = false
+knows Compile both = true
+knows Replay compiling = false
+knows Replay replaying = true
+knows Replay both = true
+
+unfoldable pub row_named : List ℕ → Option Row
+row_named name = find (λ r. bytes_eq r.name name) table
+
+-- the flag of this name, where the call knows it
+abbrev pub flag_named : Call → List ℕ → Option Flag
+flag_named call name = option_and_then (λ r. if knows call r.callers then Some r.flag else None) (row_named name)
+
+-- a flag that isn't a switch needs a value
+abbrev pub is_switch : Form → Bool
+is_switch switch = true
+is_switch any_text = false
+is_switch chunk = false
+is_switch chunk_wrapper = false
+is_switch output_wrapper = false
+is_switch define = false
+is_switch level = false
+is_switch workers = false
+is_switch synthesis = false
+is_switch bound = false
+
+abbrev pub needs_value : Flag → Bool
+needs_value f = not (is_switch (row_of f).form)
+
+abbrev pub is_single : Times → Bool
+is_single once = true
+is_single any = false
+
+abbrev pub is_once : Flag → Bool
+is_once f = is_single (row_of f).times
+
+-- two flags are the same
+abbrev pub same : Flag → Flag → Bool
+same f g = sameb the_flag.the_type f g

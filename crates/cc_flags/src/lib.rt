@@ -1,0 +1,13 @@
+//! The words of a command line: which job they ask for, or the first thing that is wrong with
+//! them. `read_words` serves the calls that compile, `read_replay` the one that replays; both
+//! answer exactly what specs/Readings.antt says of the words, by the table of flags in
+//! specs/Flags.antt.
+#![tactic(auto)]
+
+mod cut;
+mod flag;
+mod job;
+mod usage;
+
+pub use job::{Define, DefineValue, Job, Output, ReplayJob, Synthesis, Wrapper};
+pub use usage::{Usage, UsageKind};
