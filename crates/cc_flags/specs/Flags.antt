@@ -1,5 +1,5 @@
 -- The table of flags.
-use Rattle.std.specs.Prelude.{ℕ, List, [], ◌∷◌, Bool, true, false, not, if◌then◌else◌, Option, Some, None, option_and_then, codes, map, find}
+use Rattle.std.specs.Prelude.{ℕ, List, [], ◌∷◌, Bool, true, false, not, if◌then◌else◌, Option, Some, None, option_and_then, codes, find}
 use Rattle.std.specs.Str.{bytes_eq}
 use denote.Enum.Bare.{sameb}
 use Rattle.cc_flags.specs.declared.flag.Call.{Call}
@@ -20,38 +20,38 @@ pub data Times : Type 0 where
 pub data Callers : Type 0 where
   compiling replaying both : Callers
 
+-- a row of the table
 pub record Row : Type 0 where
-  pub flag : Flag
   pub name : List ℕ
   pub form : Form
   pub times : Times
   pub callers : Callers
 
-abbrev pub row : Flag → List ℕ → Form → Times → Callers → Row
-row flag name form times callers = record { flag = flag; name = name; form = form; times = times; callers = callers }
+abbrev pub row : List ℕ → Form → Times → Callers → Row
+row name form times callers = record { name = name; form = form; times = times; callers = callers }
 
 abbrev pub row_of : Flag → Row
-row_of flag.Js = row flag.Js (codes "js") any_text any both
-row_of flag.Externs = row flag.Externs (codes "externs") any_text any both
-row_of flag.JsOutputFile = row flag.JsOutputFile (codes "js_output_file") any_text once compiling
-row_of flag.Chunk = row flag.Chunk (codes "chunk") chunk any both
-row_of flag.ChunkOutputPathPrefix = row flag.ChunkOutputPathPrefix (codes "chunk_output_path_prefix") any_text once compiling
-row_of flag.ChunkWrapper = row flag.ChunkWrapper (codes "chunk_wrapper") chunk_wrapper any compiling
-row_of flag.OutputWrapper = row flag.OutputWrapper (codes "output_wrapper") output_wrapper once compiling
-row_of flag.Define = row flag.Define (codes "define") define any both
-row_of flag.GenerateExports = row flag.GenerateExports (codes "generate_exports") switch once both
-row_of flag.ChecksOnly = row flag.ChecksOnly (codes "checks_only") switch once compiling
-row_of flag.Plain = row flag.Plain (codes "plain") switch once replaying
-row_of flag.CompilationLevel = row flag.CompilationLevel (codes "compilation_level") level once compiling
-row_of flag.Workers = row flag.Workers (codes "workers") workers once compiling
-row_of flag.Synthesize = row flag.Synthesize (codes "synthesize") synthesis once compiling
-row_of flag.Script = row flag.Script (codes "script") any_text once replaying
-row_of flag.Bound = row flag.Bound (codes "bound") bound once replaying
+row_of flag.Js = row (codes "js") any_text any both
+row_of flag.Externs = row (codes "externs") any_text any both
+row_of flag.JsOutputFile = row (codes "js_output_file") any_text once compiling
+row_of flag.Chunk = row (codes "chunk") chunk any both
+row_of flag.ChunkOutputPathPrefix = row (codes "chunk_output_path_prefix") any_text once compiling
+row_of flag.ChunkWrapper = row (codes "chunk_wrapper") chunk_wrapper any compiling
+row_of flag.OutputWrapper = row (codes "output_wrapper") output_wrapper once compiling
+row_of flag.Define = row (codes "define") define any both
+row_of flag.GenerateExports = row (codes "generate_exports") switch once both
+row_of flag.ChecksOnly = row (codes "checks_only") switch once compiling
+row_of flag.Plain = row (codes "plain") switch once replaying
+row_of flag.CompilationLevel = row (codes "compilation_level") level once compiling
+row_of flag.Workers = row (codes "workers") workers once compiling
+row_of flag.Synthesize = row (codes "synthesize") synthesis once compiling
+row_of flag.Script = row (codes "script") any_text once replaying
+row_of flag.Bound = row (codes "bound") bound once replaying
 
-abbrev pub table : List Row
-table = map row_of (flag.Js ∷ flag.Externs ∷ flag.JsOutputFile ∷ flag.Chunk ∷ flag.ChunkOutputPathPrefix ∷ flag.ChunkWrapper
+abbrev pub every_flag : List Flag
+every_flag = flag.Js ∷ flag.Externs ∷ flag.JsOutputFile ∷ flag.Chunk ∷ flag.ChunkOutputPathPrefix ∷ flag.ChunkWrapper
     ∷ flag.OutputWrapper ∷ flag.Define ∷ flag.GenerateExports ∷ flag.ChecksOnly ∷ flag.Plain ∷ flag.CompilationLevel
-    ∷ flag.Workers ∷ flag.Synthesize ∷ flag.Script ∷ flag.Bound ∷ [])
+    ∷ flag.Workers ∷ flag.Synthesize ∷ flag.Script ∷ flag.Bound ∷ []
 
 abbrev pub knows : Call → Callers → Bool
 knows Compile compiling = true
@@ -61,12 +61,12 @@ knows Replay compiling = false
 knows Replay replaying = true
 knows Replay both = true
 
-unfoldable pub row_named : List ℕ → Option Row
-row_named name = find (λ r. bytes_eq r.name name) table
+unfoldable pub flag_by_name : List ℕ → Option Flag
+flag_by_name name = find (λ f. bytes_eq (row_of f).name name) every_flag
 
 -- the flag of this name, where the call knows it
-abbrev pub flag_named : Call → List ℕ → Option Flag
-flag_named call name = option_and_then (λ r. if knows call r.callers then Some r.flag else None) (row_named name)
+abbrev pub known_flag : Call → List ℕ → Option Flag
+known_flag call name = option_and_then (λ f. if knows call (row_of f).callers then Some f else None) (flag_by_name name)
 
 -- a flag that isn't a switch needs a value
 abbrev pub is_switch : Form → Bool

@@ -1,13 +1,18 @@
 -- Numbers that words write.
-use Rattle.std.specs.Prelude.{ℕ, ◌-◌, ◌^◌, ℤ, pos, neg_ℤ, List, [], ◌∷◌, not, ◌&&◌, ◌||◌, ◌==◌, nat_le, if◌then◌else◌, Option, Some, None, option_map, length}
-use Rattle.std.specs.List.{list_all}
-use Rattle.cc_text.specs.Characters.{is_digit}
-use Rattle.cc_text.specs.Whole.{value_in}
+use Rattle.std.specs.Prelude.{ℕ, ◌-◌, ◌^◌, ℤ, pos, neg_ℤ, List, [], ◌∷◌, Bool, not, ◌&&◌, ◌==◌, nat_le, nat_lt, if◌then◌else◌, Option, Some, None, option_map, length, slice_index}
+use Rattle.std.specs.Str.{all_ascii_digits}
+use Rattle.std.specs.Str.Parse.{digits_value}
 
--- the number of a decimal, which has no sign and no leading zero
+abbrev pub has_leading_zero : List ℕ → Bool
+has_leading_zero digits = nat_lt 1 (length digits) && slice_index digits 0 == 48
+
+-- digits, without a sign and without a leading zero
+abbrev pub is_decimal : List ℕ → Bool
+is_decimal text = not (length text == 0) && not (has_leading_zero text) && all_ascii_digits text
+
+-- the number of a decimal
 unfoldable pub decimal : List ℕ → Option ℕ
-decimal [] = None
-decimal (c ∷ cs) = if list_all is_digit (c ∷ cs) && (not (c == 48) || length cs == 0) then Some (value_in 10 0 (c ∷ cs)) else None
+decimal text = if is_decimal text then Some (digits_value 10 text) else None
 
 -- the number, where it lies between these two
 abbrev pub within : ℕ → ℕ → Option ℕ → Option ℕ

@@ -9,7 +9,7 @@ use Rattle.cc_flags.specs.declared.flag.Flag.{Flag}
 use Rattle.cc_flags.specs.declared.flag.Flag.TheVariants as flag
 use Rattle.cc_flags.specs.declared.usage.UsageKind.TheVariants as kind
 use Rattle.cc_flags.specs.Texts.{before, behind}
-use Rattle.cc_flags.specs.Flags.{flag_named, needs_value, same}
+use Rattle.cc_flags.specs.Flags.{known_flag, needs_value, same}
 
 -- A source file, which has no flag, or a flag with its value, if it has one; and the number of its
 -- first word.
@@ -30,7 +30,7 @@ pub data Word : Type 0 where
 
 unfoldable pub word_of : Call → List ℕ → Word
 word_of call w = if starts_with nat_eq w (codes "--")
-    then option_map_or (λ f. known f (behind 61 (drop 2 w))) (flag_named call (before 61 (drop 2 w))) unknown
+    then option_map_or (λ f. known f (behind 61 (drop 2 w))) (known_flag call (before 61 (drop 2 w))) unknown
     else source
 
 -- The words from number `at` on are cut into these settings. A flag that needs a value and has no

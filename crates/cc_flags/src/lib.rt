@@ -7,6 +7,8 @@
 mod cut;
 mod flag;
 mod job;
+mod number;
+mod text;
 mod usage;
 
 pub use job::{Define, DefineValue, Job, Output, ReplayJob, Synthesis, Wrapper};
