@@ -1,3 +1,4 @@
 pub mod FlagLaws
 pub mod TextLaws
 pub mod NumberLaws
+pub mod CutLaws

@@ -6,3 +6,4 @@ pub mod Values
 pub mod Faults
 pub mod Jobs
 pub mod Readings
+pub mod Cutting
