@@ -2,3 +2,4 @@ pub mod FlagLaws
 pub mod TextLaws
 pub mod NumberLaws
 pub mod CutLaws
+pub mod ChunkLaws

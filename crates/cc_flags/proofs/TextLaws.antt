@@ -8,7 +8,7 @@ use Rattle.std.proofs.lemmas.List.{at_drop_more, at_drop_all, take_rest}
 use Rattle.std.specs.Option.{MatchOption}
 use Rattle.std.specs.declared.option.Option.{Option}
 use denote.Ref.{Bor}
-use Rattle.cc_flags.specs.Texts.{before, behind, places}
+use Rattle.cc_flags.specs.Texts.{before, behind, pieces, begun_with, places}
 
 -- a byte that isn't c at the head of a text without c
 other_head : (c x : ℕ) (xs : List ℕ) → ((i : ℕ) → i < length (x ∷ xs) → get_or (x ∷ xs) i 0 ≢ c) → (x == c) ≡ false
@@ -36,6 +36,37 @@ pub behind-first : (c : ℕ) (xs ys : List ℕ) → ((i : ℕ) → i < length xs
 unfolding behind
 behind-first c [] ys none = let here : (c == c) ≡ true = search arith in rw here refl
 behind-first c (x ∷ xs) ys none = rw (other_head c x xs none) (behind-first c xs ys (others c x xs none))
+
+-- ---- pieces
+
+one_step : (here : Bool) (x : ℕ) (xs front : List ℕ) (rest : Option (List ℕ)) (ps : List (List ℕ)) → (rest ≡ None → ps ≡ front ∷ [])
+    → cond here (Some xs) rest ≡ None → cond here ([] ∷ ps) (begun_with x ps) ≡ cond here [] (x ∷ front) ∷ []
+one_step true x xs front rest ps more e = cc
+one_step false x xs front rest ps more e = ap (begun_with x) (more e)
+
+pub pieces-one : (c : ℕ) (xs : List ℕ) → behind c xs ≡ None → pieces c xs ≡ before c xs ∷ []
+unfolding before behind pieces
+pieces-one c [] e = refl
+pieces-one c (x ∷ xs) e = one_step (x == c) x xs (before c xs) (behind c xs) (pieces c xs) (pieces-one c xs) e
+
+more_step : (here : Bool) (x : ℕ) (xs front ys : List ℕ) (rest : Option (List ℕ)) (ps qs : List (List ℕ)) → (rest ≡ Some ys → ps ≡ front ∷ qs)
+    → (xs ≡ ys → ps ≡ qs) → cond here (Some xs) rest ≡ Some ys → cond here ([] ∷ ps) (begun_with x ps) ≡ cond here [] (x ∷ front) ∷ qs
+more_step true x xs front ys rest ps qs more same e = ap (λ zs. [] ∷ zs) (same (let k : xs ≡ ys = cc in k))
+more_step false x xs front ys rest ps qs more same e = ap (begun_with x) (more e)
+
+pub pieces-more : (c : ℕ) (xs ys : List ℕ) → behind c xs ≡ Some ys → pieces c xs ≡ before c xs ∷ pieces c ys
+unfolding before behind pieces
+pieces-more c [] ys e = cc
+pieces-more c (x ∷ xs) ys e = more_step (x == c) x xs (before c xs) ys (behind c xs) (pieces c xs) (pieces c ys) (pieces-more c xs ys) (ap (pieces c)) e
+
+shorter_step : (here : Bool) (xs ys : List ℕ) (rest : Option (List ℕ)) → (rest ≡ Some ys → length ys < length xs) → cond here (Some xs) rest ≡ Some ys → length ys < length xs + 1
+shorter_step true xs ys rest more e = let same : xs ≡ ys = cc in omega (arith, ap length same)
+shorter_step false xs ys rest more e = omega (arith, more e)
+
+pub behind-shorter : (c : ℕ) (xs ys : List ℕ) → behind c xs ≡ Some ys → length ys < length xs
+unfolding behind
+behind-shorter c [] ys e = cc
+behind-shorter c (x ∷ xs) ys e = omega (arith, shorter_step (x == c) xs ys (behind c xs) (behind-shorter c xs ys) e)
 
 -- ---- the places of a marker
 

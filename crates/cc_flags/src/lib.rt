@@ -4,6 +4,7 @@
 //! specs/Flags.antt.
 #![tactic(auto)]
 
+mod chunk;
 mod cut;
 mod flag;
 mod job;
