@@ -3,3 +3,4 @@ pub mod TextLaws
 pub mod NumberLaws
 pub mod CutLaws
 pub mod ChunkLaws
+pub mod QuoteLaws

@@ -7,3 +7,4 @@ pub mod Faults
 pub mod Jobs
 pub mod Readings
 pub mod Cutting
+pub mod Quoting

@@ -6,6 +6,7 @@
 
 mod chunk;
 mod cut;
+mod define;
 mod flag;
 mod job;
 mod number;
