@@ -7,10 +7,9 @@ use Rattle.cc_flags.specs.declared.flag.Call.TheVariants.{Compile, Replay}
 use Rattle.cc_flags.specs.declared.flag.Flag.{Flag}
 use Rattle.cc_flags.specs.declared.flag.Flag.TheVariants as flag
 use Rattle.cc_flags.specs.contracts.flag.Flag as the_flag
-
--- what a value may be (specs/Values.antt)
-pub data Form : Type 0 where
-  any_text chunk chunk_wrapper output_wrapper define switch level workers synthesis bound : Form
+use Rattle.cc_flags.specs.declared.flag.Form.{Form}
+use Rattle.cc_flags.specs.declared.flag.Form.TheVariants as form
+use Rattle.cc_flags.specs.contracts.flag.Form as the_form
 
 -- how often a flag may be given
 pub data Times : Type 0 where
@@ -20,7 +19,7 @@ pub data Times : Type 0 where
 pub data Callers : Type 0 where
   compiling replaying both : Callers
 
--- a row of the table
+-- A row of the table. specs/Values.antt says what a value of each form is.
 pub record Row : Type 0 where
   pub name : List ℕ
   pub form : Form
@@ -31,22 +30,22 @@ abbrev pub row : List ℕ → Form → Times → Callers → Row
 row name form times callers = record { name = name; form = form; times = times; callers = callers }
 
 abbrev pub row_of : Flag → Row
-row_of flag.Js = row (codes "js") any_text any both
-row_of flag.Externs = row (codes "externs") any_text any both
-row_of flag.JsOutputFile = row (codes "js_output_file") any_text once compiling
-row_of flag.Chunk = row (codes "chunk") chunk any both
-row_of flag.ChunkOutputPathPrefix = row (codes "chunk_output_path_prefix") any_text once compiling
-row_of flag.ChunkWrapper = row (codes "chunk_wrapper") chunk_wrapper any compiling
-row_of flag.OutputWrapper = row (codes "output_wrapper") output_wrapper once compiling
-row_of flag.Define = row (codes "define") define any both
-row_of flag.GenerateExports = row (codes "generate_exports") switch once both
-row_of flag.ChecksOnly = row (codes "checks_only") switch once compiling
-row_of flag.Plain = row (codes "plain") switch once replaying
-row_of flag.CompilationLevel = row (codes "compilation_level") level once compiling
-row_of flag.Workers = row (codes "workers") workers once compiling
-row_of flag.Synthesize = row (codes "synthesize") synthesis once compiling
-row_of flag.Script = row (codes "script") any_text once replaying
-row_of flag.Bound = row (codes "bound") bound once replaying
+row_of flag.Js = row (codes "js") form.AnyText any both
+row_of flag.Externs = row (codes "externs") form.AnyText any both
+row_of flag.JsOutputFile = row (codes "js_output_file") form.AnyText once compiling
+row_of flag.Chunk = row (codes "chunk") form.Chunk any both
+row_of flag.ChunkOutputPathPrefix = row (codes "chunk_output_path_prefix") form.AnyText once compiling
+row_of flag.ChunkWrapper = row (codes "chunk_wrapper") form.ChunkWrapper any compiling
+row_of flag.OutputWrapper = row (codes "output_wrapper") form.OutputWrapper once compiling
+row_of flag.Define = row (codes "define") form.Define any both
+row_of flag.GenerateExports = row (codes "generate_exports") form.Switch once both
+row_of flag.ChecksOnly = row (codes "checks_only") form.Switch once compiling
+row_of flag.Plain = row (codes "plain") form.Switch once replaying
+row_of flag.CompilationLevel = row (codes "compilation_level") form.Level once compiling
+row_of flag.Workers = row (codes "workers") form.Workers once compiling
+row_of flag.Synthesize = row (codes "synthesize") form.Synthesis once compiling
+row_of flag.Script = row (codes "script") form.AnyText once replaying
+row_of flag.Bound = row (codes "bound") form.Bound once replaying
 
 abbrev pub every_flag : List Flag
 every_flag = flag.Js ∷ flag.Externs ∷ flag.JsOutputFile ∷ flag.Chunk ∷ flag.ChunkOutputPathPrefix ∷ flag.ChunkWrapper
@@ -70,16 +69,7 @@ known_flag call name = option_and_then (λ f. if knows call (row_of f).callers t
 
 -- a flag that isn't a switch needs a value
 abbrev pub is_switch : Form → Bool
-is_switch switch = true
-is_switch any_text = false
-is_switch chunk = false
-is_switch chunk_wrapper = false
-is_switch output_wrapper = false
-is_switch define = false
-is_switch level = false
-is_switch workers = false
-is_switch synthesis = false
-is_switch bound = false
+is_switch f = sameb the_form.the_type f form.Switch
 
 abbrev pub needs_value : Flag → Bool
 needs_value f = not (is_switch (row_of f).form)

@@ -7,6 +7,8 @@ use Rattle.std.specs.Str.{chars}
 use Rattle.cc_text.specs.Characters.{is_line_end}
 use Rattle.cc_text.specs.Escape.{escaped, gives}
 use Rattle.cc_chunks.specs.declared.spec.ChunkSpec.{ChunkSpec}
+use Rattle.cc_flags.specs.declared.flag.Form.{Form}
+use Rattle.cc_flags.specs.declared.flag.Form.TheVariants as form
 use Rattle.cc_flags.specs.declared.job.Define.{Define}
 use Rattle.cc_flags.specs.declared.job.DefineValue.{DefineValue}
 use Rattle.cc_flags.specs.declared.job.DefineValue.TheVariants as value
@@ -14,8 +16,6 @@ use Rattle.cc_flags.specs.declared.job.Synthesis.{Synthesis}
 use Rattle.cc_flags.specs.declared.job.Wrapper.{Wrapper}
 use Rattle.cc_flags.specs.Texts.{texts, before, behind, pieces, places}
 use Rattle.cc_flags.specs.Numbers.{decimal, within, whole}
-use Rattle.cc_flags.specs.Flags.{Form}
-use Rattle.cc_flags.specs.Flags as form
 
 -- ---- chunks
 
@@ -98,20 +98,20 @@ synthesis_of v = option_and_then (λ seed. option_map (seed_and_size seed) (opti
 
 -- A value is of a form, where these are the names of the chunks that the words ask for.
 pub data HasForm (names : List (List ℕ)) : Form → Option (List ℕ) → Type 0 where
-  any_text : {v : List ℕ} → HasForm names form.any_text (Some v)
-  chunk_text : {v : List ℕ} {c : Chunk} → chunk_of v ≡ Some c → HasForm names form.chunk (Some v)
+  any_text : {v : List ℕ} → HasForm names form.AnyText (Some v)
+  chunk_text : {v : List ℕ} {c : Chunk} → chunk_of v ≡ Some c → HasForm names form.Chunk (Some v)
   chunk_wrapper : {v text : List ℕ} → is_chunk_name (before 58 v) ≡ true → behind 58 v ≡ Some text → places (codes "%s") text ≡ 1
-      → (names ≡ []) ⊎ Contains names (before 58 v) → HasForm names form.chunk_wrapper (Some v)
-  output_wrapper : {v : List ℕ} → places (codes "%output%") v ≡ 1 → HasForm names form.output_wrapper (Some v)
-  define : {v : List ℕ} (d : DefineValue) → IsDefineValue (behind 61 v) d → HasForm names form.define (Some v)
-  switch : HasForm names form.switch None
-  switch_on : {v : List ℕ} → v ≡ codes "true" → HasForm names form.switch (Some v)
-  switch_off : {v : List ℕ} → v ≡ codes "false" → HasForm names form.switch (Some v)
-  level : {v : List ℕ} → v ≡ codes "ADVANCED" → HasForm names form.level (Some v)
-  level_optimizations : {v : List ℕ} → v ≡ codes "ADVANCED_OPTIMIZATIONS" → HasForm names form.level (Some v)
-  workers : {v : List ℕ} {n : ℕ} → decimal v ≡ Some n → 1 ≤ n → HasForm names form.workers (Some v)
-  synthesis : {v : List ℕ} {s : Synthesis} → synthesis_of v ≡ Some s → HasForm names form.synthesis (Some v)
-  bound : {v : List ℕ} {n : ℕ} → within 0 10000000 (decimal v) ≡ Some n → HasForm names form.bound (Some v)
+      → (names ≡ []) ⊎ Contains names (before 58 v) → HasForm names form.ChunkWrapper (Some v)
+  output_wrapper : {v : List ℕ} → places (codes "%output%") v ≡ 1 → HasForm names form.OutputWrapper (Some v)
+  define : {v : List ℕ} (d : DefineValue) → IsDefineValue (behind 61 v) d → HasForm names form.Define (Some v)
+  switch : HasForm names form.Switch None
+  switch_on : {v : List ℕ} → v ≡ codes "true" → HasForm names form.Switch (Some v)
+  switch_off : {v : List ℕ} → v ≡ codes "false" → HasForm names form.Switch (Some v)
+  level : {v : List ℕ} → v ≡ codes "ADVANCED" → HasForm names form.Level (Some v)
+  level_optimizations : {v : List ℕ} → v ≡ codes "ADVANCED_OPTIMIZATIONS" → HasForm names form.Level (Some v)
+  workers : {v : List ℕ} {n : ℕ} → decimal v ≡ Some n → 1 ≤ n → HasForm names form.Workers (Some v)
+  synthesis : {v : List ℕ} {s : Synthesis} → synthesis_of v ≡ Some s → HasForm names form.Synthesis (Some v)
+  bound : {v : List ℕ} {n : ℕ} → within 0 10000000 (decimal v) ≡ Some n → HasForm names form.Bound (Some v)
 
 -- ---- the code's chunks
 

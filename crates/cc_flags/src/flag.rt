@@ -31,6 +31,21 @@ pub(crate) enum Flag {
     Bound,
 }
 
+/// What the value of a flag may be (specs/Values.antt).
+#[derive(Clone, Copy, PartialEq, Eq)]
+pub(crate) enum Form {
+    AnyText,
+    Chunk,
+    ChunkWrapper,
+    OutputWrapper,
+    Define,
+    Switch,
+    Level,
+    Workers,
+    Synthesis,
+    Bound,
+}
+
 impl Flag {
     /// The flag of a name, which stands without `--`.
     fn by_name(name: &str) -> Option<Flag>
@@ -67,11 +82,33 @@ impl Flag {
         }
     }
 
+    /// What its value may be.
+    pub(crate) fn form(self) -> Form
+        ensures { result ≡ (row_of self).form }
+    {
+        match self {
+            Flag::Js
+            | Flag::Externs
+            | Flag::JsOutputFile
+            | Flag::ChunkOutputPathPrefix
+            | Flag::Script => Form::AnyText,
+            Flag::Chunk => Form::Chunk,
+            Flag::ChunkWrapper => Form::ChunkWrapper,
+            Flag::OutputWrapper => Form::OutputWrapper,
+            Flag::Define => Form::Define,
+            Flag::GenerateExports | Flag::ChecksOnly | Flag::Plain => Form::Switch,
+            Flag::CompilationLevel => Form::Level,
+            Flag::Workers => Form::Workers,
+            Flag::Synthesize => Form::Synthesis,
+            Flag::Bound => Form::Bound,
+        }
+    }
+
     /// Whether it is no switch.
     pub(crate) fn needs_value(self) -> bool
         ensures { result ≡ needs_value self }
     {
-        !matches!(self, Flag::GenerateExports | Flag::ChecksOnly | Flag::Plain)
+        self.form() != Form::Switch
     }
 
     /// Whether it may be given once alone.
