@@ -4,3 +4,4 @@ pub mod NumberLaws
 pub mod CutLaws
 pub mod ChunkLaws
 pub mod QuoteLaws
+pub mod FormLaws

@@ -47,7 +47,7 @@ decimal-parsed {E} bs r parsed is =
 pub within-inside : (least most n : ℕ) → least ≤ n → n ≤ most → within least most (Some n) ≡ Some n
 within-inside least most n low high = grind (arith, nat_tests)
 
-within-above : (least most n : ℕ) → most < n → within least most (Some n) ≡ None
+pub within-above : (least most n : ℕ) → most < n → within least most (Some n) ≡ None
 within-above least most n above = grind (arith, nat_tests)
 
 pub within-outside : (least most n : ℕ) → ((least ≤ n) × (most < n)) ⊎ (n < least) → within least most (Some n) ≡ None

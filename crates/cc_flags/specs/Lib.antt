@@ -8,3 +8,4 @@ pub mod Jobs
 pub mod Readings
 pub mod Cutting
 pub mod Quoting
+pub mod Forming

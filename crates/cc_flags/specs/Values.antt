@@ -94,6 +94,9 @@ unfoldable pub synthesis_of : List ℕ → Option Synthesis
 synthesis_of v = option_and_then (λ seed. option_map (seed_and_size seed) (option_and_then (λ text. within 1 20000 (decimal text)) (behind 44 v)))
     (within 0 (2 ^ 64 - 1) (decimal (before 44 v)))
 
+abbrev pub bound_of : List ℕ → Option ℕ
+bound_of v = within 0 10000000 (decimal v)
+
 -- ---- the forms
 
 -- A value is of a form, where these are the names of the chunks that the words ask for.
@@ -111,7 +114,7 @@ pub data HasForm (names : List (List ℕ)) : Form → Option (List ℕ) → Type
   level_optimizations : {v : List ℕ} → v ≡ codes "ADVANCED_OPTIMIZATIONS" → HasForm names form.Level (Some v)
   workers : {v : List ℕ} {n : ℕ} → decimal v ≡ Some n → 1 ≤ n → HasForm names form.Workers (Some v)
   synthesis : {v : List ℕ} {s : Synthesis} → synthesis_of v ≡ Some s → HasForm names form.Synthesis (Some v)
-  bound : {v : List ℕ} {n : ℕ} → within 0 10000000 (decimal v) ≡ Some n → HasForm names form.Bound (Some v)
+  bound : {v : List ℕ} {n : ℕ} → bound_of v ≡ Some n → HasForm names form.Bound (Some v)
 
 -- ---- the code's chunks
 

@@ -8,6 +8,7 @@ mod chunk;
 mod cut;
 mod define;
 mod flag;
+mod form;
 mod job;
 mod number;
 mod text;
