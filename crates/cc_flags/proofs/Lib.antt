@@ -5,3 +5,4 @@ pub mod CutLaws
 pub mod ChunkLaws
 pub mod QuoteLaws
 pub mod FormLaws
+pub mod SettingLaws

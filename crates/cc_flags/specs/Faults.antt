@@ -71,9 +71,12 @@ pub record IsTogether (ss : List Setting) (at : ℕ) : Type 0 where
 
 -- ---- what is missing
 
--- a switch is on where it is given and its value isn't `=false`
+abbrev pub is_off : Setting → Bool
+is_off s = option_map_or (λ v. bytes_eq v (codes "false")) s.value false
+
+-- a switch is on where it is given without `=false`
 abbrev pub turns_on : Flag → Setting → Bool
-turns_on f s = has_flag f s && not (option_map_or (λ v. bytes_eq v (codes "false")) s.value false)
+turns_on f s = has_flag f s && not (is_off s)
 
 abbrev pub is_on : Flag → List Setting → Bool
 is_on f ss = list_any (turns_on f) ss

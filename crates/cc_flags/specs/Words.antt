@@ -2,7 +2,7 @@
 use Rattle.std.specs.Prelude.{◌≡◌, ℕ, ◌+◌, List, [], ◌∷◌, Bool, true, false, if◌then◌else◌, Option, Some, None, option_copied, nat_eq, map, filter_map, drop, codes}
 use Rattle.std.specs.Option.{option_map_or}
 use Rattle.std.specs.List.{starts_with, last_or, list_any}
-use Rattle.cc_flags.specs.declared.cut.Item.{Item}
+use Rattle.cc_flags.specs.declared.item.Item.{Item}
 use Rattle.cc_flags.specs.declared.cut.Stop.{Stop}
 use Rattle.cc_flags.specs.declared.flag.Call.{Call}
 use Rattle.cc_flags.specs.declared.flag.Flag.{Flag}

@@ -6,18 +6,10 @@ ghost use Rattle.cc_flags.specs.Words as spec;
 ghost use Rattle.cc_flags.specs.Cutting as cutting;
 
 use crate::flag::{Call, Flag, known_flag};
+use crate::item::Item;
 use crate::text::split_at_first;
 use crate::usage::UsageKind;
 use std::alloc::{AllocError, Global};
-
-/// A source file, which has no flag, or a flag with its value, if it has one; and the number of
-/// its first word.
-#[derive(Clone, Copy)]
-pub(crate) struct Item<'a> {
-    pub(crate) at: usize,
-    pub(crate) flag: Option<Flag>,
-    pub(crate) value: Option<&'a str>,
-}
 
 /// The word at which the cutting stops, since the call has no such flag or its value is missing.
 #[derive(Clone, Copy)]

@@ -9,6 +9,7 @@ mod cut;
 mod define;
 mod flag;
 mod form;
+mod item;
 mod job;
 mod number;
 mod text;
