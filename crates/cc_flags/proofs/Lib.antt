@@ -6,3 +6,4 @@ pub mod ChunkLaws
 pub mod QuoteLaws
 pub mod FormLaws
 pub mod SettingLaws
+pub mod NamesLaws

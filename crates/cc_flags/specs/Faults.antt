@@ -3,7 +3,7 @@ use Rattle.std.specs.Prelude.{◌≡◌, ◌⊎◌, ℕ, ◌+◌, ◌*◌, ◌<�
 use Rattle.std.specs.Str.{bytes_eq}
 use Rattle.std.specs.Option.{option_map_or}
 use Rattle.std.specs.List.{list_any}
-use Rattle.cc_ast.specs.declared.reading.LimitKind.TheVariants as limit
+use Rattle.cc_ast.specs.declared.reading.LimitKind.TheVariants as counted
 use Rattle.cc_flags.specs.declared.cut.Stop.{Stop}
 use Rattle.cc_flags.specs.declared.flag.Call.{Call}
 use Rattle.cc_flags.specs.declared.flag.Call.TheVariants as call
@@ -97,7 +97,7 @@ pub record IsBeyond (counts : Setting → Bool) (most : ℕ) (ss : List Setting)
   pub setting : Setting
   pub found : slice_get ss i ≡ Some setting
   pub word : setting.at ≡ at
-  pub counted : counts setting ≡ true
+  pub counts_it : counts setting ≡ true
   pub behind : count_by counts (take i ss) ≡ most
 
 -- more workers than there may be
@@ -112,18 +112,25 @@ pub record AsksTooManyWorkers (ss : List Setting) (at : ℕ) : Type 0 where
 
 -- ---- all of it
 
--- A fault of the words of a call that are cut into these settings and this stop. `count` is the
--- number of words.
-pub data HasFault (which : Call) (ss : List Setting) (count : ℕ) : Option Stop → Usage → Type 0 where
-  stopped : {s : Stop} → HasFault which ss count (Some s) (Word s.at s.kind)
-  out_of_form : {stop : Option Stop} {at : ℕ} → IsOutOfForm ss at → HasFault which ss count stop (Word at kind.Value)
-  repeated : {stop : Option Stop} {at : ℕ} → IsRepeated ss at → HasFault which ss count stop (Word at kind.Repeated)
-  together : {stop : Option Stop} {at : ℕ} → IsTogether ss at → HasFault which ss count stop (Word at kind.Together)
-  no_source : {stop : Option Stop} → sources_of ss ≡ [] → is_given flag.Synthesize ss ≡ false → HasFault which ss count stop (Word count kind.MissingJs)
-  no_output : {stop : Option Stop} → has_output which ss ≡ false → HasFault which ss count stop (Word count kind.MissingOutput)
-  files : {stop : Option Stop} {at : ℕ} → IsBeyond is_file 1024 ss at → HasFault which ss count stop (Limit at limit.Files)
-  chunks : {stop : Option Stop} {at : ℕ} → IsBeyond (has_flag flag.Chunk) 256 ss at → HasFault which ss count stop (Limit at limit.Chunks)
-  workers : {stop : Option Stop} {at : ℕ} → AsksTooManyWorkers ss at → HasFault which ss count stop (Limit at limit.Workers)
+-- a fault of a word's form, where the words are cut into these settings and this stop
+pub data FormFault (ss : List Setting) : Option Stop → Usage → Type 0 where
+  stopped : {s : Stop} → FormFault ss (Some s) (Word s.at s.kind)
+  out_of_form : {stop : Option Stop} {at : ℕ} → IsOutOfForm ss at → FormFault ss stop (Word at kind.Value)
+  repeated : {stop : Option Stop} {at : ℕ} → IsRepeated ss at → FormFault ss stop (Word at kind.Repeated)
+
+-- a limit that is passed
+pub data LimitFault (ss : List Setting) : Usage → Type 0 where
+  files : {at : ℕ} → IsBeyond is_file 1024 ss at → LimitFault ss (Limit at counted.Files)
+  chunks : {at : ℕ} → IsBeyond (has_flag flag.Chunk) 256 ss at → LimitFault ss (Limit at counted.Chunks)
+  workers : {at : ℕ} → AsksTooManyWorkers ss at → LimitFault ss (Limit at counted.Workers)
+
+-- a fault of the words of a call, which are `count` words
+pub data HasFault (which : Call) (ss : List Setting) (stop : Option Stop) (count : ℕ) : Usage → Type 0 where
+  form : {u : Usage} → FormFault ss stop u → HasFault which ss stop count u
+  together : {at : ℕ} → IsTogether ss at → HasFault which ss stop count (Word at kind.Together)
+  no_source : sources_of ss ≡ [] → is_given flag.Synthesize ss ≡ false → HasFault which ss stop count (Word count kind.MissingJs)
+  no_output : has_output which ss ≡ false → HasFault which ss stop count (Word count kind.MissingOutput)
+  limit : {u : Usage} → LimitFault ss u → HasFault which ss stop count u
 
 -- Faults are answered in this order: those of a word's form, flags that don't stand together, what
 -- is missing, limits; among each the least word, and at one word in the order of the kinds.

@@ -1,6 +1,8 @@
 -- Values, one at a time.
 use Rattle.std.specs.Prelude.{◌≡◌, ◌≢◌, ℕ, ◌≤◌, List, Option, Some, map}
 use Rattle.std.specs.Borrow.{Bor}
+use Rattle.std.specs.List.{list_any}
+use Rattle.std.specs.Str.{bytes_eq}
 use Rattle.indexmap.specs.IndexSet.{IndexSet}
 use Rattle.cc_flags.specs.declared.flag.Form.{Form}
 use Rattle.cc_flags.specs.declared.flag.Form.TheVariants as form
@@ -13,6 +15,10 @@ use Rattle.cc_flags.specs.Values.{HasForm, Chunk, chunk_of, chunk_in, IsDefine}
 -- the names in a set
 abbrev pub names_in : {S : Type 0} → IndexSet (Bor (List ℕ)) S → List (List ℕ)
 names_in set = map (λ name. name.now) set.keys
+
+-- two lists have the same names
+abbrev pub HaveSame : List (List ℕ) → List (List ℕ) → Type 0
+HaveSame xs ys = (name : List ℕ) → list_any (bytes_eq name) xs ≡ list_any (bytes_eq name) ys
 
 -- a number above 0
 pub record IsPositive (v : List ℕ) : Type 0 where

@@ -13,7 +13,7 @@ use Rattle.cc_flags.specs.Jobs.{IsJobOf, IsReplayJobOf}
 -- the words are cut into settings, and have no fault
 pub record AreSound (which : Call) (words : List (List ℕ)) (ss : List Setting) : Type 0 where
   pub cut : Cut which 0 words ss None
-  pub sound : (usage : Usage) → ¬ HasFault which ss (length words) None usage
+  pub sound : (usage : Usage) → ¬ HasFault which ss None (length words) usage
 
 -- the job that the words ask for
 pub record IsJob (words : List (List ℕ)) (job : Job) : Type 0 where
@@ -31,5 +31,5 @@ pub record IsFirstFault (which : Call) (words : List (List ℕ)) (usage : Usage)
   pub settings : List Setting
   pub stop : Option Stop
   pub cut : Cut which 0 words settings stop
-  pub stands : HasFault which settings (length words) stop usage
-  pub first : (other : Usage) → HasFault which settings (length words) stop other → GoesBefore usage other
+  pub stands : HasFault which settings stop (length words) usage
+  pub first : (other : Usage) → HasFault which settings stop (length words) other → GoesBefore usage other

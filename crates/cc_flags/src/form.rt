@@ -12,14 +12,11 @@ use crate::chunk::{chunk_of, is_chunk_name};
 use crate::define::define_of;
 use crate::flag::Form;
 use crate::job::{Define, Synthesis};
+use crate::names::Names;
 use crate::number::{decimal_within, is_decimal};
 use crate::text::{around, split_at_first};
 use cc_chunks::ChunkSpec;
-use indexmap::IndexSet;
 use std::alloc::{AllocError, Global};
-
-/// The names of the chunks that words ask for.
-pub(crate) type Names<'a> = IndexSet<&'a str>;
 
 /// The greatest bound of a run.
 const MOST_BOUND: u64 = 10_000_000;

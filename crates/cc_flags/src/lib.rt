@@ -11,6 +11,7 @@ mod flag;
 mod form;
 mod item;
 mod job;
+mod names;
 mod number;
 mod text;
 mod usage;
