@@ -7,3 +7,4 @@ pub mod QuoteLaws
 pub mod FormLaws
 pub mod SettingLaws
 pub mod NamesLaws
+pub mod GivenLaws

@@ -9,3 +9,4 @@ pub mod Readings
 pub mod Cutting
 pub mod Quoting
 pub mod Forming
+pub mod Giving

@@ -9,6 +9,7 @@ mod cut;
 mod define;
 mod flag;
 mod form;
+mod given;
 mod item;
 mod job;
 mod names;

@@ -1,7 +1,7 @@
 // What is wrong with words.
 
 use cc_ast::reading::LimitKind;
-use std::alloc::AllocError;
+use std::alloc::{AllocError, AllocFailed};
 use thiserror::Error;
 
 /// What is wrong with a word, or what is missing. The first four are faults of a word's form.
@@ -42,6 +42,17 @@ impl From<AllocError> for Usage {
     ghost from_gives = { λ _ usage. usage ≡ Memory };
 
     fn from(_error: AllocError) -> Usage {
+        Usage::Memory
+    }
+}
+
+impl<T: Drop> From<AllocFailed<T>> for Usage {
+    ghost use Rattle.cc_flags.specs.declared.usage.Usage.TheVariants.{Memory};
+    ghost use Rattle.std.specs.Prelude.{◌≡◌};
+
+    ghost from_gives = { λ _ usage. usage ≡ Memory };
+
+    fn from(_error: AllocFailed<T>) -> Usage {
         Usage::Memory
     }
 }
