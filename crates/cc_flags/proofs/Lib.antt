@@ -8,3 +8,5 @@ pub mod FormLaws
 pub mod SettingLaws
 pub mod NamesLaws
 pub mod GivenLaws
+pub mod OrderLaws
+pub mod FormFaults

@@ -1,7 +1,8 @@
 -- What lists of settings give.
-use Rattle.std.proofs.Common.{◌≡◌, ℕ, ◌+◌, ◌<◌, Bool, ◌||◌, List, [], ◌∷◌, ◌++◌, length, get_or, take, map, Option, Some, None, option_to_list, String, string_bytes, refl, ap, sym, ◌∙◌}
+use Rattle.std.proofs.lemmas.Option.{slice_get-map}
+use Rattle.std.proofs.Common.{◌≡◌, ℕ, zero, suc, slice_get, option_map, ◌+◌, ◌<◌, Bool, ◌||◌, List, [], ◌∷◌, ◌++◌, length, get_or, take, map, Option, Some, None, option_to_list, String, string_bytes, refl, ap, sym, ◌∙◌, arith}
 use Rattle.std.specs.List.{list_any, filter_map, cons_option, last_or}
-use Rattle.std.proofs.lemmas.List.{map-append, take_more, append-nil}
+use Rattle.std.proofs.lemmas.List.{map-append, take_more, append-nil, length-map}
 use Rattle.std.specs.Borrow.{Bor}
 use Rattle.std.specs.Option.{option_copied}
 use Rattle.std.proofs.Math.Seq.{take-length}
@@ -66,3 +67,14 @@ last-more h items i d v within given =
 pub last-same : (h : Setting → Option (List ℕ)) (items : List Item) (i : ℕ) (d : Item) (o : Option (List ℕ)) → i < length items → None ≡ h (setting_of (get_or items i d))
     → o ≡ last_or None (filter_map h (settings_of (take i items))) → o ≡ last_or None (filter_map h (settings_of (take (i + 1) items)))
 last-same h items i d o within none so_far = so_far ∙ ap (last_or None) (texts-same h items i d (filter_map h (settings_of (take i items))) within refl none)
+
+-- the setting of an item
+pub setting-at : (items : List Item) (i : ℕ) (d : Item) → i < length items → slice_get (settings_of items) i ≡ Some (setting_of (get_or items i d))
+setting-at items i d h = slice_get-map setting_of items i ∙ ap (option_map setting_of) (get-at items i d h) where
+  get-at : (xs : List Item) (j : ℕ) (e : Item) → j < length xs → slice_get xs j ≡ Some (get_or xs j e)
+  get-at [] j e within = absurd (omega arith)
+  get-at (x ∷ xs) zero e within = refl
+  get-at (x ∷ xs) (suc j) e within = get-at xs j e (omega arith)
+
+pub length-settings : (items : List Item) → length (settings_of items) ≡ length items
+length-settings items = length-map items setting_of

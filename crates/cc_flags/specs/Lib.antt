@@ -10,3 +10,4 @@ pub mod Cutting
 pub mod Quoting
 pub mod Forming
 pub mod Giving
+pub mod Steps

@@ -8,7 +8,7 @@ ghost use Rattle.cc_flags.specs.Cutting as cutting;
 use crate::flag::{Call, Flag, known_flag};
 use crate::item::Item;
 use crate::text::split_at_first;
-use crate::usage::UsageKind;
+use crate::usage::{Usage, UsageKind};
 use std::alloc::{AllocError, Global};
 
 /// The word at which the cutting stops, since the call has no such flag or its value is missing.
@@ -16,6 +16,17 @@ use std::alloc::{AllocError, Global};
 pub(crate) struct Stop {
     pub(crate) at: usize,
     pub(crate) kind: UsageKind,
+}
+
+impl Stop {
+    pub(crate) fn fault(self) -> Usage
+        ensures { result ≡ Usage.Word self.at self.kind }
+    {
+        Usage::Word {
+            at: self.at,
+            kind: self.kind,
+        }
+    }
 }
 
 /// The settings that words are cut into, and where the cutting stops.

@@ -4,6 +4,7 @@
 //! specs/Flags.antt.
 #![tactic(auto)]
 
+mod check;
 mod chunk;
 mod cut;
 mod define;
