@@ -10,3 +10,4 @@ pub mod NamesLaws
 pub mod GivenLaws
 pub mod OrderLaws
 pub mod FormFaults
+pub mod TogetherLaws

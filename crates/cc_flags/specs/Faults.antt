@@ -50,10 +50,12 @@ pub record IsRepeated (ss : List Setting) (at : ℕ) : Type 0 where
 abbrev pub is_output : Flag → Bool
 is_output f = same f flag.JsOutputFile || same f flag.OutputWrapper
 
+abbrev pub is_other : Flag → Bool
+is_other f = not (same f flag.Workers) && not (same f flag.Synthesize)
+
 -- one file doesn't stand with chunks, and generated input with no flag but `workers`
 abbrev pub is_against : Flag → Flag → Bool
-is_against f g = (is_output f && same g flag.Chunk)
-    || (same f flag.Synthesize && not (same g flag.Workers || same g flag.Synthesize))
+is_against f g = (is_output f && same g flag.Chunk) || (same f flag.Synthesize && is_other g)
 
 abbrev pub keeps_apart : Flag → Setting → Bool
 keeps_apart f s = option_map_or (λ g. is_against f g || is_against g f) s.flag false

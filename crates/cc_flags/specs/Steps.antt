@@ -1,14 +1,25 @@
 -- Faults of one stage.
-use Rattle.std.specs.Prelude.{◌≡◌, ◌≢◌, ℕ, ◌<◌, ◌≤◌, List, Option, Some, slice_get}
+use Rattle.std.specs.Prelude.{◌≡◌, ◌≢◌, ℕ, Bool, false, not, ◌&&◌, ◌||◌, ◌<◌, ◌≤◌, List, Option, Some, slice_get}
 use Rattle.cc_flags.specs.declared.cut.Stop.{Stop}
 use Rattle.cc_flags.specs.declared.usage.Usage.{Usage}
-use Rattle.cc_flags.specs.declared.usage.Usage.TheVariants.{Memory}
-use Rattle.cc_flags.specs.Words.{Setting}
-use Rattle.cc_flags.specs.Faults.{IsOutOfForm, IsRepeated, FormFault, place, stage_of}
+use Rattle.std.specs.List.{list_any}
+use Rattle.std.specs.Option.{option_map_or}
+use Rattle.cc_flags.specs.declared.flag.Flag.{Flag}
+use Rattle.cc_flags.specs.declared.flag.Flag.TheVariants as flag
+use Rattle.cc_flags.specs.declared.together.Met.{Met}
+use Rattle.cc_flags.specs.declared.usage.Usage.TheVariants.{Word, Memory}
+use Rattle.cc_flags.specs.declared.usage.UsageKind.TheVariants as kind
+use Rattle.cc_flags.specs.Flags.{same}
+use Rattle.cc_flags.specs.Words.{Setting, is_given}
+use Rattle.cc_flags.specs.Faults.{IsOutOfForm, IsRepeated, IsTogether, FormFault, is_output, is_other, needs_chunks, place, stage_of}
 
--- settings stand in the order of their words, before the stop, which is a fault of a word's form
+-- settings stand in the order of their words
+abbrev pub StandInOrder : List Setting → Type 0
+StandInOrder ss = (i j : ℕ) (s t : Setting) → slice_get ss i ≡ Some s → slice_get ss j ≡ Some t → i < j → s.at < t.at
+
+-- they do, before the stop, which is a fault of a word's form
 pub record AreOrdered (ss : List Setting) (stop : Option Stop) : Type 0 where
-  pub settings : (i j : ℕ) (s t : Setting) → slice_get ss i ≡ Some s → slice_get ss j ≡ Some t → i < j → s.at < t.at
+  pub settings : StandInOrder ss
   pub before_stop : (i : ℕ) (s : Setting) (p : Stop) → slice_get ss i ≡ Some s → stop ≡ Some p → s.at < p.at
   pub stage : (p : Stop) → stop ≡ Some p → stage_of p.kind ≡ 0
 
@@ -30,3 +41,29 @@ pub record HaveForms (ss : List Setting) : Type 0 where
 -- the first of them, whatever stop stands behind the settings
 abbrev pub FirstForm : List Setting → Usage → Type 0
 FirstForm ss u = (stop : Option Stop) → AreOrdered ss stop → FirstOrMemory (FormFault ss stop) u
+
+-- ---- flags that don't stand together
+
+pub data TogetherFault (ss : List Setting) : Usage → Type 0 where
+  together : {at : ℕ} → IsTogether ss at → TogetherFault ss (Word at kind.Together)
+
+abbrev pub passes : (Flag → Bool) → Setting → Bool
+passes test s = option_map_or test s.flag false
+
+-- which kinds of flags have come with these settings
+pub record HaveMet (ss : List Setting) (met : Met) : Type 0 where
+  pub output : met.output ≡ list_any (passes is_output) ss
+  pub chunk : met.chunk ≡ is_given flag.Chunk ss
+  pub synthesize : met.synthesize ≡ is_given flag.Synthesize ss
+  pub other : met.other ≡ list_any (passes is_other) ss
+
+-- the flag doesn't stand with one of those
+abbrev pub clashes : Flag → Met → Bool
+clashes f met = (is_output f && met.chunk) || (same f flag.Synthesize && met.other) || (met.output && same f flag.Chunk) || (met.synthesize && is_other f)
+
+-- it doesn't, or it needs chunks where none are asked for
+abbrev pub refuses : Flag → Met → Bool → Bool
+refuses f met has_chunks = clashes f met || (needs_chunks f && not has_chunks)
+
+abbrev pub met_with : Flag → Met → Met
+met_with f met = record { output = met.output || is_output f; chunk = met.chunk || same f flag.Chunk; synthesize = met.synthesize || same f flag.Synthesize; other = met.other || is_other f }

@@ -16,6 +16,7 @@ mod job;
 mod names;
 mod number;
 mod text;
+mod together;
 mod usage;
 
 pub use job::{Define, DefineValue, Job, Output, ReplayJob, Synthesis, Wrapper};
