@@ -11,3 +11,4 @@ pub mod GivenLaws
 pub mod OrderLaws
 pub mod FormFaults
 pub mod TogetherLaws
+pub mod LimitLaws

@@ -87,6 +87,11 @@ abbrev pub has_output : Call → List Setting → Bool
 has_output call.Compile ss = is_given flag.JsOutputFile ss || is_given flag.Chunk ss || is_given flag.Synthesize ss || is_on flag.ChecksOnly ss
 has_output call.Replay ss = is_some (value_of flag.Script ss)
 
+-- there is no source file, and no input is generated
+pub record HasNoSource (ss : List Setting) : Type 0 where
+  pub none : sources_of ss ≡ []
+  pub not_made : is_given flag.Synthesize ss ≡ false
+
 -- ---- limits
 
 -- a file: a source, externs or a script
@@ -103,14 +108,17 @@ pub record IsBeyond (counts : Setting → Bool) (most : ℕ) (ss : List Setting)
   pub behind : count_by counts (take i ss) ≡ most
 
 -- more workers than there may be
-pub record AsksTooManyWorkers (ss : List Setting) (at : ℕ) : Type 0 where
+pub record AsksTooMany (s : Setting) : Type 0 where
+  pub n : ℕ
+  pub asked : option_and_then decimal (value_for flag.Workers s) ≡ Some n
+  pub beyond : 64 < n
+
+pub record IsBeyondWorkers (ss : List Setting) (at : ℕ) : Type 0 where
   pub i : ℕ
   pub setting : Setting
   pub found : slice_get ss i ≡ Some setting
   pub word : setting.at ≡ at
-  pub n : ℕ
-  pub asked : option_and_then decimal (value_for flag.Workers setting) ≡ Some n
-  pub beyond : 64 < n
+  pub asks : AsksTooMany setting
 
 -- ---- all of it
 
@@ -124,13 +132,13 @@ pub data FormFault (ss : List Setting) : Option Stop → Usage → Type 0 where
 pub data LimitFault (ss : List Setting) : Usage → Type 0 where
   files : {at : ℕ} → IsBeyond is_file 1024 ss at → LimitFault ss (Limit at counted.Files)
   chunks : {at : ℕ} → IsBeyond (has_flag flag.Chunk) 256 ss at → LimitFault ss (Limit at counted.Chunks)
-  workers : {at : ℕ} → AsksTooManyWorkers ss at → LimitFault ss (Limit at counted.Workers)
+  workers : {at : ℕ} → IsBeyondWorkers ss at → LimitFault ss (Limit at counted.Workers)
 
 -- a fault of the words of a call, which are `count` words
 pub data HasFault (which : Call) (ss : List Setting) (stop : Option Stop) (count : ℕ) : Usage → Type 0 where
   form : {u : Usage} → FormFault ss stop u → HasFault which ss stop count u
   together : {at : ℕ} → IsTogether ss at → HasFault which ss stop count (Word at kind.Together)
-  no_source : sources_of ss ≡ [] → is_given flag.Synthesize ss ≡ false → HasFault which ss stop count (Word count kind.MissingJs)
+  no_source : HasNoSource ss → HasFault which ss stop count (Word count kind.MissingJs)
   no_output : has_output which ss ≡ false → HasFault which ss stop count (Word count kind.MissingOutput)
   limit : {u : Usage} → LimitFault ss u → HasFault which ss stop count u
 

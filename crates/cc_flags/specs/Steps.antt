@@ -1,17 +1,20 @@
 -- Faults of one stage.
-use Rattle.std.specs.Prelude.{◌≡◌, ◌≢◌, ℕ, Bool, false, not, ◌&&◌, ◌||◌, ◌<◌, ◌≤◌, List, Option, Some, slice_get}
+use Rattle.std.specs.Prelude.{◌≡◌, ◌≢◌, ℕ, Bool, true, false, not, ◌&&◌, ◌||◌, ◌<◌, ◌≤◌, List, Option, Some, slice_get}
 use Rattle.cc_flags.specs.declared.cut.Stop.{Stop}
 use Rattle.cc_flags.specs.declared.usage.Usage.{Usage}
 use Rattle.std.specs.List.{list_any}
 use Rattle.std.specs.Option.{option_map_or}
+use Rattle.cc_ast.specs.declared.reading.LimitKind.{LimitKind}
+use Rattle.cc_ast.specs.declared.reading.LimitKind.TheVariants as counted
+use Rattle.cc_flags.specs.declared.flag.Call.{Call}
 use Rattle.cc_flags.specs.declared.flag.Flag.{Flag}
 use Rattle.cc_flags.specs.declared.flag.Flag.TheVariants as flag
 use Rattle.cc_flags.specs.declared.together.Met.{Met}
 use Rattle.cc_flags.specs.declared.usage.Usage.TheVariants.{Word, Memory}
 use Rattle.cc_flags.specs.declared.usage.UsageKind.TheVariants as kind
 use Rattle.cc_flags.specs.Flags.{same}
-use Rattle.cc_flags.specs.Words.{Setting, is_given}
-use Rattle.cc_flags.specs.Faults.{IsOutOfForm, IsRepeated, IsTogether, FormFault, is_output, is_other, needs_chunks, place, stage_of}
+use Rattle.cc_flags.specs.Words.{Setting, has_flag, is_given}
+use Rattle.cc_flags.specs.Faults.{IsOutOfForm, IsRepeated, IsTogether, FormFault, is_output, is_other, needs_chunks, is_file, AsksTooMany, HasNoSource, has_output, place, stage_of}
 
 -- settings stand in the order of their words
 abbrev pub StandInOrder : List Setting → Type 0
@@ -67,3 +70,27 @@ refuses f met has_chunks = clashes f met || (needs_chunks f && not has_chunks)
 
 abbrev pub met_with : Flag → Met → Met
 met_with f met = record { output = met.output || is_output f; chunk = met.chunk || same f flag.Chunk; synthesize = met.synthesize || same f flag.Synthesize; other = met.other || is_other f }
+
+-- ---- what is missing
+
+-- a source comes first
+pub data MissingFault (which : Call) (ss : List Setting) (count : ℕ) : Usage → Type 0 where
+  source : HasNoSource ss → MissingFault which ss count (Word count kind.MissingJs)
+  output : ¬ HasNoSource ss → has_output which ss ≡ false → MissingFault which ss count (Word count kind.MissingOutput)
+
+pub record HaveAll (which : Call) (ss : List Setting) : Type 0 where
+  pub source : ¬ HasNoSource ss
+  pub output : has_output which ss ≡ true
+
+-- ---- limits
+
+-- a setting passes a limit behind so many files and chunks
+pub data IsExcess (files chunks : ℕ) (s : Setting) : LimitKind → Type 0 where
+  file : is_file s ≡ true → files ≡ 1024 → IsExcess files chunks s counted.Files
+  chunk : has_flag flag.Chunk s ≡ true → chunks ≡ 256 → IsExcess files chunks s counted.Chunks
+  workers : AsksTooMany s → IsExcess files chunks s counted.Workers
+
+pub record IsWithin (files chunks : ℕ) (s : Setting) : Type 0 where
+  pub file : is_file s ≡ true → files ≢ 1024
+  pub chunk : has_flag flag.Chunk s ≡ true → chunks ≢ 256
+  pub workers : ¬ AsksTooMany s

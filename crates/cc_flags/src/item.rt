@@ -40,7 +40,7 @@ impl<'a> Item<'a> {
     }
 
     /// The name of a source file, which stands alone or behind `--js`.
-    fn source(&self) -> Option<&'a str>
+    pub(crate) fn source(&self) -> Option<&'a str>
         ensures { option_copied result ≡ spec.source_for (spec.setting_of self.now) }
     {
         match self.flag {

@@ -13,6 +13,8 @@ mod form;
 mod given;
 mod item;
 mod job;
+mod limit;
+mod missing;
 mod names;
 mod number;
 mod text;
