@@ -63,3 +63,4 @@ pub mod CopyPrograms
 pub mod SoundTokens
 pub mod CompleteTokens
 pub mod FirstDifference
+pub mod WrongTokens
