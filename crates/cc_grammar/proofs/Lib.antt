@@ -64,3 +64,4 @@ pub mod SoundTokens
 pub mod CompleteTokens
 pub mod FirstDifference
 pub mod WrongTokens
+pub mod FaultTokens

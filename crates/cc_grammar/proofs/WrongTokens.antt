@@ -39,14 +39,14 @@ no_nil : (b : Symbols) (x : Symbol) → b ++ x ∷ [] ≡ [] → ⊥
 no_nil [] x e = cc
 no_nil (m ∷ b) x e = cc
 
-last_is : (b c : Symbols) (x y : Symbol) → b ++ x ∷ [] ≡ c ++ y ∷ [] → x ≡ y
+pub last_is : (b c : Symbols) (x y : Symbol) → b ++ x ∷ [] ≡ c ++ y ∷ [] → x ≡ y
 last_is [] [] x y e = head_is x y [] [] e
 last_is [] (m ∷ c) x y e = absurd (no_nil c y (sym (tail_is x m [] (c ++ y ∷ []) e)))
 last_is (m ∷ b) [] x y e = absurd (no_nil b x (tail_is m y (b ++ x ∷ []) [] e))
 last_is (m ∷ b) (l ∷ c) x y e = last_is b c x y (tail_is m l (b ++ x ∷ []) (c ++ y ∷ []) e)
 
 -- its last symbol
-data Snoc : Symbols → Type 0 where
+pub data Snoc : Symbols → Type 0 where
   empty : Snoc []
   behind : (b : Symbols) (x : Symbol) → Snoc (b ++ x ∷ [])
 
@@ -54,7 +54,7 @@ snoc_more : (m : Symbol) {xs : Symbols} → Snoc xs → Snoc (m ∷ xs)
 snoc_more m empty = behind [] m
 snoc_more m (behind b x) = behind (m ∷ b) x
 
-snoc : (xs : Symbols) → Snoc xs
+pub snoc : (xs : Symbols) → Snoc xs
 snoc [] = empty
 snoc (m ∷ xs) = snoc_more m (snoc xs)
 
@@ -136,10 +136,10 @@ module _ {j : ℕ} {p : Symbols} (h : LastToken p) (w : Begun (BB of_program j) 
 abbrev Read : Type 0
 Read = Outcome Symbols (Sized (List RawStmt))
 
-err_place : {A : Type 0} {x : Fault × Symbols} {f : Fault} {i : Symbols} → ◌≡◌ {A = Outcome Symbols A} (Err x) (Err (f, i)) → x.1 ≡ i
+pub err_place : {A : Type 0} {x : Fault × Symbols} {f : Fault} {i : Symbols} → ◌≡◌ {A = Outcome Symbols A} (Err x) (Err (f, i)) → x.1 ≡ i
 err_place {x} {f} {i} e = let pairs : ◌≡◌ {A = Fault × Symbols} x (f, i) = cc in ap (λ (z : Fault × Symbols). z.1) pairs
 
-err_fault : {A : Type 0} {x : Fault × Symbols} {f : Fault} {i : Symbols} → ◌≡◌ {A = Outcome Symbols A} (Err x) (Err (f, i)) → x.0 ≡ f
+pub err_fault : {A : Type 0} {x : Fault × Symbols} {f : Fault} {i : Symbols} → ◌≡◌ {A = Outcome Symbols A} (Err x) (Err (f, i)) → x.0 ≡ f
 err_fault {x} {f} {i} e = let pairs : ◌≡◌ {A = Fault × Symbols} x (f, i) = cc in ap (λ (z : Fault × Symbols). z.0) pairs
 
 end_place : (i : Symbols) (a : Sized (List RawStmt)) (f : Fault) → ends_list (look i).kind ≡ true → and_then (s.expect_end i) (λ _ j. Ok (a, j)) ≡ Err (f, []) → ⊥
