@@ -76,14 +76,14 @@ clash e = cc
 
 stopped : {b : ℕ} {c : Fault} {xs : Symbols} (p : Symbols) (us : L) {o : Outcome Symbols (Sized (List RawStmt))} → xs ≡ p ++ map real us → Fails b (λ j i. FrontAt j xs i) o → o ≡ Err (c, map real us) → Stopped c p us
 stopped p us e fine q = absurd (cc)
-stopped {c} p us e (stop {c = a} {i} l j h) q =
+stopped {c} p us e (stop {c = a} {i} l o j h) q =
     let pairs : ◌≡◌ {A = Fault × Symbols} (a, i) (c, map real us) = cc in
     let cause : a ≡ c = ap (λ (z : Fault × Symbols). z.0) pairs in
     record {
       front = front_at p (e ∙ ap (λ l. p ++ l) (sym (ap (λ (z : Fault × Symbols). z.1) pairs))) h;
       deeper = λ m t vs f. absurd (clash (sym m ∙ ap (λ (z : Fault). is_limit z.cause) (sym cause) ∙ l));
     }
-stopped {c} {xs} p us e (deep {c = a} {i} {ys} m j lt h t s u w) q =
+stopped {c} {xs} p us e (deep {c = a} {i} {ys} m o j lt h t s u w) q =
     let pairs : ◌≡◌ {A = Fault × Symbols} (a, i) (c, map real us) = cc in
     let place : i ≡ map real us = ap (λ (z : Fault × Symbols). z.1) pairs in
     record {

@@ -13,7 +13,7 @@ use Rattle.cc_grammar.specs.RawTree as raw
 use Rattle.cc_grammar.specs.Signs.{refused_kind}
 use Rattle.cc_grammar.specs.Grammar as g
 use Rattle.cc_grammar.specs.Grammar.{Context, At, Variable, E, T, is_tail, opens_no_expression}
-use Rattle.cc_grammar.specs.Reading.{Outcome, Fault, Cause, Due, and_then, fault, either, refused_there, depth, variable_of}
+use Rattle.cc_grammar.specs.Reading.{Outcome, Fault, Cause, Due, and_then, fault, either, refused_there, depth, syntax, variable_of}
 use Rattle.cc_grammar.specs.Reading as r
 use Rattle.cc_grammar.proofs.Marked.{In}
 use Rattle.cc_grammar.proofs.Meets.{Done, ok, err}
@@ -86,20 +86,20 @@ no_t xs c j = record { front = stays xs; more = λ zs. real (token (k.due k.stat
 -- If it isn't read, then what came before is a front. At the depth it is one below b, and with the next token it is one too.
 pub data Fails {A : Type 0} (b : ℕ) (P : ℕ → Symbols → Type 0) : Outcome Symbols A → Type 0 where
   fine : {p : A × Symbols} → Fails b P (Ok p)
-  stop : {c : Fault} {i : Symbols} → is_limit c.cause ≡ false → (j : ℕ) → P j i → Fails b P (Err (c, i))
-  deep : {c : Fault} {i ys : Symbols} → c.cause ≡ depth → (j : ℕ) → j < b → P j i → (t : Lexeme) → real t ∷ ys ≡ i → (u : ℕ) → P u ys → Fails b P (Err (c, i))
+  stop : {c : Fault} {i : Symbols} → is_limit c.cause ≡ false → (c.cause ≡ syntax → c.place ≡ (look i).place) → (j : ℕ) → P j i → Fails b P (Err (c, i))
+  deep : {c : Fault} {i ys : Symbols} → c.cause ≡ depth → c.place ≡ (look i).place → (j : ℕ) → j < b → P j i → (t : Lexeme) → real t ∷ ys ≡ i → (u : ℕ) → P u ys → Fails b P (Err (c, i))
 
 pub fails_after : {A B : Type 0} {b : ℕ} {D : A → Symbols → Type 0} {P : ℕ → Symbols → Type 0} {o : Outcome Symbols A} {f : A → s.Reader B}
     → Done D o → Fails b P o → ((a : A) (i : Symbols) → D a i → Fails b P (f a i)) → Fails b P (and_then o f)
 fails_after (ok {a} {i} h) e k = k a i h
-fails_after err (stop l j h) k = stop l j h
-fails_after err (deep e j lt h t q u w) k = deep e j lt h t q u w
+fails_after err (stop l m j h) k = stop l m j h
+fails_after err (deep e m j lt h t q u w) k = deep e m j lt h t q u w
 
 -- what begins it begins what it is a part of
 pub fails_map : {A : Type 0} {b c : ℕ} {P Q : ℕ → Symbols → Type 0} {o : Outcome Symbols A} (f : ℕ → ℕ) → ((j : ℕ) → j < b → f j < c) → ((j : ℕ) (i : Symbols) → P j i → Q (f j) i) → Fails b P o → Fails c Q o
 fails_map f lt m fine = fine
-fails_map f lt m (stop l j h) = stop l (f j) (m j _ h)
-fails_map f lt m (deep e j le h t q u w) = deep e (f j) (lt j le) (m j _ h) t q (f u) (m u _ w)
+fails_map f lt m (stop l o j h) = stop l o (f j) (m j _ h)
+fails_map f lt m (deep e o j le h t q u w) = deep e o (f j) (lt j le) (m j _ h) t q (f u) (m u _ w)
 
 pub fails_fork : {A : Type 0} {b : ℕ} {P : ℕ → Symbols → Type 0} (c : Bool) (p q : s.Reader A) {i : Symbols} → (c ≡ true → Fails b P (p i)) → (c ≡ false → Fails b P (q i)) → Fails b P (cond c p q i)
 fails_fork true p q h l = h refl
@@ -115,7 +115,7 @@ either_sharp None (Some d) = refl
 either_sharp None None = refl
 
 pub fails_here : {A : Type 0} {b : ℕ} {P : ℕ → Symbols → Type 0} (d : Due) (xs : Symbols) (j : ℕ) → P j xs → Fails {A = A} b P (Err (fault d (look xs), xs))
-fails_here d xs j h = stop (either_sharp (refused_kind (look xs).kind) (refused_there d (look xs).kind)) j h
+fails_here d xs j h = stop (either_sharp (refused_kind (look xs).kind) (refused_there d (look xs).kind)) (λ _. refl) j h
 
 pub expect_fails : {b : ℕ} {P : ℕ → Symbols → Type 0} (m : Mark) (xs : Symbols) (j : ℕ) → P j xs → Fails b P (s.expect m xs)
 unfolding r.expect
@@ -134,7 +134,7 @@ variable_fails {b} {P} xs j h = by (variable_of (look xs).kind) where
 
 pub deeper_fails : {A : Type 0} {b d h : ℕ} {P : ℕ → Symbols → Type 0} {x : Kind} {xs ys : Symbols} {o : Outcome Symbols A} → At x xs ys → (h < d → Fails b P o) → (j : ℕ) → j < b → P j xs → (u : ℕ) → P u ys
     → Fails b P (cond (nat_lt h d) o (Err (record { cause = depth; place = (look xs).place }, xs)))
-deeper_fails {d} {h} {xs} c f j lt p u q = fails_choice (nat_lt h d) (λ e. f (ltb-true h d e)) (λ _. deep refl j lt p (look xs) (at_is c) u q)
+deeper_fails {d} {h} {xs} c f j lt p u q = fails_choice (nat_lt h d) (λ e. f (ltb-true h d e)) (λ _. deep refl refl j lt p (look xs) (at_is c) u q)
 
 pub record FailsInner (d n : ℕ) (inner : In) : Type 0 where
   pub expr : 0 < d → (b : Bool) (l : ℕ) (xs : Symbols) → reals xs < n → l ≤ 13 → Fails d (λ j i. Begun (EE j b l) xs i) (inner.expr b l xs)

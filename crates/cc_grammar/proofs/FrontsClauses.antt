@@ -34,7 +34,7 @@ use Rattle.cc_grammar.proofs.OnSymbols as s
 -- ---- the end of a statement
 
 pub semicolon_fails : {b : ℕ} {P : ℕ → Symbols → Type 0} (xs : Symbols) (j : ℕ) → P j xs → Fails b P (semicolon_symbol xs)
-semicolon_fails [] j h = stop refl j h
+semicolon_fails [] j h = stop refl (λ _. refl) j h
 semicolon_fails (inserted ∷ xs) j h = fine
 semicolon_fails (real t ∷ xs) j h = fails_choice (is_mark mark.Semicolon t.kind) (λ _. fine) (λ _. fails_here r.a_token (real t ∷ xs) j h)
 

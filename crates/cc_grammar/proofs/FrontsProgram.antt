@@ -57,7 +57,7 @@ module _ (d n : ℕ) (inner : In) (sound : SoundInner d inner) (all : FailsInner
   stmt_by_fails c xs x v ln e view.throw = throw_fails d n inner sound all c xs ln e
   stmt_by_fails c xs x v ln e view.try = let o = consumed xs (k.word word.Try) refl e in begins c xs {h = 1} o (λ lt. try_fails d n inner sound all c xs o lt ln) _ (try_begun d n inner sound all c 1 o (no_block (rest xs) (g.inside c) 1 (omega arith)))
   stmt_by_fails c xs x v ln e view.declaration = let o = consumed xs (k.word word.Function) refl e in fails_fork c.declares _ _
-      (λ a. begins c xs {h = 0} o (λ lt. declaration_fails d n inner sound all c xs a o lt ln) 1 (declare_word d n inner sound all c a o)) (λ _. stop refl 0 (no_t xs c 0))
+      (λ a. begins c xs {h = 0} o (λ lt. declaration_fails d n inner sound all c xs a o lt ln) 1 (declare_word d n inner sound all c a o)) (λ _. stop refl (λ w. cc) 0 (no_t xs c 0))
   stmt_by_fails c xs x v ln e view.any_statement = fine
   stmt_by_fails c xs x v ln e (view.name {n = w}) = name_fails d n inner sound all c w xs ln e
   stmt_by_fails c xs x v ln e (view.plain f) = plain_fails d n inner sound all c xs ln (ap opens_no_expression e ∙ f)
