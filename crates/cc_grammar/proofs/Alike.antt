@@ -99,7 +99,8 @@ module _ {A B : Type 0} {p q : s.Reader A} {f g : A → s.Reader B} where
   pub alike_after : Alike p q → ((a : A) → Alike (f a) (g a)) → Alike (λ i. and_then (p i) f) (λ i. and_then (q i) g)
   alike_after l h = record {
     decides = λ before t. decides_after before t l h (l.decides before t);
-    walks = λ xs. stands_after xs (p xs) f (l.walks xs) (λ a ys. (h a).walks ys) }
+    walks = λ xs. stands_after xs (p xs) f (l.walks xs) (λ a ys. (h a).walks ys);
+  }
 
 -- ---- steps
 
@@ -116,7 +117,8 @@ alike_refuse c p = alike_err (record { cause = refused c; place = p }) (record {
 pub alike_look : {A : Type 0} (p q : Lexeme → s.Reader A) → ((x : Lexeme) → Alike (p x) (q x)) → Alike (λ i. p (look i) i) (λ i. q (look i) i)
 alike_look p q h = record {
   decides = elim [ [] ↦ λ t. seen [] t (lexeme_of t) (λ xs. refl) ((h (lexeme_of t)).decides [] t) | m ∷ before ↦ λ t. seen (m ∷ before) t (lexeme_of m) (λ xs. refl) ((h (lexeme_of m)).decides (m ∷ before) t) ];
-  walks = λ xs. (h (look xs)).walks xs } where
+  walks = λ xs. (h (look xs)).walks xs;
+} where
   seen : (before : Symbols) (t : Symbol) (x : Lexeme) → ((xs : Symbols) → look (before ++ t ∷ xs) ≡ x) → Decides (p x) (q x) before t → Decides (λ i. p (look i) i) (λ i. q (look i) i) before t
   seen before t x e (stops mid a u v) = stops mid a (λ xs. ap (λ y. p y (before ++ t ∷ xs)) (e xs) ∙ u xs) (λ xs. ap (λ y. q y (before ++ t ∷ xs)) (e xs) ∙ v xs)
   seen before t x e (barred v) = barred (λ xs. err_by (ap (λ y. q y (before ++ t ∷ xs)) (e xs)) (v xs))
@@ -127,7 +129,8 @@ alike_look p q h = record {
 pub alike_take : Alike (λ i. Ok (look i, rest i)) (λ i. Ok (look i, rest i))
 alike_take = record {
   decides = elim [ [] ↦ λ t. passes (λ xs. whole xs) | m ∷ before ↦ λ t. stops before (lexeme_of m) (λ xs. refl) (λ xs. refl) ];
-  walks = tail_of }
+  walks = tail_of;
+}
 
 -- and goes on
 pub alike_behind : {A : Type 0} {p q : s.Reader A} → Alike p q → Alike (λ i. and_then (Ok (look i, rest i)) (λ _. p)) (λ i. and_then (Ok (look i, rest i)) (λ _. q))
@@ -295,4 +298,5 @@ module _ {A : Type 0} (place : Place) where
     pub alike_unless : Alike la lb → Alike p q → Alike First Second
     alike_unless l h = record {
       decides = λ before t. ahead before t (l.decides before t) (h.decides before t);
-      walks = λ xs. stands_unless xs (la xs) (p xs) (l.walks xs) (h.walks xs) }
+      walks = λ xs. stands_unless xs (la xs) (p xs) (l.walks xs) (h.walks xs);
+    }

@@ -104,7 +104,7 @@ module _ (d e n o : ℕ) (inner outer : In) (le : d ≤ e) (lo : n ≤ o) (all :
       (alike_fork (is_element t.kind) _ _ _ _ (alike_after (alike_behind (alike_expect mark.CloseBracket)) (λ _. alike_pure (found, h)))
       (alike_fork (is_mark mark.Comma t.kind) _ _ _ _ (alike_stops (refused construct.Hole))
       (alike_after (all.expr true 1) (λ x. alike_look _ _ (λ v. alike_fork (is_mark mark.Comma v.kind) _ _ _ _
-        (alike_behind (elements_alike m u (found ++ x.0 ∷ []) (max h x.1) (omega arith))) (alike_close mark.CloseBracket (found ++ x.0 ∷ [], max h x.1))))))))
+      (alike_behind (elements_alike m u (found ++ x.0 ∷ []) (max h x.1) (omega arith))) (alike_close mark.CloseBracket (found ++ x.0 ∷ [], max h x.1))))))))
 
   key_by_alike : (y : Option RawKey) → Alike (s.key_by d n inner y) (s.key_by e o outer y)
   key_by_alike None = alike_fail r.a_token
@@ -121,7 +121,7 @@ module _ (d e n o : ℕ) (inner outer : In) (le : d ≤ e) (lo : n ≤ o) (all :
   fields_alike (suc m) zero found h lt = absurd (omega arith)
   fields_alike (suc m) (suc u) found h lt = alike_look _ _ (λ t. alike_fork (is_mark mark.CloseBrace t.kind) _ _ _ _ (alike_behind (alike_pure (found, h)))
       (alike_after field_alike (λ x. alike_look _ _ (λ v. alike_fork (is_mark mark.Comma v.kind) _ _ _ _
-        (alike_behind (fields_alike m u (found ++ x.0 ∷ []) (max h x.1) (omega arith))) (alike_close mark.CloseBrace (found ++ x.0 ∷ [], max h x.1))))))
+      (alike_behind (fields_alike m u (found ++ x.0 ∷ []) (max h x.1) (omega arith))) (alike_close mark.CloseBrace (found ++ x.0 ∷ [], max h x.1))))))
 
   arguments_alike : (m u : ℕ) (found : List RawExpr) (h : ℕ) → m ≤ u → Alike (s.arguments d n inner m found h) (s.arguments e o outer u found h)
   unfolding r.arguments
@@ -248,14 +248,14 @@ module _ (d e n o : ℕ) (inner outer : In) (le : d ≤ e) (lo : n ≤ o) (all :
     by : (c : Bool) → Near j (cond c (s.prefix_expr d n inner b x xs) (Err (record { cause = depth; place = (look xs).place }, xs)))
     by false = stopped refl
     by true = near_after (λ a. s.prefix_by d n inner x (look xs).place a (prefix_tree x (look xs).place a.0)) (all.follows.is b 13 n 0 false j (rest xs) (omega arith) q)
-      (λ a ys. (prefix_by_alike x (look xs).place a (prefix_tree x (look xs).place a.0)).walks ys)
+        (λ a ys. (prefix_by_alike x (look xs).place a (prefix_tree x (look xs).place a.0)).walks ys)
 
   pub prefixed_alike : (b : Bool) (x : Prefix) → Alike (s.prefixed d n inner b x) (s.prefixed e o outer b x)
   unfolding r.prefixed
   prefixed_alike b x = alike_fork (is_delete x) _ _ _ _
       (alike_look (λ t i. r.unless_deleted Symbols look rest semicolon_symbol (s.opened n 0 (rest i)) t.place (cond (nat_lt 0 d) (s.prefix_expr d n inner b x i) (Err (record { cause = depth; place = (look i).place }, i))))
-        (λ t i. r.unless_deleted Symbols look rest semicolon_symbol (s.opened o 0 (rest i)) t.place (cond (nat_lt 0 e) (s.prefix_expr e o outer b x i) (Err (record { cause = depth; place = (look i).place }, i))))
-        (λ t. alike_unless t.place (λ i. s.opened n 0 (rest i)) (λ i. s.opened o 0 (rest i)) _ _ (λ xs j q. near_prefix b x xs j q) (alike_behind (opened_alike n o 0 lo)) (deeper_alike 0 _ _ (prefix_expr_alike b x))))
+      (λ t i. r.unless_deleted Symbols look rest semicolon_symbol (s.opened o 0 (rest i)) t.place (cond (nat_lt 0 e) (s.prefix_expr e o outer b x i) (Err (record { cause = depth; place = (look i).place }, i))))
+      (λ t. alike_unless t.place (λ i. s.opened n 0 (rest i)) (λ i. s.opened o 0 (rest i)) _ _ (λ xs j q. near_prefix b x xs j q) (alike_behind (opened_alike n o 0 lo)) (deeper_alike 0 _ _ (prefix_expr_alike b x))))
       (deeper_alike 0 _ _ (prefix_expr_alike b x))
 
   climb_by_alike : (b : Bool) (l : ℕ) (a : Sized RawExpr) (again more : Sized RawExpr → s.Reader (Sized RawExpr)) (x : Option Infix) → ((c : Sized RawExpr) → Alike (again c) (more c))
@@ -275,7 +275,7 @@ module _ (d e n o : ℕ) (inner outer : In) (le : d ≤ e) (lo : n ≤ o) (all :
   unfolding r.conditional
   conditional_alike b a = alike_look _ _ (λ t. alike_fork (is_mark mark.Question t.kind) _ _ _ _
       (deeper_alike a.1 _ _ (alike_behind (alike_after (all.expr true 1) (λ x. alike_after (alike_expect mark.Colon) (λ _. alike_after (all.expr b 1) (λ y.
-        alike_pure (raw.cond t.place a.0 x.0 y.0, max a.1 (max x.1 y.1) + 1)))))))
+      alike_pure (raw.cond t.place a.0 x.0 y.0, max a.1 (max x.1 y.1) + 1)))))))
       (alike_pure a))
 
   assign_by_alike : (b : Bool) (a : Sized RawExpr) (x : Option (Option BinOp)) (g : Option RawTarget) → Alike (s.assign_by d n inner b a x g) (s.assign_by e o outer b a x g)

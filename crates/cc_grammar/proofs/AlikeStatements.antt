@@ -115,7 +115,7 @@ module _ (d e n o : ℕ) (inner outer : In) (le : d ≤ e) (lo : n ≤ o) (all :
   for_alike c = alike_after alike_take (λ t. alike_after (alike_expect mark.OpenParen) (λ _. alike_look _ _ (λ u. alike_fork (is_word word.Var u.kind) _ _ _ _
       (alike_behind (alike_after (declarators_alike inner.expr outer.expr all.expr false n o [] 0 lo) (λ vs. alike_look _ _ (λ v. for_vars_alike c t.place vs.0 vs.1 (is_word word.In v.kind)))))
       (alike_fork (is_mark mark.Semicolon u.kind) _ _ _ _ (for_rest_alike c t.place (raw.no_init, 0))
-        (alike_after (all.expr false 0) (λ x. alike_look _ _ (λ v. for_value_alike c t.place x (target_of x.0) (is_word word.In v.kind))))))))
+      (alike_after (all.expr false 0) (λ x. alike_look _ _ (λ v. for_value_alike c t.place x (target_of x.0) (is_word word.In v.kind))))))))
 
   -- ---- jumps
 

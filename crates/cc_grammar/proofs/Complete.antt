@@ -19,18 +19,21 @@ none_within : (n : ℕ) → CompleteInner 0 n s.no_depth
 none_within n = record {
   expr = λ b l h ln ll ne lt x q. absurd (omega arith);
   callee = λ b l h ln ll lt x f q. absurd (omega arith);
-  stmt = λ c h ln lt x. absurd (omega arith) }
+  stmt = λ c h ln lt x. absurd (omega arith);
+}
 
 pub inner_complete : (n d : ℕ) → CompleteInner (suc d) n (s.reader n d)
 unfolding r.reader
 inner_complete n zero = record {
   expr = λ b l h ln ll ne lt x q. expr_read 0 n s.no_depth (none_within n) b l h ln ll ne (omega arith) x q;
   callee = λ b l h ln ll lt x f q. callee_read 0 n s.no_depth (none_within n) b l h ln ll (omega arith) x f q;
-  stmt = λ c h ln lt x. stmt_read 0 n s.no_depth (none_within n) c h ln (omega arith) x }
+  stmt = λ c h ln lt x. stmt_read 0 n s.no_depth (none_within n) c h ln (omega arith) x;
+}
 inner_complete n (suc d) = record {
   expr = λ b l h ln ll ne lt x q. expr_read (suc d) n (s.reader n d) (inner_complete n d) b l h ln ll ne (omega arith) x q;
   callee = λ b l h ln ll lt x f q. callee_read (suc d) n (s.reader n d) (inner_complete n d) b l h ln ll (omega arith) x f q;
-  stmt = λ c h ln lt x. stmt_read (suc d) n (s.reader n d) (inner_complete n d) c h ln (omega arith) x }
+  stmt = λ c h ln lt x. stmt_read (suc d) n (s.reader n d) (inner_complete n d) c h ln (omega arith) x;
+}
 
 -- A program that is derived within the depth is read.
 pub program_read : (n d h : ℕ) {xs : Symbols} {b : List RawStmt} → reals xs < n → h ≤ d → Derives h xs b → Reads h (read_symbols n d xs) b []

@@ -64,8 +64,12 @@ module _ (d n : ℕ) (inner : In) (all : CompleteInner d n inner) where
     declarators_read (suc m) found j lm ln lj (g.more_declarators {v} {vs} {ws} x c y) q =
         let p = declarator_read ln x (at_next c (comma b)) in
         let w = declarators_read m (found ++ v ∷ []) (max j p.height) (omega (arith, declarator_less x, at_less c)) (omega (arith, declarator_less x, at_less c)) (omega (arith, p.low)) y q in
-        record { height = w.height; low = w.low; is = step _ p.is (chosen_at _ _ _ (mark_at c) (ap (s.declarators d n inner expr b m (found ++ v ∷ []) (max j p.height)) (rest_at c)
-          ∙ w.is ∙ ap (λ (u : List RawDeclarator). Ok ((u, w.height), ws)) (append_assoc found (v ∷ []) vs))) }
+        record {
+          height = w.height;
+          low = w.low;
+          is = step _ p.is (chosen_at _ _ _ (mark_at c) (ap (s.declarators d n inner expr b m (found ++ v ∷ []) (max j p.height)) (rest_at c)
+              ∙ w.is ∙ ap (λ (u : List RawDeclarator). Ok ((u, w.height), ws)) (append_assoc found (v ∷ []) vs)));
+        }
 
     pub all_declarators_read : {vs : List RawDeclarator} {xs ys : Symbols} → reals xs < n → Declarators h b xs vs ys → Quiet b 0 (look ys).kind → Reads h (s.declarators d n inner expr b n [] 0 xs) vs ys
     all_declarators_read ln x q = declarators_read n [] 0 ln ln (omega arith) x q
@@ -91,8 +95,12 @@ module _ (d n : ℕ) (inner : In) (all : CompleteInner d n inner) where
       let e = optional_read mark.Semicolon refl (semicolon true) (omega (arith, at_less q)) (omega arith) x o in
       let f = optional_read mark.CloseParen refl (close_paren true) (omega (arith, at_less q, optional_less x, at_less o)) (omega arith) y w in
       let t = all.stmt (in_loop c) i (omega (arith, at_less q, optional_less x, at_less o, optional_less y, at_less w)) (omega arith) z in
-      record { height = max (max j (max e.height f.height)) t.height + 1; low = omega (arith, e.low, f.low, t.low); is =
-        step _ (taken q) (step _ e.is (step _ (taken o) (step _ f.is (step _ (taken w) (step _ t.is refl))))) }
+      record {
+        height = max (max j (max e.height f.height)) t.height + 1;
+        low = omega (arith, e.low, f.low, t.low);
+        is =
+            step _ (taken q) (step _ e.is (step _ (taken o) (step _ f.is (step _ (taken w) (step _ t.is refl)))));
+      }
 
   for_in_read : (c : Context) (p : Place) (t : raw.RawForTarget) (j : ℕ) {h i u : ℕ} {f : RawExpr} {b : List RawStmt} {us vs ws ts os : Symbols} → reals us < n → u ≤ d → h < u → i < u → j ≤ h
       → Reserved word.In us vs → E h true 0 vs f ws → Sign mark.CloseParen ws ts → T (in_loop c) i ts b os → Reads u (s.for_in d n inner c p t j us) (raw.for_in p t f (stmts b) ∷ []) os
@@ -100,8 +108,12 @@ module _ (d n : ℕ) (inner : In) (all : CompleteInner d n inner) where
   for_in_read c p t j {h} {i} ln lu lh li lj q x o z =
       let e = all.expr true 0 h (omega (arith, at_less q)) (omega arith) (omega arith) (omega arith) x (at_next o (close_paren true)) in
       let w = all.stmt (in_loop c) i (omega (arith, at_less q, e_less x, at_less o)) (omega arith) z in
-      record { height = max (max j e.height) w.height + 1; low = omega (arith, e.low, w.low); is =
-        step _ (ap (inner.expr true 0) (rest_at q) ∙ e.is) (step _ (taken o) (step _ w.is refl)) }
+      record {
+        height = max (max j e.height) w.height + 1;
+        low = omega (arith, e.low, w.low);
+        is =
+            step _ (ap (inner.expr true 0) (rest_at q) ∙ e.is) (step _ (taken o) (step _ w.is refl));
+      }
 
   vars_rest : (c : Context) (p : Place) (vs : List RawDeclarator) (j : ℕ) (us : Symbols) → s.for_vars_by d n inner c p vs j false us ≡ s.for_rest d n inner c p (raw.init_vars (raw.declarators vs), j) us
   vars_rest c p [] j us = refl
@@ -117,7 +129,7 @@ module _ (d n : ℕ) (inner : In) (all : CompleteInner d n inner) where
   for_head c p zs = cond (is_word word.Var (look zs).kind)
       (λ i. and_then (s.declarators d n inner inner.expr false n [] 0 (rest i)) (λ vs j. s.for_vars_by d n inner c p vs.0 vs.1 (is_word word.In (look j).kind) j))
       (cond (is_mark mark.Semicolon (look zs).kind) (s.for_rest d n inner c p (raw.no_init, 0))
-        (λ i. and_then (inner.expr false 0 i) (λ x j. s.for_value_by d n inner c p x (target_of x.0) (is_word word.In (look j).kind) j))) zs
+      (λ i. and_then (inner.expr false 0 i) (λ x j. s.for_value_by d n inner c p x (target_of x.0) (is_word word.In (look j).kind) j))) zs
 
   for_declarators : {h : ℕ} {vs : List RawDeclarator} {xs ys : Symbols} → reals xs < n → h < d → Declarators h false xs vs ys → Quiet false 0 (look ys).kind → Reads h (s.declarators d n inner inner.expr false n [] 0 xs) vs ys
   for_declarators {h} ln lt x q = all_declarators_read inner.expr false h (λ _ _ _ l y z. all.expr false 1 h l (omega arith) (omega arith) lt y z) ln x q
@@ -131,14 +143,22 @@ module _ (d n : ℕ) (inner : In) (all : CompleteInner d n inner) where
   for_read c p {h} ln lu lh li (g.init_value {e = v} {xs} {ys} m) q x o y w z =
       let u = all.expr false 0 h ln (omega arith) (omega arith) (omega arith) m (at_next q (semicolon false)) in
       let t = for_rest_read c p (raw.init_value v) u.height (omega (arith, e_less m)) lu lh li u.low q x o y w z in
-      record { height = t.height; low = t.low; is = skipped_at (is_word word.Var (look xs).kind) _ _ (no_word word.Var (look xs).kind refl (begins m))
-        (skipped_at (is_mark mark.Semicolon (look xs).kind) _ _ (no_mark mark.Semicolon (look xs).kind refl (begins m))
-          (step _ u.is (ap (λ b. s.for_value_by d n inner c p (v, u.height) (target_of v) b ys) (table_at (is_word word.In) q) ∙ value_rest c p (v, u.height) (target_of v) ys ∙ t.is))) }
+      record {
+        height = t.height;
+        low = t.low;
+        is = skipped_at (is_word word.Var (look xs).kind) _ _ (no_word word.Var (look xs).kind refl (begins m))
+            (skipped_at (is_mark mark.Semicolon (look xs).kind) _ _ (no_mark mark.Semicolon (look xs).kind refl (begins m))
+            (step _ u.is (ap (λ b. s.for_value_by d n inner c p (v, u.height) (target_of v) b ys) (table_at (is_word word.In) q) ∙ value_rest c p (v, u.height) (target_of v) ys ∙ t.is)));
+      }
   for_read c p ln lu lh li (g.init_vars {vs = ds} {xs} {zs} v m) q x o y w z =
       let u = for_declarators (omega (arith, at_less v)) (omega arith) m (at_next q (semicolon false)) in
       let t = for_rest_read c p (raw.init_vars (raw.declarators ds)) u.height (omega (arith, at_less v, declarators_less m)) lu lh li u.low q x o y w z in
-      record { height = t.height; low = t.low; is = chosen_at _ _ _ (word_at v) (step _ (ap (s.declarators d n inner inner.expr false n [] 0) (rest_at v) ∙ u.is)
-        (ap (λ b. s.for_vars_by d n inner c p ds u.height b zs) (table_at (is_word word.In) q) ∙ vars_rest c p ds u.height zs ∙ t.is)) }
+      record {
+        height = t.height;
+        low = t.low;
+        is = chosen_at _ _ _ (word_at v) (step _ (ap (s.declarators d n inner inner.expr false n [] 0) (rest_at v) ∙ u.is)
+            (ap (λ b. s.for_vars_by d n inner c p ds u.height b zs) (table_at (is_word word.In) q) ∙ vars_rest c p ds u.height zs ∙ t.is));
+      }
 
   pub for_in_target_read : (c : Context) (p : Place) {h i u : ℕ} {e f : RawExpr} {t : RawTarget} {b : List RawStmt} {zs us vs ws ts os : Symbols} → reals zs < n → u ≤ d → h < u → i < u
       → E h false 15 zs e us → target_of e ≡ Some t → Reserved word.In us vs → E h true 0 vs f ws → Sign mark.CloseParen ws ts → T (in_loop c) i ts b os
@@ -146,9 +166,13 @@ module _ (d n : ℕ) (inner : In) (all : CompleteInner d n inner) where
   for_in_target_read c p {h} {e} {t} {zs} {us} ln lu lh li m r q x o z =
       let v = all.expr false 0 h ln (omega arith) (omega arith) (omega arith) (lower 0 (omega arith) (λ no. absurd (omega arith)) m) (at_next q word_in) in
       let w = for_in_read c p (raw.in_target t) v.height (omega (arith, e_less m)) lu lh li v.low q x o z in
-      record { height = w.height; low = w.low; is = skipped_at (is_word word.Var (look zs).kind) _ _ (no_word word.Var (look zs).kind refl (begins m))
-        (skipped_at (is_mark mark.Semicolon (look zs).kind) _ _ (no_mark mark.Semicolon (look zs).kind refl (begins m))
-          (step _ v.is (ap (λ b. s.for_value_by d n inner c p (e, v.height) (target_of e) b us) (word_at q) ∙ ap (λ o. s.for_value_by d n inner c p (e, v.height) o true us) r ∙ w.is))) }
+      record {
+        height = w.height;
+        low = w.low;
+        is = skipped_at (is_word word.Var (look zs).kind) _ _ (no_word word.Var (look zs).kind refl (begins m))
+            (skipped_at (is_mark mark.Semicolon (look zs).kind) _ _ (no_mark mark.Semicolon (look zs).kind refl (begins m))
+            (step _ v.is (ap (λ b. s.for_value_by d n inner c p (e, v.height) (target_of e) b us) (word_at q) ∙ ap (λ o. s.for_value_by d n inner c p (e, v.height) o true us) r ∙ w.is)));
+      }
 
   pub for_in_var_read : (c : Context) (p : Place) {h i u : ℕ} {v : RawDeclarator} {f : RawExpr} {b : List RawStmt} {zs us vs ws ts os rs : Symbols} → reals zs < n → u ≤ d → h < u → i < u
       → Reserved word.Var zs us → Declarator h false us v vs → Reserved word.In vs ws → E h true 0 ws f ts → Sign mark.CloseParen ts os → T (in_loop c) i os b rs
@@ -156,8 +180,12 @@ module _ (d n : ℕ) (inner : In) (all : CompleteInner d n inner) where
   for_in_var_read c p {v} {vs} ln lu lh li m y q x o z =
       let u = for_declarators (omega (arith, at_less m)) (omega arith) (g.last_declarator y) (at_next q word_in) in
       let w = for_in_read c p (raw.in_declared v.variable v.value) u.height (omega (arith, at_less m, declarator_less y)) lu lh li u.low q x o z in
-      record { height = w.height; low = w.low; is = chosen_at _ _ _ (word_at m) (step _ (ap (s.declarators d n inner inner.expr false n [] 0) (rest_at m) ∙ u.is)
-        (ap (λ b. s.for_vars_by d n inner c p (v ∷ []) u.height b vs) (word_at q) ∙ w.is)) }
+      record {
+        height = w.height;
+        low = w.low;
+        is = chosen_at _ _ _ (word_at m) (step _ (ap (s.declarators d n inner inner.expr false n [] 0) (rest_at m) ∙ u.is)
+            (ap (λ b. s.for_vars_by d n inner c p (v ∷ []) u.height b vs) (word_at q) ∙ w.is));
+      }
 
   -- ---- the clauses of a `switch`
 
@@ -166,21 +194,33 @@ module _ (d n : ℕ) (inner : In) (all : CompleteInner d n inner) where
   unfolding r.clauses
   cases_read c zero found j lm ln lt lj x = absurd (omega arith)
   cases_read c (suc m) found j lm ln lt lj (g.no_case {s = seen} {xs} {ys} o) =
-      record { height = j; low = lj; is = ap (λ w. s.clause_by d n inner (s.clauses d n inner c m) c seen found j w xs) (table_at clause_of o)
-        ∙ ap (λ ys. Ok ((found, j), ys)) (rest_at o) ∙ ap (λ (w : List RawCase). Ok ((w, j), ys)) (sym (append-nil found)) }
+      record {
+        height = j;
+        low = lj;
+        is = ap (λ w. s.clause_by d n inner (s.clauses d n inner c m) c seen found j w xs) (table_at clause_of o)
+            ∙ ap (λ ys. Ok ((found, j), ys)) (rest_at o) ∙ ap (λ (w : List RawCase). Ok ((w, j), ys)) (sym (append-nil found));
+      }
   cases_read c (suc m) {h} found j lm ln lt lj (g.case {s = seen} {e} {b} {cs} {xs} {ws} o x p y z) =
       let v = all.expr true 0 h (omega (arith, at_less o)) (omega arith) (omega arith) lt x (at_next p (colon true)) in
       let w = statements_read d n inner all c (omega (arith, at_less o, e_less x, at_less p)) lt y (cases_begin z) in
       let a : RawCase = record { test = raw.one_expr e; body = b } in
       let q = cases_read c m (found ++ a ∷ []) (max j (max v.height w.height)) (omega (arith, at_less o, e_less x, at_less p, body_less y)) (omega (arith, at_less o, e_less x, at_less p, body_less y)) lt (omega (arith, v.low, w.low)) z in
-      record { height = q.height; low = q.low; is = ap (λ w. s.clause_by d n inner (s.clauses d n inner c m) c seen found j w xs) (table_at clause_of o)
-        ∙ step _ (ap (inner.expr true 0) (rest_at o) ∙ v.is) (step _ (taken p) (step _ w.is (q.is ∙ ap (λ (w : List RawCase). Ok ((w, q.height), ws)) (append_assoc found (a ∷ []) cs)))) }
+      record {
+        height = q.height;
+        low = q.low;
+        is = ap (λ w. s.clause_by d n inner (s.clauses d n inner c m) c seen found j w xs) (table_at clause_of o)
+            ∙ step _ (ap (inner.expr true 0) (rest_at o) ∙ v.is) (step _ (taken p) (step _ w.is (q.is ∙ ap (λ (w : List RawCase). Ok ((w, q.height), ws)) (append_assoc found (a ∷ []) cs))));
+      }
   cases_read c (suc m) {h} found j lm ln lt lj (g.default {b} {cs} {xs} {ws} o p y z) =
       let w = statements_read d n inner all c (omega (arith, at_less o, at_less p)) lt y (cases_begin z) in
       let a : RawCase = record { test = raw.no_expr; body = b } in
       let q = cases_read c m (found ++ a ∷ []) (max j w.height) (omega (arith, at_less o, at_less p, body_less y)) (omega (arith, at_less o, at_less p, body_less y)) lt (omega (arith, w.low)) z in
-      record { height = q.height; low = q.low; is = ap (λ w. s.clause_by d n inner (s.clauses d n inner c m) c false found j w xs) (table_at clause_of o)
-        ∙ step _ (ap (s.expect mark.Colon) (rest_at o) ∙ taken p) (step _ w.is (q.is ∙ ap (λ (w : List RawCase). Ok ((w, q.height), ws)) (append_assoc found (a ∷ []) cs))) }
+      record {
+        height = q.height;
+        low = q.low;
+        is = ap (λ w. s.clause_by d n inner (s.clauses d n inner c m) c false found j w xs) (table_at clause_of o)
+            ∙ step _ (ap (s.expect mark.Colon) (rest_at o) ∙ taken p) (step _ w.is (q.is ∙ ap (λ (w : List RawCase). Ok ((w, q.height), ws)) (append_assoc found (a ∷ []) cs)));
+      }
 
   pub all_cases_read : (c : Context) {h : ℕ} {cs : List RawCase} {xs ys : Symbols} → reals xs < n → h < d → Cases c h false xs cs ys → Reads h (s.clauses d n inner c n false [] 0 xs) cs ys
   all_cases_read c ln lt x = cases_read c n [] 0 ln ln lt (omega arith) x

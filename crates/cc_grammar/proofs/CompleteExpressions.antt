@@ -93,8 +93,12 @@ module _ (d n : ℕ) (inner : In) (all : CompleteInner d n inner) where
   from_chain : {h : ℕ} {xs ys : Symbols} {e : RawExpr} (b : Bool) (l : ℕ) → reals xs < n → l ≤ 13 → h ≤ d → Apart (look ys).kind → E h b 15 xs e ys → UnaryFrom b l h xs e ys
   from_chain {xs} {ys} {e} b l ln ll le a x =
       let w = at_chain d n inner all true b ln (omega arith) (λ z. let no : true ≡ false = z in (cc)) (λ _ _. a.suffix) le x in
-      record { height = w.height; low = w.low; is = by_chain b l xs ll (no_prefix (omega arith) x) ∙ ap (λ o. and_then o (from_postfix b l)) w.is
-        ∙ step _ (no_more_suffixes d n inner true (suc d) (e, w.height) ys a.suffix) (step _ (no_postfix d n inner (e, w.height) ys a.step) refl) }
+      record {
+        height = w.height;
+        low = w.low;
+        is = by_chain b l xs ll (no_prefix (omega arith) x) ∙ ap (λ o. and_then o (from_postfix b l)) w.is
+            ∙ step _ (no_more_suffixes d n inner true (suc d) (e, w.height) ys a.suffix) (step _ (no_postfix d n inner (e, w.height) ys a.step) refl);
+      }
 
   from_prefix : {h j : ℕ} {x : Kind} {o : Prefix} {xs us ys : Symbols} {e : RawExpr} (b : Bool) (l : ℕ) → l ≤ 13 → At x xs us → prefix_of x ≡ Some o → j ≤ h → s.prefixed d n inner b o xs ≡ Ok ((e, j), ys) → UnaryFrom b l h xs e ys
   from_prefix {j} {o} {xs} b l ll c p lj q = record { height = j; low = lj; is = by_prefix b l o xs ll (table_at prefix_of c ∙ p) ∙ step _ q refl }
@@ -119,22 +123,30 @@ module _ (d n : ℕ) (inner : In) (all : CompleteInner d n inner) where
   at_unary b l ln ll lm lo le a q (g.postfix {up} {x = w} {e} {xs} {ys} {zs} v lt x t u o p) =
       let next : suffix_of true (look ys).kind ≡ r.no_suffix = table_at (suffix_of true) o ∙ step_suffix w up p in
       let c = at_chain d n inner all true b ln (omega arith) (λ z. let no : true ≡ false = z in (cc)) (λ _ _. next) (omega arith) x in
-      record { height = c.height + 1; low = omega (arith, c.low); is = by_chain b l xs ll (no_prefix (omega arith) x) ∙ ap (λ o. and_then o (from_postfix b l)) c.is
-        ∙ step _ (no_more_suffixes d n inner true (suc d) (e, c.height) ys next) (step _ (postfix_step d n inner all e c.height (omega (arith, c.low)) t u o p) refl) }
+      record {
+        height = c.height + 1;
+        low = omega (arith, c.low);
+        is = by_chain b l xs ll (no_prefix (omega arith) x) ∙ ap (λ o. and_then o (from_postfix b l)) c.is
+            ∙ step _ (no_more_suffixes d n inner true (suc d) (e, c.height) ys next) (step _ (postfix_step d n inner all e c.height (omega (arith, c.low)) t u o p) refl);
+      }
   at_unary b l ln ll lm lo le a q (g.prefix {h} {o} {e} {f} {xs} {ys} {zs} v lt c p x t) =
       let w = all.expr b 13 h (omega (arith, at_less c)) (omega arith) (λ z. absurd (omega arith)) (omega arith) x (record { apart = a; infix_below = λ i _. omega (arith, bounded i); question = λ z. absurd (omega arith); assigning = λ z. absurd (omega arith); comma = λ z. absurd (omega arith) }) in
       from_prefix b l ll c p (omega (arith, w.low)) (prefixed_by d n inner all b o xs (λ de. rw (rest_at c) (spared n (omega (arith, at_less c)) x (λ v. absurd (deletes_no_variable o (g.at xs) e f de t v))))
-        (prefix_step d n inner all b o (omega arith) c w.is t))
+      (prefix_step d n inner all b o (omega arith) c w.is t))
   at_unary b l ln ll lm lo le a q (g.wrong_prefix {h} {o} {e} {xs} {ys} {zs} v lt c p x t u) =
       let w = all.expr b 13 h (omega (arith, at_less c)) (omega arith) (λ z. absurd (omega arith)) (omega arith) x (looser 13 (omega arith) (at_next u (remedy b))) in
       from_prefix b l ll c p (omega (arith, w.low)) (prefixed_by d n inner all b o xs (λ _. rw (rest_at c) (spared n (omega (arith, at_less c)) x (λ _. remedied u)))
-        (wrong_prefix_step d n inner all b o (omega arith) c w.is t u))
+      (wrong_prefix_step d n inner all b o (omega arith) c w.is t u))
   at_unary b l ln ll lm lo le a q (g.binary {x = z} {o} {e} {f} {xs} {ys} {zs} {ws} v lt lu x c p y) =
       let left = at_unary b l ln ll (omega arith) (above o) (omega arith) (apart_at c (infix_apart b z o p)) (λ i f. omega (arith, same_infix b c p i f)) x in
       let right = climb_step d n inner all b l o e left.height (omega (arith, e_less x, at_less c)) (omega arith) (omega (arith, left.low)) (omega arith) c p y
-            (record { apart = a; infix_below = λ i f. omega (arith, q i f); question = λ z. absurd (omega (arith, above o)); assigning = λ z. absurd (omega (arith, above o)); comma = λ z. absurd (omega (arith, above o)) }) in
-      record { height = max left.height right.0 + 1; low = omega (arith, left.low, right.1); is =
-        left.is ∙ by_climb d n inner b l (e, left.height) ys ∙ ap (λ o. and_then o (from_conditional d n inner b l)) right.2 ∙ sym (by_climb d n inner b l (infix_tree o (g.at ys) e f, max left.height right.0 + 1) ws) }
+      (record { apart = a; infix_below = λ i f. omega (arith, q i f); question = λ z. absurd (omega (arith, above o)); assigning = λ z. absurd (omega (arith, above o)); comma = λ z. absurd (omega (arith, above o)) }) in
+      record {
+        height = max left.height right.0 + 1;
+        low = omega (arith, left.low, right.1);
+        is =
+            left.is ∙ by_climb d n inner b l (e, left.height) ys ∙ ap (λ o. and_then o (from_conditional d n inner b l)) right.2 ∙ sym (by_climb d n inner b l (infix_tree o (g.at ys) e f, max left.height right.0 + 1) ws);
+      }
   at_unary b l ln ll lm lo le a q (g.conditional v lt lu lv x o y p z) = absurd (omega arith)
   at_unary b l ln ll lm lo le a q (g.assign v lt lu x t o p y) = absurd (omega arith)
   at_unary b l ln ll lm lo le a q (g.comma lt lu x o y) = absurd (omega arith)
@@ -151,9 +163,13 @@ module _ (d n : ℕ) (inner : In) (all : CompleteInner d n inner) where
   none_below b l m x le q o e = omega (arith, q.infix_below o e, above o)
 
   settle : {h : ℕ} {xs ys : Symbols} {e : RawExpr} (b : Bool) (l : ℕ) → Quiet b (max 1 l) (look ys).kind → UnaryFrom b l h xs e ys → LastFrom b l h xs e ys
-  settle {ys} {e} b l q w = record { height = w.height; low = w.low; is = w.is ∙ by_climb d n inner b l (e, w.height) ys
-      ∙ step _ (no_more_climbs d n inner b l (suc d) (e, w.height) ys (none_below b l (max 1 l) (look ys).kind (omega arith) q))
-        (step _ (no_conditional d n inner b l (e, w.height) ys (λ le. q.question (omega arith))) (step _ (no_assign d n inner b l (e, w.height) ys (λ le. q.assigning (omega arith))) refl)) }
+  settle {ys} {e} b l q w = record {
+    height = w.height;
+    low = w.low;
+    is = w.is ∙ by_climb d n inner b l (e, w.height) ys
+        ∙ step _ (no_more_climbs d n inner b l (suc d) (e, w.height) ys (none_below b l (max 1 l) (look ys).kind (omega arith) q))
+        (step _ (no_conditional d n inner b l (e, w.height) ys (λ le. q.question (omega arith))) (step _ (no_assign d n inner b l (e, w.height) ys (λ le. q.assigning (omega arith))) refl));
+  }
 
   by_unary : {h m : ℕ} {xs ys : Symbols} {e : RawExpr} (b : Bool) (l : ℕ) → reals xs < n → l ≤ 13 → l ≤ m → 3 ≤ m → h ≤ d → Quiet b (max 1 l) (look ys).kind → E h b m xs e ys → LastFrom b l h xs e ys
   by_unary b l ln ll lm lo le q x = settle b l q (at_unary b l ln ll lm lo le q.apart (λ o f. omega (arith, q.infix_below o f)) x)
@@ -183,17 +199,25 @@ module _ (d n : ℕ) (inner : In) (all : CompleteInner d n inner) where
       let one : Quiet b 1 (look ws).kind = rw (low_level l v ne) q in
       let left = at_unary b l ln ll (omega arith) (omega arith) (omega arith) next.apart (λ i f. omega (arith, next.infix_below i f)) x in
       let c = conditional_step d n inner all b l e left.height (omega (arith, e_less x, at_less o)) v (omega (arith, left.low)) (omega arith) (omega arith) o y p z one in
-      record { height = max left.height (max c.0 c.1) + 1; low = omega (arith, left.low, c.2, c.3); is = left.is ∙ by_climb d n inner b l (e, left.height) ys
-        ∙ step _ (no_more_climbs d n inner b l (suc d) (e, left.height) ys (none_below b l 3 (look ys).kind (omega arith) next))
-          (step _ c.4 (step _ (no_assign d n inner b l (raw.cond (g.at ys) e _ _, max left.height (max c.0 c.1) + 1) ws (λ le. one.assigning (omega arith))) refl)) }
+      record {
+        height = max left.height (max c.0 c.1) + 1;
+        low = omega (arith, left.low, c.2, c.3);
+        is = left.is ∙ by_climb d n inner b l (e, left.height) ys
+            ∙ step _ (no_more_climbs d n inner b l (suc d) (e, left.height) ys (none_below b l 3 (look ys).kind (omega arith) next))
+            (step _ c.4 (step _ (no_assign d n inner b l (raw.cond (g.at ys) e _ _, max left.height (max c.0 c.1) + 1) ws (λ le. one.assigning (omega arith))) refl));
+      }
   at_last b l ln ll ne le q (g.assign {x = w} {o} {e} {t} {xs} {ys} {ws} v lt lu x r c p y) =
       let next : Quiet b 2 (look ys).kind = at_next c (assignment b w o p) in
       let one : Quiet b 1 (look ws).kind = rw (low_level l (omega arith) ne) q in
       let left = from_chain b l ln ll (omega arith) next.apart x in
       let a = assign_step d n inner all b l e left.height (omega (arith, e_less x, at_less c)) v (omega (arith, left.low)) (omega arith) r c p y one in
-      record { height = max left.height a.0 + 1; low = omega (arith, left.low, a.1); is = left.is ∙ by_climb d n inner b l (e, left.height) ys
-        ∙ step _ (no_more_climbs d n inner b l (suc d) (e, left.height) ys (none_below b l 2 (look ys).kind (omega arith) next))
-          (step _ (no_conditional d n inner b l (e, left.height) ys (λ le. next.question (omega arith))) (step _ a.2 refl)) }
+      record {
+        height = max left.height a.0 + 1;
+        low = omega (arith, left.low, a.1);
+        is = left.is ∙ by_climb d n inner b l (e, left.height) ys
+            ∙ step _ (no_more_climbs d n inner b l (suc d) (e, left.height) ys (none_below b l 2 (look ys).kind (omega arith) next))
+            (step _ (no_conditional d n inner b l (e, left.height) ys (λ le. next.question (omega arith))) (step _ a.2 refl));
+      }
   at_last b l ln ll ne le q (g.comma {e} {xs} {ys} {ws} lt lu x o y) =
       let left = at_last b 0 ln (omega arith) (λ z. absurd (omega arith)) (omega arith) (at_next o (comma b)) x in
       let c = comma_step d n inner all b e left.height (omega (arith, e_less x, at_less o)) (omega (arith, left.low)) (omega arith) o y q in

@@ -80,8 +80,12 @@ module _ (d n : ℕ) (inner : In) (all : CompleteInner d n inner) where
   arguments_read (suc m) {h} found j lm ln lt lj (g.more_arguments {e} {es} {ws} x c y) =
       let p = all.expr true 1 h ln (omega arith) (omega arith) lt x (at_next c (comma true)) in
       let q = arguments_read m (found ++ e ∷ []) (max j p.height) (omega (arith, e_less x, at_less c)) (omega (arith, e_less x, at_less c)) lt (omega (arith, p.low)) y in
-      record { height = q.height; low = q.low; is = step _ p.is (chosen_at _ _ _ (mark_at c) (ap (s.arguments d n inner m (found ++ e ∷ []) (max j p.height)) (rest_at c)
-        ∙ q.is ∙ ap (λ (w : List RawExpr). Ok ((w, q.height), ws)) (append_assoc found (e ∷ []) es))) }
+      record {
+        height = q.height;
+        low = q.low;
+        is = step _ p.is (chosen_at _ _ _ (mark_at c) (ap (s.arguments d n inner m (found ++ e ∷ []) (max j p.height)) (rest_at c)
+            ∙ q.is ∙ ap (λ (w : List RawExpr). Ok ((w, q.height), ws)) (append_assoc found (e ∷ []) es)));
+      }
 
   arguments_begin : {h : ℕ} {xs ys : Symbols} {es : List RawExpr} → MoreArguments h xs es ys → is_mark mark.CloseParen (look xs).kind ≡ false
   arguments_begin (g.last_argument {xs} x c) = no_mark mark.CloseParen (look xs).kind refl (begins x)
@@ -100,16 +104,24 @@ module _ (d n : ℕ) (inner : In) (all : CompleteInner d n inner) where
   elements_read (suc m) found j lm ln lt lj (g.no_element {xs} {ys} c) =
       record { height = j; low = lj; is = chosen_at _ _ _ (mark_at c) (ap (λ ys. Ok ((found, j), ys)) (rest_at c) ∙ ap (λ (w : List RawExpr). Ok ((w, j), ys)) (sym (append-nil found))) }
   elements_read (suc m) found j lm ln lt lj (g.any_element {xs} {ys} {zs} c p) =
-      record { height = j; low = lj; is = skipped_at (is_mark mark.CloseBracket (look xs).kind) _ _ (ap (is_mark mark.CloseBracket) (kind_at c)) (chosen_at (is_element (look xs).kind) _ _ (ap is_element (kind_at c))
-        (step _ (ap (s.expect mark.CloseBracket) (rest_at c) ∙ taken p) (ap (λ (w : List RawExpr). Ok ((w, j), zs)) (sym (append-nil found))))) }
+      record {
+        height = j;
+        low = lj;
+        is = skipped_at (is_mark mark.CloseBracket (look xs).kind) _ _ (ap (is_mark mark.CloseBracket) (kind_at c)) (chosen_at (is_element (look xs).kind) _ _ (ap is_element (kind_at c))
+            (step _ (ap (s.expect mark.CloseBracket) (rest_at c) ∙ taken p) (ap (λ (w : List RawExpr). Ok ((w, j), zs)) (sym (append-nil found)))));
+      }
   elements_read (suc m) {h} found j lm ln lt lj (g.last_element {e} {xs} x c) =
       let p = all.expr true 1 h ln (omega arith) (omega arith) lt x (at_next c (looser 1 (omega arith) (close_bracket true))) in
       record { height = max j p.height; low = omega (arith, p.low); is = an_element xs _ _ _ _ (begins x) (step _ p.is (skipped_at _ _ _ (not_comma_bracket c) (step _ (taken c) refl))) }
   elements_read (suc m) {h} found j lm ln lt lj (g.more_elements {e} {es} {xs} {ws} x c y) =
       let p = all.expr true 1 h ln (omega arith) (omega arith) lt x (at_next c (comma true)) in
       let q = elements_read m (found ++ e ∷ []) (max j p.height) (omega (arith, e_less x, at_less c)) (omega (arith, e_less x, at_less c)) lt (omega (arith, p.low)) y in
-      record { height = q.height; low = q.low; is = an_element xs _ _ _ _ (begins x) (step _ p.is (chosen_at _ _ _ (mark_at c) (ap (s.elements d n inner m (found ++ e ∷ []) (max j p.height)) (rest_at c)
-        ∙ q.is ∙ ap (λ (w : List RawExpr). Ok ((w, q.height), ws)) (append_assoc found (e ∷ []) es)))) }
+      record {
+        height = q.height;
+        low = q.low;
+        is = an_element xs _ _ _ _ (begins x) (step _ p.is (chosen_at _ _ _ (mark_at c) (ap (s.elements d n inner m (found ++ e ∷ []) (max j p.height)) (rest_at c)
+            ∙ q.is ∙ ap (λ (w : List RawExpr). Ok ((w, q.height), ws)) (append_assoc found (e ∷ []) es))));
+      }
 
   pub all_elements_read : {h : ℕ} {xs ys : Symbols} {es : List RawExpr} → reals xs < n → h < d → Elements h xs es ys → Reads h (s.elements d n inner n [] 0 xs) es ys
   all_elements_read ln lt x = elements_read n [] 0 ln ln lt (omega arith) x
@@ -119,8 +131,8 @@ module _ (d n : ℕ) (inner : In) (all : CompleteInner d n inner) where
   key_read : {x : Kind} {y : RawKey} {xs ys zs : Symbols} → At x xs ys → key_of x ≡ Some y → Sign mark.Colon ys zs → s.key_by d n inner (key_of (look xs).kind) xs ≡ Ok ((g.at xs, y), ys)
   key_read {y} {xs} c q o = ap (λ v. s.key_by d n inner v xs) (table_at key_of c ∙ q)
       ∙ skipped_at (is_accessor (look xs).kind && is_some (key_of (look (rest xs)).kind)) _ _
-          (ap (λ z. is_accessor (look xs).kind && is_some (key_of (look z).kind)) (rest_at c) ∙ ap (λ z. is_accessor (look xs).kind && is_some (key_of z)) (kind_at o) ∙ and-false _)
-          (ap (λ z. Ok ((g.at xs, y), z)) (rest_at c))
+      (ap (λ z. is_accessor (look xs).kind && is_some (key_of (look z).kind)) (rest_at c) ∙ ap (λ z. is_accessor (look xs).kind && is_some (key_of z)) (kind_at o) ∙ and-false _)
+      (ap (λ z. Ok ((g.at xs, y), z)) (rest_at c))
 
   field_read : {h : ℕ} {xs ys : Symbols} {f : RawField} → reals xs < n → h < d → Field h xs f ys → Quiet true 1 (look ys).kind → Reads h (s.field d n inner xs) f ys
   unfolding r.field
@@ -138,14 +150,22 @@ module _ (d n : ℕ) (inner : In) (all : CompleteInner d n inner) where
       record { height = j; low = lj; is = chosen_at _ _ _ (mark_at c) (ap (λ ys. Ok ((found, j), ys)) (rest_at c) ∙ ap (λ (w : List RawField). Ok ((w, j), ys)) (sym (append-nil found))) }
   fields_read (suc m) found j lm ln lt lj (g.last_field {f} {xs} x c) =
       let p = field_read ln lt x (at_next c (looser 1 (omega arith) (close_brace true))) in
-      record { height = max j p.height; low = omega (arith, p.low); is = skipped_at (is_mark mark.CloseBrace (look xs).kind) _ _ (field_begins x)
-        (step _ p.is (skipped_at _ _ _ (ap (is_mark mark.Comma) (kind_at c)) (step _ (taken c) refl))) }
+      record {
+        height = max j p.height;
+        low = omega (arith, p.low);
+        is = skipped_at (is_mark mark.CloseBrace (look xs).kind) _ _ (field_begins x)
+            (step _ p.is (skipped_at _ _ _ (ap (is_mark mark.Comma) (kind_at c)) (step _ (taken c) refl)));
+      }
   fields_read (suc m) found j lm ln lt lj (g.more_fields {f} {fs} {xs} {ws} x c y) =
       let p = field_read ln lt x (at_next c (comma true)) in
       let q = fields_read m (found ++ f ∷ []) (max j p.height) (omega (arith, field_less x, at_less c)) (omega (arith, field_less x, at_less c)) lt (omega (arith, p.low)) y in
-      record { height = q.height; low = q.low; is = skipped_at (is_mark mark.CloseBrace (look xs).kind) _ _ (field_begins x)
-        (step _ p.is (chosen_at _ _ _ (mark_at c) (ap (s.object_fields d n inner m (found ++ f ∷ []) (max j p.height)) (rest_at c)
-        ∙ q.is ∙ ap (λ (w : List RawField). Ok ((w, q.height), ws)) (append_assoc found (f ∷ []) fs)))) }
+      record {
+        height = q.height;
+        low = q.low;
+        is = skipped_at (is_mark mark.CloseBrace (look xs).kind) _ _ (field_begins x)
+            (step _ p.is (chosen_at _ _ _ (mark_at c) (ap (s.object_fields d n inner m (found ++ f ∷ []) (max j p.height)) (rest_at c)
+            ∙ q.is ∙ ap (λ (w : List RawField). Ok ((w, q.height), ws)) (append_assoc found (f ∷ []) fs))));
+      }
 
   pub all_fields_read : {h : ℕ} {xs ys : Symbols} {fs : List RawField} → reals xs < n → h < d → Fields h xs fs ys → Reads h (s.object_fields d n inner n [] 0 xs) fs ys
   all_fields_read ln lt x = fields_read n [] 0 ln ln lt (omega arith) x

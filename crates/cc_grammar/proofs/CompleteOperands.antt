@@ -100,32 +100,48 @@ module _ (d n : ℕ) (inner : In) (all : CompleteInner d n inner) where
   unfolding head_of r.parentheses
   paren_read b {h} {xs} ln le lt o x c =
       let p = all.expr true 0 h (omega (arith, at_less o)) (omega arith) (omega arith) (omega arith) x (at_next c (close_paren true)) in
-      record { height = p.height + 1; low = omega (arith, p.low); is =
-        by_head d n inner b xs r.is_paren (table_at head_of o) (opened 0 d _ _ (omega arith) (step _ (ap (inner.expr true 0) (rest_at o) ∙ p.is) (step _ (taken c) refl))) }
+      record {
+        height = p.height + 1;
+        low = omega (arith, p.low);
+        is =
+            by_head d n inner b xs r.is_paren (table_at head_of o) (opened 0 d _ _ (omega arith) (step _ (ap (inner.expr true 0) (rest_at o) ∙ p.is) (step _ (taken c) refl)));
+      }
 
   array_read : (b : Bool) {h e : ℕ} {xs ys zs : Symbols} {es : List RawExpr} → reals xs < n → e ≤ d → h < e → Sign mark.OpenBracket xs ys → Elements h ys es zs
       → Reads e (s.primary d n inner b xs) (raw.list (g.at xs) (exprs es)) zs
   unfolding head_of r.array
   array_read b {xs} ln le lt o x =
       let p = all_elements_read d n inner all (omega (arith, at_less o)) (omega arith) x in
-      record { height = p.height + 1; low = omega (arith, p.low); is =
-        by_head d n inner b xs r.is_array (table_at head_of o) (opened 0 d _ _ (omega arith) (step _ (ap (s.elements d n inner n [] 0) (rest_at o) ∙ p.is) refl)) }
+      record {
+        height = p.height + 1;
+        low = omega (arith, p.low);
+        is =
+            by_head d n inner b xs r.is_array (table_at head_of o) (opened 0 d _ _ (omega arith) (step _ (ap (s.elements d n inner n [] 0) (rest_at o) ∙ p.is) refl));
+      }
 
   object_read : (b : Bool) {h e : ℕ} {xs ys zs : Symbols} {fs : List RawField} → reals xs < n → e ≤ d → h < e → Sign mark.OpenBrace xs ys → Fields h ys fs zs
       → Reads e (s.primary d n inner b xs) (raw.object (g.at xs) (fields fs)) zs
   unfolding head_of r.object
   object_read b {xs} ln le lt o x =
       let p = all_fields_read d n inner all (omega (arith, at_less o)) (omega arith) x in
-      record { height = p.height + 1; low = omega (arith, p.low); is =
-        by_head d n inner b xs r.is_object (table_at head_of o) (opened 0 d _ _ (omega arith) (step _ (ap (s.object_fields d n inner n [] 0) (rest_at o) ∙ p.is) refl)) }
+      record {
+        height = p.height + 1;
+        low = omega (arith, p.low);
+        is =
+            by_head d n inner b xs r.is_object (table_at head_of o) (opened 0 d _ _ (omega arith) (step _ (ap (s.object_fields d n inner n [] 0) (rest_at o) ∙ p.is) refl));
+      }
 
   function_expr_read : (b : Bool) {h e : ℕ} {xs ys zs ws : Symbols} {o : Option Named} {ps : List Named} {body : List RawStmt} → reals xs < n → e ≤ d → h < e → Reserved word.Function xs ys → OwnName ys o zs
       → Function h zs ps body ws → Reads e (s.primary d n inner b xs) (raw.fun (g.at xs) o ps (stmts body)) ws
   unfolding head_of r.function_expr
   function_expr_read b {xs} ln le lt f w (g.function_body p q u x c) =
       let y = function_read d n inner all (omega (arith, at_less f, own_less w)) (omega arith) (g.function_body p q u x c) in
-      record { height = y.height + 1; low = omega (arith, y.low); is =
-        by_head d n inner b xs r.is_function (table_at head_of f) (opened 0 d _ _ (omega arith) (step _ (ap s.own_name (rest_at f) ∙ own_name_read w p) (step _ y.is refl))) }
+      record {
+        height = y.height + 1;
+        low = omega (arith, y.low);
+        is =
+            by_head d n inner b xs r.is_function (table_at head_of f) (opened 0 d _ _ (omega arith) (step _ (ap s.own_name (rest_at f) ∙ own_name_read w p) (step _ y.is refl)));
+      }
 
   new_call_read : (b : Bool) {h i e : ℕ} {xs ys zs ws vs : Symbols} {f : RawExpr} {args : List RawExpr} → reals xs < n → e ≤ d → h < e → i < e → Reserved word.New xs ys → E h b 18 ys f zs → Sign mark.OpenParen zs ws
       → Arguments i ws args vs → Reads e (s.primary d n inner b xs) (raw.new (g.at xs) f (exprs args)) vs
@@ -133,18 +149,26 @@ module _ (d n : ℕ) (inner : In) (all : CompleteInner d n inner) where
   new_call_read b {h} {xs} ln le lt lu o x p y =
       let c = all.callee b 18 h (omega (arith, at_less o)) (omega arith) (omega arith) x (table_at (suffix_of false) p) (λ e. absurd (omega arith)) in
       let q = arguments_of_read d n inner all (omega (arith, at_less o, e_less x, at_less p)) (omega arith) y in
-      record { height = max c.height q.height + 1; low = omega (arith, c.low, q.low); is =
-        by_head d n inner b xs r.is_new (table_at head_of o) (opened 0 d _ _ (omega arith) (step _ (ap (inner.expr b 17) (rest_at o) ∙ c.is)
-          (chosen_at _ _ _ (mark_at p) (step _ (ap (s.arguments_of d n inner) (rest_at p) ∙ q.is) refl)))) }
+      record {
+        height = max c.height q.height + 1;
+        low = omega (arith, c.low, q.low);
+        is =
+            by_head d n inner b xs r.is_new (table_at head_of o) (opened 0 d _ _ (omega arith) (step _ (ap (inner.expr b 17) (rest_at o) ∙ c.is)
+            (chosen_at _ _ _ (mark_at p) (step _ (ap (s.arguments_of d n inner) (rest_at p) ∙ q.is) refl))));
+      }
 
   new_read : (b : Bool) {h e : ℕ} {xs ys zs : Symbols} {f : RawExpr} → reals xs < n → e ≤ d → h < e → Reserved word.New xs ys → E h b 17 ys f zs → suffix_of true (look zs).kind ≡ r.no_suffix
       → Reads e (s.primary d n inner b xs) (raw.new (g.at xs) f raw.no_exprs) zs
   unfolding head_of r.new_expr
   new_read b {h} {xs} {zs} ln le lt o x q =
       let c = all.callee b 17 h (omega (arith, at_less o)) (omega arith) (omega arith) x (fewer_suffixes (look zs).kind q) (λ _. no_call (look zs).kind q) in
-      record { height = c.height + 1; low = omega (arith, c.low); is =
-        by_head d n inner b xs r.is_new (table_at head_of o) (opened 0 d _ _ (omega arith) (step _ (ap (inner.expr b 17) (rest_at o) ∙ c.is)
-          (skipped_at (is_mark mark.OpenParen (look zs).kind) _ _ (no_call (look zs).kind q) refl))) }
+      record {
+        height = c.height + 1;
+        low = omega (arith, c.low);
+        is =
+            by_head d n inner b xs r.is_new (table_at head_of o) (opened 0 d _ _ (omega arith) (step _ (ap (inner.expr b 17) (rest_at o) ∙ c.is)
+            (skipped_at (is_mark mark.OpenParen (look zs).kind) _ _ (no_call (look zs).kind q) refl)));
+      }
 
   -- ---- the loop over suffixes has enough turns
 
@@ -183,25 +207,29 @@ module _ (d n : ℕ) (inner : In) (all : CompleteInner d n inner) where
   dot_step calls e j {x} {v} {ys} {zs} {ws} lt (g.at_token t f) p q =
       ap (λ w. s.suffix_by d n inner (s.suffixes d n inner calls d) (e, j) w ys) (ap (suffix_of calls) f ∙ dot_suffix calls)
       ∙ opened j d _ _ lt (step _ (ap (λ w. and_then (s.property_by d n inner w zs) (λ p i. Ok ((raw.member t.place e p.0 p.1, j + 1), i))) (table_at property_of p ∙ q) ∙ ap (λ us. Ok ((raw.member t.place e (g.at zs) v, j + 1), us)) (rest_at p))
-        (more_suffixes calls d (raw.member t.place e (g.at zs) v, j + 1) ws (omega arith)))
+      (more_suffixes calls d (raw.member t.place e (g.at zs) v, j + 1) ws (omega arith)))
 
   bracket_step : (calls : Bool) (e : RawExpr) (j : ℕ) {i : ℕ} {f : RawExpr} {ys zs ws vs : Symbols} → reals zs < n → j < d → i < d → Sign mark.OpenBracket ys zs → E i true 0 zs f ws → Sign mark.CloseBracket ws vs
       → (u : ℕ) × (u ≤ i) × (s.suffixes d n inner calls (suc d) (e, j) ys ≡ s.suffixes d n inner calls (suc d) (raw.index (g.at ys) e f, max j u + 1) vs)
   unfolding r.suffixes r.bracketed
   bracket_step calls e j {i} {f} {ys} {zs} {ws} {vs} ln lt lu o y c =
-      let p = all.expr true 0 i ln (omega arith) (omega arith) lu y (at_next c (close_bracket true)) in
-      (p.height, p.low,
+      let p = all.expr true 0 i ln (omega arith) (omega arith) lu y (at_next c (close_bracket true)) in (
+        p.height,
+        p.low,
         ap (λ w. s.suffix_by d n inner (s.suffixes d n inner calls d) (e, j) w ys) (ap (suffix_of calls) (kind_at o) ∙ bracket_suffix calls)
-        ∙ opened j d _ _ lt (step _ (step _ (ap (inner.expr true 0) (rest_at o) ∙ p.is) (step _ (taken c) refl)) (more_suffixes calls d (raw.index (g.at ys) e f, max j p.height + 1) vs (omega arith))))
+            ∙ opened j d _ _ lt (step _ (step _ (ap (inner.expr true 0) (rest_at o) ∙ p.is) (step _ (taken c) refl)) (more_suffixes calls d (raw.index (g.at ys) e f, max j p.height + 1) vs (omega arith))),
+      )
 
   call_step : (calls : Bool) → (calls ≡ false → ⊥) → (e : RawExpr) (j : ℕ) {i : ℕ} {args : List RawExpr} {ys zs ws : Symbols} → reals zs < n → j < d → i < d → Sign mark.OpenParen ys zs → Arguments i zs args ws
       → (u : ℕ) × (u ≤ i) × (s.suffixes d n inner calls (suc d) (e, j) ys ≡ s.suffixes d n inner calls (suc d) (raw.call (g.at ys) e (exprs args), max j u + 1) ws)
   unfolding r.suffixes r.called
   call_step calls h e j {i} {args} {ys} {zs} {ws} ln lt lu o y =
-      let p = arguments_of_read d n inner all ln lu y in
-      (p.height, p.low,
+      let p = arguments_of_read d n inner all ln lu y in (
+        p.height,
+        p.low,
         ap (λ w. s.suffix_by d n inner (s.suffixes d n inner calls d) (e, j) w ys) (ap (suffix_of calls) (kind_at o) ∙ call_suffix calls h)
-        ∙ opened j d _ _ lt (step _ (step _ (ap (s.arguments_of d n inner) (rest_at o) ∙ p.is) refl) (more_suffixes calls d (raw.call (g.at ys) e (exprs args), max j p.height + 1) ws (omega arith))))
+            ∙ opened j d _ _ lt (step _ (step _ (ap (s.arguments_of d n inner) (rest_at o) ∙ p.is) refl) (more_suffixes calls d (raw.call (g.at ys) e (exprs args), max j p.height + 1) ws (omega arith))),
+      )
 
   -- ---- the loop over suffixes takes over with e
 

@@ -54,7 +54,7 @@ module _ (d n : ℕ) (inner : In) (all : CompleteInner d n inner) where
   unfolding r.prefixed
   prefixed_by b o xs f h = either_way (is_delete o)
       (λ e. let sp = f e in chosen_at (is_delete o) _ _ e (ap (λ w. r.unless_deleted Symbols look rest r.semicolon_symbol w (look xs).place
-        (cond (nat_lt 0 d) (s.prefix_expr d n inner b o xs) (Err (record { cause = r.depth; place = (look xs).place }, xs)))) sp.is ∙ h))
+      (cond (nat_lt 0 d) (s.prefix_expr d n inner b o xs) (Err (record { cause = r.depth; place = (look xs).place }, xs)))) sp.is ∙ h))
       (λ e. skipped_at (is_delete o) _ _ e h)
 
   -- the operand of a unary operator
@@ -86,11 +86,13 @@ module _ (d n : ℕ) (inner : In) (all : CompleteInner d n inner) where
       → (i : ℕ) × (i ≤ h) × (s.climb d n inner b l (suc d) (e, j) ys ≡ s.climb d n inner b l (suc d) (infix_tree o (g.at ys) e f, max j i + 1) ws)
   unfolding r.climb
   climb_step {h} {ys} {zs} {ws} {f} b l o e j ln le lt lu c p y q =
-      let v = all.expr b (level o + 1) h ln (omega (arith, bounded o)) (λ z. absurd (omega (arith, above o))) lu y q in
-      (v.height, v.low,
+      let v = all.expr b (level o + 1) h ln (omega (arith, bounded o)) (λ z. absurd (omega (arith, above o))) lu y q in (
+        v.height,
+        v.low,
         ap (λ w. s.climb_by d n inner (s.climb d n inner b l d) b l (e, j) w ys) (table_at (infix_of b) c ∙ p)
-        ∙ skipped_at (nat_lt (level o) l) _ _ (le-ltb (level o) l le) (opened j d _ _ lt (step _ (ap (inner.expr b (level o + 1)) (rest_at c) ∙ v.is)
-            (more_climbs b l d (infix_tree o (g.at ys) e f, max j v.height + 1) ws (omega arith)))))
+            ∙ skipped_at (nat_lt (level o) l) _ _ (le-ltb (level o) l le) (opened j d _ _ lt (step _ (ap (inner.expr b (level o + 1)) (rest_at c) ∙ v.is)
+            (more_climbs b l d (infix_tree o (g.at ys) e f, max j v.height + 1) ws (omega arith)))),
+      )
 
   -- ---- the conditional operator
 
@@ -100,9 +102,13 @@ module _ (d n : ℕ) (inner : In) (all : CompleteInner d n inner) where
   unfolding r.conditional
   conditional_step b l e j {h} {i} ln le lj lh li o x c y q =
       let p = all.expr true 1 h ln (omega arith) (omega arith) lh x (at_next c (looser 1 (omega arith) (colon true))) in
-      let w = all.expr b 1 i (omega (arith, e_less x, at_less c)) (omega arith) (omega arith) li y q in
-      (p.height, w.height, p.low, w.low,
-        chosen_at (nat_lt l 3) _ _ (lt-ltb l 3 (omega arith)) (chosen_at _ _ _ (mark_at o) (opened j d _ _ lj (step _ (ap (inner.expr true 1) (rest_at o) ∙ p.is) (step _ (taken c) (step _ w.is refl))))))
+      let w = all.expr b 1 i (omega (arith, e_less x, at_less c)) (omega arith) (omega arith) li y q in (
+        p.height,
+        w.height,
+        p.low,
+        w.low,
+        chosen_at (nat_lt l 3) _ _ (lt-ltb l 3 (omega arith)) (chosen_at _ _ _ (mark_at o) (opened j d _ _ lj (step _ (ap (inner.expr true 1) (rest_at o) ∙ p.is) (step _ (taken c) (step _ w.is refl))))),
+      )
 
   -- ---- assignments
 
@@ -111,10 +117,12 @@ module _ (d n : ℕ) (inner : In) (all : CompleteInner d n inner) where
       → (u : ℕ) × (u ≤ h) × (cond (nat_lt l 2) (s.assign d n inner b (e, j)) (λ i. Ok ((e, j), i)) ys ≡ Ok ((raw.assign (g.at ys) o t f, max j u + 1), ws))
   unfolding r.assign
   assign_step b l e j {h} {o} {t} {ys} ln le lj lh q c p y z =
-      let w = all.expr b 1 h ln (omega arith) (omega arith) lh y z in
-      (w.height, w.low,
+      let w = all.expr b 1 h ln (omega arith) (omega arith) lh y z in (
+        w.height,
+        w.low,
         chosen_at (nat_lt l 2) _ _ (lt-ltb l 2 (omega arith)) (ap (λ v. s.assign_by d n inner b (e, j) v (target_of e) ys) (table_at assign_of c ∙ p) ∙ ap (λ v. s.assign_by d n inner b (e, j) (Some o) v ys) q
-          ∙ opened j d _ _ lj (step _ (ap (inner.expr b 1) (rest_at c) ∙ w.is) refl)))
+            ∙ opened j d _ _ lj (step _ (ap (inner.expr b 1) (rest_at c) ∙ w.is) refl)),
+      )
 
   -- ---- the comma operator
 
@@ -132,7 +140,9 @@ module _ (d n : ℕ) (inner : In) (all : CompleteInner d n inner) where
       → (u : ℕ) × (u ≤ h) × (s.commas d n inner b (suc d) (e, j) ys ≡ s.commas d n inner b (suc d) (raw.comma (g.at ys) e f, max j u + 1) ws)
   unfolding r.commas
   comma_step b e j {h} {f} {ys} {ws} ln lj lh o y q =
-      let w = all.expr b 1 h ln (omega arith) (omega arith) lh y q in
-      (w.height, w.low,
+      let w = all.expr b 1 h ln (omega arith) (omega arith) lh y q in (
+        w.height,
+        w.low,
         ap (λ v. s.comma_by d n inner (s.commas d n inner b d) b (e, j) v ys) (mark_at o)
-        ∙ opened j d _ _ lj (step _ (ap (inner.expr b 1) (rest_at o) ∙ w.is) (more_commas b d (raw.comma (g.at ys) e f, max j w.height + 1) ws (omega arith))))
+            ∙ opened j d _ _ lj (step _ (ap (inner.expr b 1) (rest_at o) ∙ w.is) (more_commas b d (raw.comma (g.at ys) e f, max j w.height + 1) ws (omega arith))),
+      )

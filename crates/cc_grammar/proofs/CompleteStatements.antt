@@ -123,11 +123,16 @@ module _ (d n : ℕ) (inner : In) (all : CompleteInner d n inner) where
   simple_read c {h} {xs} {ys} {zs} {e} ln le b x z = by (look xs).kind refl (starts (look xs).kind (begins x) b) where
     p : Reads h (s.expr_of d n inner true 0 xs) e ys
     p = expr_read d n inner all true 0 h ln (omega arith) (λ no. absurd (omega arith)) le x (at_end true z)
+
     by : (y : Kind) → (look xs).kind ≡ y → Starts y → Reads h (s.stmt_of d n inner c xs) (raw.simple (g.at xs) e ∷ []) zs
     by y f (plainly q) = record { height = p.height; low = p.low; is = by_start c xs r.is_plain (ap start_of f ∙ q) (step _ p.is (step _ (ends_at z) refl)) }
-    by y f (with_name {n = v} q) = record { height = p.height; low = p.low; is = by_start c xs (r.is_name v) (ap start_of f)
-      (ap (λ w. s.name_by d n inner c (g.at xs) v (refused_name v) w (rest xs)) (no_label x f (end_colon z)) ∙ ap (λ w. s.name_by d n inner c (g.at xs) v w false (rest xs)) q
-        ∙ step _ (sym (by_name v xs f q) ∙ p.is) (step _ (ends_at z) refl)) }
+    by y f (with_name {n = v} q) = record {
+      height = p.height;
+      low = p.low;
+      is = by_start c xs (r.is_name v) (ap start_of f)
+          (ap (λ w. s.name_by d n inner c (g.at xs) v (refused_name v) w (rest xs)) (no_label x f (end_colon z)) ∙ ap (λ w. s.name_by d n inner c (g.at xs) v w false (rest xs)) q
+          ∙ step _ (sym (by_name v xs f q) ∙ p.is) (step _ (ends_at z) refl));
+    }
 
   -- ---- jumps
 
@@ -161,8 +166,12 @@ module _ (d n : ℕ) (inner : In) (all : CompleteInner d n inner) where
       → Reads h (s.stmt_of d n inner c xs) (raw.return (g.at xs) (raw.one_expr e) ∷ []) ws
   unfolding r.return
   return_value_read c {h} ln le a (g.at_token t {ys} f) q x z = let p = expr_read d n inner all true 0 h (omega arith) (omega arith) (λ no. absurd (omega arith)) le x (at_end true z) in
-      record { height = p.height; low = p.low; is = by_start c (real t ∷ ys) r.is_return (ap start_of f)
-        (chosen_at c.returns _ _ a (skipped_at (ends_return (look ys)) _ _ (value_goes_on ys q (begins x)) (step _ p.is (step _ (ends_at z) refl)))) }
+      record {
+        height = p.height;
+        low = p.low;
+        is = by_start c (real t ∷ ys) r.is_return (ap start_of f)
+            (chosen_at c.returns _ _ a (skipped_at (ends_return (look ys)) _ _ (value_goes_on ys q (begins x)) (step _ p.is (step _ (ends_at z) refl))));
+      }
 
   throw_read : (c : Context) {h : ℕ} {e : RawExpr} {xs ys zs ws : Symbols} → reals xs < n → h ≤ d → Reserved word.Throw xs ys → (look ys).after_line ≡ false → E h true 0 ys e zs → Ends zs ws
       → Reads h (s.stmt_of d n inner c xs) (raw.throw (g.at xs) e ∷ []) ws
@@ -181,8 +190,12 @@ module _ (d n : ℕ) (inner : In) (all : CompleteInner d n inner) where
   try_catch_read c {h} {i} {zs} {ws} ln lu lh li (g.at_token t {ys} q) e x y m =
       let p = block_in_read d n inner all c h (omega arith) (omega arith) e x in
       let w = catch_read d n inner all c i (omega (arith, t_less x)) (omega arith) y in
-      record { height = max p.height w.height + 1; low = omega (arith, p.low, w.low); is = opened 1 d _ _ (omega (arith, block_height x e))
-        (step _ p.is (chosen_at (is_word word.Catch (look zs).kind) _ _ (catch_at y) (step _ w.is (skipped_at (is_word word.Finally (look ws).kind) _ _ m refl)))) }
+      record {
+        height = max p.height w.height + 1;
+        low = omega (arith, p.low, w.low);
+        is = opened 1 d _ _ (omega (arith, block_height x e))
+            (step _ p.is (chosen_at (is_word word.Catch (look zs).kind) _ _ (catch_at y) (step _ w.is (skipped_at (is_word word.Finally (look ws).kind) _ _ m refl))));
+      }
 
   try_both_read : (c : Context) {u h i j : ℕ} {b : List RawStmt} {f : raw.RawCatch} {v : raw.RawFinally} {xs ys zs ws vs : Symbols} → reals xs < n → u ≤ d → h < u → i < u → j < u → Reserved word.Try xs ys → (look ys).kind ≡ k.mark mark.OpenBrace
       → T (inside c) h ys b zs → g.Catch (inside c) i zs f ws → g.Finally (inside c) j ws v vs → Reads u (try_head c xs) (raw.try (g.at xs) (stmts b) f v ∷ []) vs
@@ -191,8 +204,12 @@ module _ (d n : ℕ) (inner : In) (all : CompleteInner d n inner) where
       let p = block_in_read d n inner all c h (omega arith) (omega arith) e x in
       let w = catch_read d n inner all c i (omega (arith, t_less x)) (omega arith) y in
       let o = finally_read d n inner all c j (omega (arith, t_less x, catch_less y)) (omega arith) z in
-      record { height = max p.height (max w.height o.height) + 1; low = omega (arith, p.low, w.low, o.low); is = opened 1 d _ _ (omega (arith, block_height x e))
-        (step _ p.is (chosen_at (is_word word.Catch (look zs).kind) _ _ (catch_at y) (step _ w.is (chosen_at (is_word word.Finally (look ws).kind) _ _ (finally_at z) (step _ o.is refl))))) }
+      record {
+        height = max p.height (max w.height o.height) + 1;
+        low = omega (arith, p.low, w.low, o.low);
+        is = opened 1 d _ _ (omega (arith, block_height x e))
+            (step _ p.is (chosen_at (is_word word.Catch (look zs).kind) _ _ (catch_at y) (step _ w.is (chosen_at (is_word word.Finally (look ws).kind) _ _ (finally_at z) (step _ o.is refl)))));
+      }
 
   try_finally_read : (c : Context) {u h i : ℕ} {b : List RawStmt} {v : raw.RawFinally} {xs ys zs ws : Symbols} → reals xs < n → u ≤ d → h < u → i < u → Reserved word.Try xs ys → (look ys).kind ≡ k.mark mark.OpenBrace
       → T (inside c) h ys b zs → g.Finally (inside c) i zs v ws → Reads u (try_head c xs) (raw.try (g.at xs) (stmts b) raw.no_catch v ∷ []) ws
@@ -200,8 +217,12 @@ module _ (d n : ℕ) (inner : In) (all : CompleteInner d n inner) where
   try_finally_read c {h} {i} {zs} ln lu lh li (g.at_token t {ys} q) e x y =
       let p = block_in_read d n inner all c h (omega arith) (omega arith) e x in
       let w = finally_read d n inner all c i (omega (arith, t_less x)) (omega arith) y in
-      record { height = max p.height w.height + 1; low = omega (arith, p.low, w.low); is = opened 1 d _ _ (omega (arith, block_height x e))
-        (step _ p.is (skipped_at (is_word word.Catch (look zs).kind) _ _ (no_catch_at y) (chosen_at (is_word word.Finally (look zs).kind) _ _ (finally_at y) (step _ w.is refl)))) }
+      record {
+        height = max p.height w.height + 1;
+        low = omega (arith, p.low, w.low);
+        is = opened 1 d _ _ (omega (arith, block_height x e))
+            (step _ p.is (skipped_at (is_word word.Catch (look zs).kind) _ _ (no_catch_at y) (chosen_at (is_word word.Finally (look zs).kind) _ _ (finally_at y) (step _ w.is refl))));
+      }
 
   -- ---- statements
 
@@ -224,18 +245,30 @@ module _ (d n : ℕ) (inner : In) (all : CompleteInner d n inner) where
       let e = head_read d n inner all (omega arith) (omega arith) p x q in
       let a = all.stmt (inside c) i (omega (arith, at_less p, e_less x, at_less q)) (omega arith) y in
       let b = all.stmt (inside c) j (omega (arith, at_less p, e_less x, at_less q, t_less y, at_less m)) (omega arith) z in
-      started c (real t ∷ ys) r.is_if (ap start_of f) (record { height = max e.height (max a.height b.height) + 1; low = omega (arith, e.low, a.low, b.low); is =
-        opened 0 d _ _ (omega arith) (step _ e.is (step _ a.is (chosen_at _ _ _ (word_at m) (step _ (ap (inner.stmt (inside c)) (rest_at m) ∙ b.is) refl)))) })
+      started c (real t ∷ ys) r.is_if (ap start_of f) (record {
+        height = max e.height (max a.height b.height) + 1;
+        low = omega (arith, e.low, a.low, b.low);
+        is =
+            opened 0 d _ _ (omega arith) (step _ e.is (step _ a.is (chosen_at _ _ _ (word_at m) (step _ (ap (inner.stmt (inside c)) (rest_at m) ∙ b.is) refl))));
+      })
   stmt_read c u ln lu (g.if_only {h} {i} {ws} lt lv (g.at_token t {ys} f) p x q y m) =
       let e = head_read d n inner all (omega arith) (omega arith) p x q in
       let a = all.stmt (inside c) i (omega (arith, at_less p, e_less x, at_less q)) (omega arith) y in
-      started c (real t ∷ ys) r.is_if (ap start_of f) (record { height = max e.height a.height + 1; low = omega (arith, e.low, a.low); is =
-        opened 0 d _ _ (omega arith) (step _ e.is (step _ a.is (skipped_at (is_word word.Else (look ws).kind) _ _ m refl))) })
+      started c (real t ∷ ys) r.is_if (ap start_of f) (record {
+        height = max e.height a.height + 1;
+        low = omega (arith, e.low, a.low);
+        is =
+            opened 0 d _ _ (omega arith) (step _ e.is (step _ a.is (skipped_at (is_word word.Else (look ws).kind) _ _ m refl)));
+      })
   stmt_read c u ln lu (g.do_while {h} {i} lt lv (g.at_token t {ys} f) x p q y m z) =
       let b = all.stmt (in_loop c) h (omega arith) (omega arith) x in
       let e = head_read d n inner all (omega (arith, t_less x, at_less p)) (omega arith) q y m in
-      started c (real t ∷ ys) r.is_do (ap start_of f) (record { height = max e.height b.height + 1; low = omega (arith, e.low, b.low); is =
-        opened 0 d _ _ (omega arith) (step _ b.is (step _ (taken_word p) (step _ e.is (step _ (ends_at z) refl)))) })
+      started c (real t ∷ ys) r.is_do (ap start_of f) (record {
+        height = max e.height b.height + 1;
+        low = omega (arith, e.low, b.low);
+        is =
+            opened 0 d _ _ (omega arith) (step _ b.is (step _ (taken_word p) (step _ e.is (step _ (ends_at z) refl))));
+      })
   stmt_read c u ln lu (g.while {h} {i} lt lv (g.at_token t {ys} f) p x q y) =
       let e = head_read d n inner all (omega arith) (omega arith) p x q in
       let b = all.stmt (in_loop c) i (omega (arith, at_less p, e_less x, at_less q)) (omega arith) y in
@@ -261,17 +294,25 @@ module _ (d n : ℕ) (inner : In) (all : CompleteInner d n inner) where
       started c (real t ∷ ys) r.is_switch (ap start_of f) (record { height = max e.height w.height + 1; low = omega (arith, e.low, w.low); is = opened 0 d _ _ (omega arith) (step _ e.is (step _ (taken o) (step _ w.is refl))) })
   stmt_read c u ln lu (g.label {h} {n = v} lt (g.at_token t {ys} f) p i x) =
       let w = all.stmt (labelled v c) h (omega (arith, at_less p)) (omega arith) x in
-      started c (real t ∷ ys) (r.is_name v) (ap start_of f) (record { height = w.height + 1; low = omega (arith, w.low); is =
-        ap (λ b. s.name_by d n inner c t.place v (refused_name v) b ys) (mark_at p) ∙ skipped_at (is_among v c.labels) _ _ i (opened 0 d _ _ (omega arith) (step _ (ap (inner.stmt (labelled v c)) (rest_at p) ∙ w.is) refl)) })
+      started c (real t ∷ ys) (r.is_name v) (ap start_of f) (record {
+        height = w.height + 1;
+        low = omega (arith, w.low);
+        is =
+            ap (λ b. s.name_by d n inner c t.place v (refused_name v) b ys) (mark_at p) ∙ skipped_at (is_among v c.labels) _ _ i (opened 0 d _ _ (omega arith) (step _ (ap (inner.stmt (labelled v c)) (rest_at p) ∙ w.is) refl));
+      })
   stmt_read c u ln lu (g.half_label {n = v} {x} {zs} (g.at_token t {ys} f) e q) = flat (by_start c (real t ∷ ys) (r.is_name v) (ap start_of f)
       (ap (λ b. s.name_by d n inner c t.place v (refused_name v) b ys) (table_at (is_mark mark.Colon) q) ∙ ap (λ w. s.name_by d n inner c t.place v w false ys) e
-        ∙ chosen_at (is_remedy (look ys).kind) _ _ (table_at is_remedy q) (ap (λ us. Ok (([], 0), us)) (rest_at q))))
+      ∙ chosen_at (is_remedy (look ys).kind) _ _ (table_at is_remedy q) (ap (λ us. Ok (([], 0), us)) (rest_at q))))
   stmt_read c u ln lu (g.throw o e x z) = throw_read c ln lu o e x z
   stmt_read c u ln lu (g.try_catch {xs} lt lv (g.at_token t {ys} f) b x y m) = started c (real t ∷ ys) r.is_try (ap start_of f) (try_catch_read c ln lu lt lv (g.at_token t f) b x y m)
   stmt_read c u ln lu (g.try_finally lt lv (g.at_token t {ys} f) b x y) = started c (real t ∷ ys) r.is_try (ap start_of f) (try_finally_read c ln lu lt lv (g.at_token t f) b x y)
   stmt_read c u ln lu (g.try_both lt lv lw (g.at_token t {ys} f) b x y z) = started c (real t ∷ ys) r.is_try (ap start_of f) (try_both_read c ln lu lt lv lw (g.at_token t f) b x y z)
   stmt_read c u ln lu (g.declare a lt (g.at_token t {ys} f) v x) =
       let w = function_read d n inner all (omega (arith, variable_less v)) (omega arith) x in
-      started c (real t ∷ ys) r.is_declaration (ap start_of f) (record { height = w.height + 1; low = omega (arith, w.low); is =
-        chosen_at c.declares _ _ a (opened 0 d _ _ (omega arith) (step _ (taken_variable v) (step _ w.is refl))) })
+      started c (real t ∷ ys) r.is_declaration (ap start_of f) (record {
+        height = w.height + 1;
+        low = omega (arith, w.low);
+        is =
+            chosen_at c.declares _ _ a (opened 0 d _ _ (omega arith) (step _ (taken_variable v) (step _ w.is refl)));
+      })
   stmt_read c u ln lu (g.any_statement (g.at_token t {ys} f)) = flat (by_start c (real t ∷ ys) r.is_any (ap start_of f) refl)

@@ -76,20 +76,22 @@ clash e = cc
 
 stopped : {b : ℕ} {c : Fault} {xs : Symbols} (p : Symbols) (us : L) {o : Outcome Symbols (Sized (List RawStmt))} → xs ≡ p ++ map real us → Fails b (λ j i. FrontAt j xs i) o → o ≡ Err (c, map real us) → Stopped c p us
 stopped p us e fine q = absurd (cc)
-stopped {c} p us e (stop {c = a} {i} l j _ _ h) q =
+stopped {c} p us e (stop {c = a} {i} l o j _ _ h) q =
     let pairs : ◌≡◌ {A = Fault × Symbols} (a, i) (c, map real us) = cc in
     let cause : a ≡ c = ap (λ (z : Fault × Symbols). z.0) pairs in
     record {
       front = front_at p (e ∙ ap (λ l. p ++ l) (sym (ap (λ (z : Fault × Symbols). z.1) pairs))) h;
-      deeper = λ m t vs f. absurd (clash (sym m ∙ ap (λ (z : Fault). is_limit z.cause) (sym cause) ∙ l)) }
-stopped {c} {xs} p us e (deep {c = a} {i} {ys} m j lt h t s u w) q =
+      deeper = λ m t vs f. absurd (clash (sym m ∙ ap (λ (z : Fault). is_limit z.cause) (sym cause) ∙ l));
+    }
+stopped {c} {xs} p us e (deep {c = a} {i} {ys} m o j lt h t s u w) q =
     let pairs : ◌≡◌ {A = Fault × Symbols} (a, i) (c, map real us) = cc in
     let place : i ≡ map real us = ap (λ (z : Fault × Symbols). z.1) pairs in
     record {
       front = front_at p (e ∙ ap (λ l. p ++ l) (sym place)) h;
       deeper = λ _ v vs f. let both : real t ∷ ys ≡ real v ∷ map real vs = s ∙ place ∙ ap (λ (l : L). map real l) f in
-        let token : real t ≡ real v = head_is (real t) (real v) ys (map real vs) both in
-        front_at (p ++ real v ∷ []) (e ∙ ap (λ l. p ++ l) (ap (λ (l : L). map real l) f ∙ ap (λ l. real v ∷ l) (sym (tail_is (real t) (real v) ys (map real vs) both))) ∙ sym (append_assoc p (real v ∷ []) ys)) w }
+          let token : real t ≡ real v = head_is (real t) (real v) ys (map real vs) both in
+          front_at (p ++ real v ∷ []) (e ∙ ap (λ l. p ++ l) (ap (λ (l : L). map real l) f ∙ ap (λ l. real v ∷ l) (sym (tail_is (real t) (real v) ys (map real vs) both))) ∙ sym (append_assoc p (real v ∷ []) ys)) w;
+    }
 
 -- ---- the first difference
 
@@ -125,8 +127,9 @@ module _ (n d h : ℕ) (xs : Symbols) (b : List RawStmt) (x : Derives h xs b) (l
         limited false m = barred (bar m (ap (λ (v : L). offends (look_token v)) l ∙ o)) where
           barred : (is_mark mark.Colon (look_token us).kind ≡ true) ⊎ Shut (read_symbols n d (p ++ inserted ∷ map real us)) (map real us) → ⊥
           barred = elim [
-              Rattle.std.proofs.Common.inl w ↦ no_colon t.kind fresh (ap (λ (v : L). is_mark mark.Colon (look_token v).kind) (sym l) ∙ w)
-            | Rattle.std.proofs.Common.inr w ↦ unread n d n d (omega arith) (omega arith) p inserted (map real us) (real t ∷ after) w.fault ((b, reads.height), []) w.no_limit w.is (ap (read_symbols n d) (sym q) ∙ reads.is) ]
+            | Rattle.std.proofs.Common.inl w ↦ no_colon t.kind fresh (ap (λ (v : L). is_mark mark.Colon (look_token v).kind) (sym l) ∙ w)
+            | Rattle.std.proofs.Common.inr w ↦ unread n d n d (omega arith) (omega arith) p inserted (map real us) (real t ∷ after) w.fault ((b, reads.height), []) w.no_limit w.is (ap (read_symbols n d) (sym q) ∙ reads.is)
+          ]
 
     walk : {ts : L} (a : Symbols) (w : Copy ts us) (zs : Symbols) → p ≡ a ++ put w [] → xs ≡ a ++ zs → ts ≡ lexemes_of zs → Each (λ vs ys. StopsAt (read_symbols n d) vs (a ++ ys)) w → ⊥
     walk a end zs s q l i = not_there zs (q ∙ ap (λ v. v ++ zs) (sym (s ∙ append-nil a))) l
@@ -134,7 +137,7 @@ module _ (n d h : ℕ) (xs : Symbols) (b : List RawStmt) (x : Derives h xs b) (l
     walk a (take {ts} t w) (real u ∷ zs) s q l i =
         let same : real t ≡ real u = ap real (same_head t u ts (lexemes_of zs) l) in
         walk (a ++ real t ∷ []) w zs (s ∙ sym (append_assoc a (real t ∷ []) (put w []))) (q ∙ ap (λ (m : Symbol). a ++ m ∷ zs) (sym same) ∙ sym (append_assoc a (real t ∷ []) zs)) (same_tail t u ts (lexemes_of zs) l)
-          (each_map (λ vs ys. StopsAt (read_symbols n d) vs (a ++ real t ∷ ys)) (λ vs ys. StopsAt (read_symbols n d) vs ((a ++ real t ∷ []) ++ ys)) w (λ vs ys o. ap (read_symbols n d) (append_assoc a (real t ∷ []) ys) ∙ o) i)
+        (each_map (λ vs ys. StopsAt (read_symbols n d) vs (a ++ real t ∷ ys)) (λ vs ys. StopsAt (read_symbols n d) vs ((a ++ real t ∷ []) ++ ys)) w (λ vs ys o. ap (read_symbols n d) (append_assoc a (real t ∷ []) ys) ∙ o) i)
     walk a (take {ts} t w) (inserted ∷ zs) s q l i = by zs l (j a zs q) where
       by : (zs : Symbols) → t ∷ ts ≡ lexemes_of zs → Offends a zs → ⊥
       by zs l (offending u {after} o sharp) = sharp (subst (λ (v : Lexeme). IsFront (a ++ real v ∷ [])) (same_head t u ts (lexemes_of after) l) (first_token a t (put w []) (subst (λ v. IsFront v) s f.front)))
@@ -143,7 +146,7 @@ module _ (n d h : ℕ) (xs : Symbols) (b : List RawStmt) (x : Derives h xs b) (l
         no_front n d a (real u) (map real (lexemes_of zs)) (fault r.a_token u) (no_limit _ _) (subst (λ (v : L). StopsAt (read_symbols n d) v (a ++ map real v)) l i.0) (front_of a (real u) zs (subst (λ v. Is v) q is))
     walk a (insert {ts} o w) (inserted ∷ zs) s q l i =
         walk (a ++ inserted ∷ []) w zs (s ∙ sym (append_assoc a (inserted ∷ []) (put w []))) (q ∙ sym (append_assoc a (inserted ∷ []) zs)) l
-          (each_map (λ vs ys. StopsAt (read_symbols n d) vs (a ++ inserted ∷ ys)) (λ vs ys. StopsAt (read_symbols n d) vs ((a ++ inserted ∷ []) ++ ys)) w (λ vs ys o. ap (read_symbols n d) (append_assoc a (inserted ∷ []) ys) ∙ o) i.1)
+        (each_map (λ vs ys. StopsAt (read_symbols n d) vs (a ++ inserted ∷ ys)) (λ vs ys. StopsAt (read_symbols n d) vs ((a ++ inserted ∷ []) ++ ys)) w (λ vs ys o. ap (read_symbols n d) (append_assoc a (inserted ∷ []) ys) ∙ o) i.1)
 
 -- ---- the whole list
 
@@ -181,33 +184,33 @@ whole_text : (d : ℕ) {ts : L} (xs : Symbols) (a : Sized (List RawStmt)) (us : 
 whole_text d {ts} xs a us text l x =
     let m = body_moves x.body in let t = end_token x.ends in
     text_end ts (lexemes_of m.front.before) t.0 us (ap (λ (v : L). lexemes_of m.front.before ++ t.0 ∷ v) (sym (lexemes_real us)) ∙ sym (lexemes_append m.front.before (real t.0 ∷ map real us))
-      ∙ ap lexemes_of (ap (λ z. m.front.before ++ z) (sym t.2) ∙ sym (m.front.prefix x.last) ∙ m.front.is) ∙ l) t.1 text
+    ∙ ap lexemes_of (ap (λ z. m.front.before ++ z) (sym t.2) ∙ sym (m.front.prefix x.last) ∙ m.front.is) ∙ l) t.1 text
 
 reading : {turns d h : ℕ} {ts : L} {b : List RawStmt} → IsText ts → length ts < turns → ReadsWithin h ts b → h ≤ d → {o : Outcome L (Sized (List RawStmt))} → read_tokens turns d ts ≡ o → Copies false Quiet (read_symbols turns d) ts o → IsRead turns d h ts b
 reading {turns} {d} {h} {ts} {b} text lt p le q (read {a} {us} w e j k z) =
     let xs = put w (map real us) in
     let x : Ended d xs a (map real us) = ended_at d xs a (map real us) (read_symbols turns d xs) (symbols_sound turns d xs) (e (map real us) (lexemes_real us)) in
     by us q w e j (whole_text d xs a us text (put_lexemes w (map real us) (lexemes_real us)) x) where
-  by : (us : L) → read_tokens turns d ts ≡ Ok (a, us) → (w : Copy ts us) → ((zs : Symbols) → Quiet zs us → read_symbols turns d (put w zs) ≡ Ok (a, zs)) → Just (read_symbols turns d) w → us ≡ [] → IsRead turns d h ts b
-  by (u ∷ us) q w e j n = absurd (nothing_some u us (sym n))
-  by [] q w e j n =
-      let ys = put w [] in
-      let x : Ended d ys a [] = ended_at d ys a [] (read_symbols turns d ys) (symbols_sound turns d ys) (e [] refl) in
-      let same : p.symbols ≡ ys = one_from [] p.symbols ys (p.tokens ∙ sym (put_lexemes w [] refl)) p.justified (justified turns d w [] never refl j (body_ready x.body (end_ready x.ends)).paired)
-            (record { height = h; tree = b; derives = p.derives }) (record { height = a.1; tree = a.0; derives = record { last = x.last; body = x.body; ends = x.ends } }) in
-      let r = program_read turns d h (omega (arith, ap length p.tokens)) le p.derives in
-      let both : ◌≡◌ {A = Outcome Symbols (Sized (List RawStmt))} (Ok (a, [])) (Ok ((b, r.height), [])) = sym (e [] refl) ∙ ap (read_symbols turns d) (sym same) ∙ r.is in
-      let pairs : ◌≡◌ {A = Sized (List RawStmt) × Symbols} (a, []) ((b, r.height), []) = cc in
-      record { height = r.height; low = r.low; is = q ∙ ap (λ (v : Sized (List RawStmt)). Ok (v, [])) (ap (λ (v : Sized (List RawStmt) × Symbols). v.0) pairs) }
+      by : (us : L) → read_tokens turns d ts ≡ Ok (a, us) → (w : Copy ts us) → ((zs : Symbols) → Quiet zs us → read_symbols turns d (put w zs) ≡ Ok (a, zs)) → Just (read_symbols turns d) w → us ≡ [] → IsRead turns d h ts b
+      by (u ∷ us) q w e j n = absurd (nothing_some u us (sym n))
+      by [] q w e j n =
+          let ys = put w [] in
+          let x : Ended d ys a [] = ended_at d ys a [] (read_symbols turns d ys) (symbols_sound turns d ys) (e [] refl) in
+          let same : p.symbols ≡ ys = one_from [] p.symbols ys (p.tokens ∙ sym (put_lexemes w [] refl)) p.justified (justified turns d w [] never refl j (body_ready x.body (end_ready x.ends)).paired)
+          (record { height = h; tree = b; derives = p.derives }) (record { height = a.1; tree = a.0; derives = record { last = x.last; body = x.body; ends = x.ends } }) in
+          let r = program_read turns d h (omega (arith, ap length p.tokens)) le p.derives in
+          let both : ◌≡◌ {A = Outcome Symbols (Sized (List RawStmt))} (Ok (a, [])) (Ok ((b, r.height), [])) = sym (e [] refl) ∙ ap (read_symbols turns d) (sym same) ∙ r.is in
+          let pairs : ◌≡◌ {A = Sized (List RawStmt) × Symbols} (a, []) ((b, r.height), []) = cc in
+          record { height = r.height; low = r.low; is = q ∙ ap (λ (v : Sized (List RawStmt)). Ok (v, [])) (ap (λ (v : Sized (List RawStmt) × Symbols). v.0) pairs) }
 reading {turns} {d} {h} {ts} {b} text lt p le q (copy.stop {c} {us} w e j k z) =
     let xs = put w (map real us) in
     let pre = put w [] in
     let same = put_front w (map real us) in
     let tokens : lexemes_of xs ≡ ts = put_lexemes w (map real us) (lexemes_real us) in
     absurd (walk turns d h p.symbols b p.derives le (omega (arith, ap length p.tokens)) p.justified pre (ap (read_symbols turns d) (sym same) ∙ e)
-      (stopped pre us same (program_fails turns d xs (omega (arith, ap length tokens))) e)
-      (λ m o. subst (λ (v : Symbols). (is_mark mark.Colon (look_token us).kind ≡ true) ⊎ Shut (read_symbols turns d v) (map real us)) (put_front w (inserted ∷ map real us)) (z m o))
-      [] w p.symbols refl refl (sym p.tokens) j)
+    (stopped pre us same (program_fails turns d xs (omega (arith, ap length tokens))) e)
+    (λ m o. subst (λ (v : Symbols). (is_mark mark.Colon (look_token us).kind ≡ true) ⊎ Shut (read_symbols turns d v) (map real us)) (put_front w (inserted ∷ map real us)) (z m o))
+    [] w p.symbols refl refl (sym p.tokens) j)
 
 pub complete : IsComplete
 complete turns d h ts b text lt p le = reading text lt p le refl (program_copy turns d ts)

@@ -40,11 +40,11 @@ why_at e q (by_construct x s) = by_construct x (ap (λ (z : Fault). z.cause) (sy
 
 info_by : {d : ℕ} {f : Fault} {xs : Symbols} (p : Symbols) (t : Lexeme) (vs : L) (o : Outcome Symbols (Sized (List RawStmt))) → xs ≡ p ++ map real (t ∷ vs) → Fails (suc d) (λ j i. FrontAt j xs i) o → o ≡ Err (f, map real (t ∷ vs)) → Info d f p t vs
 info_by p t vs o e fine q = absurd (cc)
-info_by {d} {f} p t vs o e (stop {c} {i} l j lt y w) q =
+info_by {d} {f} p t vs o e (stop {c} {i} l _ j lt y w) q =
     let cause : c ≡ f = err_fault q in
     let place : i ≡ map real (t ∷ vs) = err_place q in
     wrong (ap (λ (z : Fault). is_limit z.cause) (sym cause) ∙ l) j (subst (λ (z : Fault). (j < suc d) ⊎ (z.cause ≡ refused construct.DeleteName)) cause lt) (why_at cause place y) (front_within p (e ∙ ap (λ v. p ++ v) (sym place)) w)
-info_by {d} {f} p t vs o e (deep {c} {i} {ys} m j lt w u s v z) q =
+info_by {d} {f} p t vs o e (deep {c} {i} {ys} m _ j lt w u s v z) q =
     let cause : c ≡ f = err_fault q in
     let place : i ≡ map real (t ∷ vs) = err_place q in
     let both : real u ∷ ys ≡ real t ∷ map real vs = s ∙ place in

@@ -76,25 +76,25 @@ module _ (d e n o : ℕ) (inner outer : In) (le : d ≤ e) (lo : n ≤ o) (all :
       (λ a ys. after_walks b l a ys))
   inside b l xs count v j _ (on {a} {i} q) = either_way (is_mark mark.CloseParen (look i).kind)
       (λ c. let read : s.expect mark.CloseParen i ≡ Ok (tt, rest i) = chosen _ _ c refl in
-        follow_by (ap (λ w. and_then (and_then w (λ _ z. Ok ((parenthesised (look xs) a.0, a.1 + 1), z))) (s.after_head d n inner b l)) read)
-          (after_closed b l (parenthesised (look xs) a.0, a.1 + 1) count v (rest i) j (onward count i c q)))
+      follow_by (ap (λ w. and_then (and_then w (λ _ z. Ok ((parenthesised (look xs) a.0, a.1 + 1), z))) (s.after_head d n inner b l)) read)
+      (after_closed b l (parenthesised (look xs) a.0, a.1 + 1) count v (rest i) j (onward count i c q)))
       (λ c. let fails : s.expect mark.CloseParen i ≡ Err (fault r.a_token (look i), i) = skipped _ _ c refl in
-        follow_by (ap (λ w. and_then (and_then w (λ _ z. Ok ((parenthesised (look xs) a.0, a.1 + 1), z))) (s.after_head d n inner b l)) fails)
-          (past (subst (λ z. Stands {A = Sized RawExpr} z (Err (fault r.a_token (look i), i))) (stays _ c q) (whole i))))
+      follow_by (ap (λ w. and_then (and_then w (λ _ z. Ok ((parenthesised (look xs) a.0, a.1 + 1), z))) (s.after_head d n inner b l)) fails)
+      (past (subst (λ z. Stands {A = Sized RawExpr} z (Err (fault r.a_token (look i), i))) (stays _ c q) (whole i))))
 
   at_paren : (b : Bool) (l m count : ℕ) (v : Bool) (j xs : Symbols) → l ≤ 13 → is_mark mark.OpenParen (look xs).kind ≡ true → s.opened m (suc count) (rest xs) ≡ Ok (v, j) → Follow count v j (s.expr_of d n inner b l xs)
   unfolding head_of r.parentheses
   at_paren b l m count v j xs ll q f =
       let kind = mark_true mark.OpenParen (look xs).kind q in
       follow_by (by_operand d n inner b l xs ll (ap prefix_of kind) ∙ ap (λ w. and_then w (s.after_head d n inner b l)) (by_head d n inner b xs r.is_paren (ap head_of kind) refl)) (by (nat_lt 0 d)) where
-    by : (c : Bool) → Follow count v j (and_then (cond c (s.parentheses d n inner xs) (Err (record { cause = depth; place = (look xs).place }, xs))) (s.after_head d n inner b l))
-    by false = held refl
-    by true = inside b l xs count v j (inner.expr true 0 (rest xs)) (all.follows.is true 0 m (suc count) v j (rest xs) (omega arith) f)
+        by : (c : Bool) → Follow count v j (and_then (cond c (s.parentheses d n inner xs) (Err (record { cause = depth; place = (look xs).place }, xs))) (s.after_head d n inner b l))
+        by false = held refl
+        by true = inside b l xs count v j (inner.expr true 0 (rest xs)) (all.follows.is true 0 m (suc count) v j (rest xs) (omega arith) f)
 
   at_name : (b : Bool) (l count : ℕ) (v : Bool) (j xs : Symbols) → l ≤ 13 → Valued (variable_of (look xs).kind) → s.closed count (rest xs) ≡ Ok (v, j) → Follow count v j (s.expr_of d n inner b l xs)
   at_name b l count v j xs ll w f =
       follow_by (by_operand d n inner b l xs ll (no_prefix (look xs).kind w.value w.is)
-        ∙ step (s.after_head d n inner b l) (by_head d n inner b xs (r.is_variable w.value) (variable_head (look xs).kind w.value w.is) refl) refl)
+      ∙ step (s.after_head d n inner b l) (by_head d n inner b xs (r.is_variable w.value) (variable_head (look xs).kind w.value w.is) refl) refl)
       (after_closed b l (raw.var (look xs).place w.value, 0) count v (rest xs) j f)
 
   expr_follows_at : (b : Bool) (l m count : ℕ) (v : Bool) (j xs : Symbols) → l ≤ 13 → s.opened m count xs ≡ Ok (v, j) → Follow count v j (s.expr_of d n inner b l xs)
@@ -103,10 +103,10 @@ module _ (d e n o : ℕ) (inner outer : In) (le : d ≤ e) (lo : n ≤ o) (all :
   expr_follows_at b l (suc m) count v j xs ll f = either_way (is_mark mark.OpenParen (look xs).kind)
       (λ q. at_paren b l m count v j xs ll q (sym (chosen_at (is_mark mark.OpenParen (look xs).kind) _ _ q refl) ∙ f))
       (λ q. either_way (is_some (variable_of (look xs).kind))
-        (λ w. at_name b l count v j xs ll (some_value (variable_of (look xs).kind) w)
-          (sym (skipped_at (is_mark mark.OpenParen (look xs).kind) _ _ q (chosen_at (is_some (variable_of (look xs).kind)) _ _ w refl)) ∙ f))
-        (λ w. past (subst (λ z. Stands z (s.expr_of d n inner b l xs)) (same_place (sym (skipped_at (is_mark mark.OpenParen (look xs).kind) _ _ q (skipped_at (is_some (variable_of (look xs).kind)) _ _ w refl)) ∙ f))
-          ((expr_alike d e n o inner outer le lo all b l).walks xs))))
+      (λ w. at_name b l count v j xs ll (some_value (variable_of (look xs).kind) w)
+      (sym (skipped_at (is_mark mark.OpenParen (look xs).kind) _ _ q (chosen_at (is_some (variable_of (look xs).kind)) _ _ w refl)) ∙ f))
+      (λ w. past (subst (λ z. Stands z (s.expr_of d n inner b l xs)) (same_place (sym (skipped_at (is_mark mark.OpenParen (look xs).kind) _ _ q (skipped_at (is_some (variable_of (look xs).kind)) _ _ w refl)) ∙ f))
+      ((expr_alike d e n o inner outer le lo all b l).walks xs))))
 
   pub expr_follows : Follows (s.expr_of d n inner)
   expr_follows = record { is = expr_follows_at }

@@ -66,8 +66,13 @@ abbrev pub DS : Bool → ℕ → List RawDeclarator → Symbols → Symbols → 
 DS b j vs us ws = Declarators j b us vs ws
 
 no_declarator : (xs : Symbols) (b : Bool) (j : ℕ) → Begun (DD b j) xs xs
-no_declarator xs b j = record { front = stays xs; more = λ zs. real (token (k.due k.variable)) ∷ zs; tree = record { variable = record { place = nowhere; name = [] }; value = raw.no_expr };
-  holds = λ zs. g.unset (g.any_variable (new_at (k.due k.variable))); first = λ zs. fresh (k.due k.variable) refl refl }
+no_declarator xs b j = record {
+  front = stays xs;
+  more = λ zs. real (token (k.due k.variable)) ∷ zs;
+  tree = record { variable = record { place = nowhere; name = [] }; value = raw.no_expr };
+  holds = λ zs. g.unset (g.any_variable (new_at (k.due k.variable)));
+  first = λ zs. fresh (k.due k.variable) refl refl;
+}
 
 pub some_declarator : {b : Bool} {j : ℕ} {xs i : Symbols} → Begun (DD b j) xs i → Begun (DS b j) xs i
 some_declarator w = record { front = w.front; more = w.more; tree = w.tree ∷ []; holds = λ zs. g.last_declarator (w.holds zs); first = w.first }
@@ -82,9 +87,14 @@ module _ (c n : ℕ) (d : ℕ) (inner : In) (expr : Bool → ℕ → s.Reader (S
   unfolding r.declarator
   declarator_fails xs ln = fails_after (read_variable xs) (variable_fails xs 0 (omega arith) (no_declarator xs b 0)) (λ v ys p. fails_fork (is_mark mark.Equal (look ys).kind) _ _
       (λ e. let o = marked mark.Equal ys e in fails_after (sound.is b 1 (rest ys) (omega arith))
-        (fails_map (λ j. j) (λ j l. l) (λ j i w. record { front = joined (variable_taken p.0) (joined (taken o) w.front); more = w.more; tree = record { variable = record { place = (look xs).place; name = v.name }; value = raw.one_expr w.tree };
-          holds = λ zs. g.set (variable_again p.0 _) (again o _) (w.holds zs); first = λ zs. same refl }) (fails 1 (rest ys) (omega (arith, variable_less p.0, at_less o)) (omega arith)))
-        (λ x zs q. fine))
+      (fails_map (λ j. j) (λ j l. l) (λ j i w. record {
+        front = joined (variable_taken p.0) (joined (taken o) w.front);
+        more = w.more;
+        tree = record { variable = record { place = (look xs).place; name = v.name }; value = raw.one_expr w.tree };
+        holds = λ zs. g.set (variable_again p.0 _) (again o _) (w.holds zs);
+        first = λ zs. same refl;
+      }) (fails 1 (rest ys) (omega (arith, variable_less p.0, at_less o)) (omega arith)))
+      (λ x zs q. fine))
       (λ _. fine))
 
   pub declarators_fail : (m : ℕ) (before : List RawDeclarator) (h : ℕ) (xs : Symbols) → reals xs < m → reals xs < n → Fails c (λ j i. Begun (DS b j) xs i) (s.declarators d n inner expr b m before h xs)
@@ -92,10 +102,15 @@ module _ (c n : ℕ) (d : ℕ) (inner : In) (expr : Bool → ℕ → s.Reader (S
   declarators_fail zero before h xs lm ln = absurd (omega arith)
   declarators_fail (suc m) before h xs lm ln = fails_after (declarator_sound c expr sound above d n inner b xs) (fails_map (λ j. j) (λ j l. l) (λ j i w. some_declarator w) (declarator_fails xs ln)) (λ x ys p.
       fails_fork (is_mark mark.Comma (look ys).kind) _ _
-        (λ e. let o = marked mark.Comma ys e in let v = declarator_moves p.0 in fails_map (λ j. max x.1 j) (λ j l. omega (arith, p.1)) (λ j i w. record { front = joined v.front (joined (taken o) w.front); more = w.more; tree = x.0 ∷ w.tree;
-          holds = λ zs. g.more_declarators (higher_declarator (max x.1 j) (omega arith) (v.holds _)) (again o _) (higher_declarators (max x.1 j) (omega arith) (w.holds zs)); first = λ zs. same (look_kept v.front (declarator_less p.0) _) })
-          (declarators_fail m _ _ (rest ys) (omega (arith, declarator_less p.0, at_less o)) (omega (arith, declarator_less p.0, at_less o))))
-        (λ _. fine))
+      (λ e. let o = marked mark.Comma ys e in let v = declarator_moves p.0 in fails_map (λ j. max x.1 j) (λ j l. omega (arith, p.1)) (λ j i w. record {
+        front = joined v.front (joined (taken o) w.front);
+        more = w.more;
+        tree = x.0 ∷ w.tree;
+        holds = λ zs. g.more_declarators (higher_declarator (max x.1 j) (omega arith) (v.holds _)) (again o _) (higher_declarators (max x.1 j) (omega arith) (w.holds zs));
+        first = λ zs. same (look_kept v.front (declarator_less p.0) _);
+      })
+      (declarators_fail m _ _ (rest ys) (omega (arith, declarator_less p.0, at_less o)) (omega (arith, declarator_less p.0, at_less o))))
+      (λ _. fine))
 
 -- ---- an expression in parentheses
 
@@ -110,8 +125,13 @@ abbrev pub HH : ℕ → RawExpr → Symbols → Symbols → Type 0
 HH j e us vs = Headed j e us vs
 
 pub no_head : (xs : Symbols) (j : ℕ) → Begun (HH j) xs xs
-no_head xs j = record { front = stays xs; more = λ zs. real (token (k.mark mark.OpenParen)) ∷ real (token (k.due k.operand)) ∷ real (token (k.mark mark.CloseParen)) ∷ zs; tree = raw.lit nowhere undefined;
-  holds = λ zs. record { start = _; finish = _; opening = new_at (k.mark mark.OpenParen); tree = g.operand (new_at (k.due k.operand)); closing = new_at (k.mark mark.CloseParen) }; first = λ zs. fresh (k.mark mark.OpenParen) refl refl }
+no_head xs j = record {
+  front = stays xs;
+  more = λ zs. real (token (k.mark mark.OpenParen)) ∷ real (token (k.due k.operand)) ∷ real (token (k.mark mark.CloseParen)) ∷ zs;
+  tree = raw.lit nowhere undefined;
+  holds = λ zs. record { start = _; finish = _; opening = new_at (k.mark mark.OpenParen); tree = g.operand (new_at (k.due k.operand)); closing = new_at (k.mark mark.CloseParen) };
+  first = λ zs. fresh (k.mark mark.OpenParen) refl refl;
+}
 
 -- the whole of it, before another list
 pub record HeadMoved (j : ℕ) (e : RawExpr) (xs ys : Symbols) : Type 0 where
@@ -136,8 +156,13 @@ abbrev pub XX : Context → ℕ → List RawStmt → Symbols → Symbols → Typ
 XX c j b us vs = is_tail (look vs).kind ≡ false → Block c j b us vs
 
 abbrev pub no_block : (xs : Symbols) (c : Context) (j : ℕ) → 0 < j → Begun (XX c j) xs xs
-no_block xs c j lt = record { front = stays xs; more = λ zs. real (token (k.mark mark.OpenBrace)) ∷ real (token (k.mark mark.CloseBrace)) ∷ zs; tree = [];
-  holds = λ zs _. record { begins = refl; tree = g.block {h = 0} lt (new_at (k.mark mark.OpenBrace)) g.done (new_at (k.mark mark.CloseBrace)) }; first = λ zs. fresh (k.mark mark.OpenBrace) refl refl }
+no_block xs c j lt = record {
+  front = stays xs;
+  more = λ zs. real (token (k.mark mark.OpenBrace)) ∷ real (token (k.mark mark.CloseBrace)) ∷ zs;
+  tree = [];
+  holds = λ zs _. record { begins = refl; tree = g.block {h = 0} lt (new_at (k.mark mark.OpenBrace)) g.done (new_at (k.mark mark.CloseBrace)) };
+  first = λ zs. fresh (k.mark mark.OpenBrace) refl refl;
+}
 
 abbrev pub GG : Context → ℕ → RawFinally → Symbols → Symbols → Type 0
 GG c j f us vs = is_tail (look vs).kind ≡ false → Finally c j us f vs
@@ -149,15 +174,25 @@ module _ (d n : ℕ) (inner : In) (sound : SoundInner d inner) (all : FailsInner
   -- ---- heads
 
   head_begun : {j : ℕ} {xs ys i : Symbols} → Sign mark.OpenParen xs ys → Begun (EE j true 0) ys i → Begun (HH j) xs i
-  head_begun o w = record { front = joined (taken o) w.front; more = λ zs. w.more (real (token (k.mark mark.CloseParen)) ∷ zs); tree = w.tree;
-    holds = λ zs. record { start = _; finish = _; opening = again o _; tree = w.holds _; closing = new_at (k.mark mark.CloseParen) }; first = λ zs. same refl }
+  head_begun o w = record {
+    front = joined (taken o) w.front;
+    more = λ zs. w.more (real (token (k.mark mark.CloseParen)) ∷ zs);
+    tree = w.tree;
+    holds = λ zs. record { start = _; finish = _; opening = again o _; tree = w.holds _; closing = new_at (k.mark mark.CloseParen) };
+    first = λ zs. same refl;
+  }
 
   pub head_fails : (xs : Symbols) → 0 < d → reals xs < n → Fails d (λ j i. Begun (HH j) xs i) (s.head d n inner xs)
   unfolding r.head
   head_fails xs lt ln = fails_after (expected mark.OpenParen xs) (expect_fails mark.OpenParen xs 0 (omega arith) (no_head xs 0)) (λ _ ys o.
       fails_after (sound.expr true 0 ys (omega arith)) (fails_map (λ j. j) (λ j l. l) (λ j i w. head_begun o w) (all.expr lt true 0 ys (omega (arith, at_less o)) (omega arith))) (λ x zs p.
-      let m = e_moves p.0.whole.tree in fails_after (expected mark.CloseParen zs) (expect_fails mark.CloseParen zs x.1 (omega arith) (record { front = joined (taken o) m.front; more = λ zs. real (token (k.mark mark.CloseParen)) ∷ zs; tree = x.0;
-        holds = λ zs. record { start = _; finish = _; opening = again o _; tree = m.holds _; closing = new_at (k.mark mark.CloseParen) }; first = λ zs. same refl })) (λ _ ws c. fine)))
+      let m = e_moves p.0.whole.tree in fails_after (expected mark.CloseParen zs) (expect_fails mark.CloseParen zs x.1 (omega arith) (record {
+        front = joined (taken o) m.front;
+        more = λ zs. real (token (k.mark mark.CloseParen)) ∷ zs;
+        tree = x.0;
+        holds = λ zs. record { start = _; finish = _; opening = again o _; tree = m.holds _; closing = new_at (k.mark mark.CloseParen) };
+        first = λ zs. same refl;
+      })) (λ _ ws c. fine)))
 
   pub head_moves : {a : Sized RawExpr} {xs ys : Symbols} → InParens d n inner sound xs a ys → HeadMoved a.1 a.0 xs ys
   head_moves p = let m = e_moves p.tree in record { front = joined (taken p.opening) (joined m.front (taken p.closing)); holds = λ zs. record { start = _; finish = _; opening = again p.opening _; tree = m.holds _; closing = again p.closing zs } }
@@ -179,30 +214,59 @@ module _ (d n : ℕ) (inner : In) (sound : SoundInner d inner) (all : FailsInner
   body_fits h = fits_first h
 
   test_begun : (c : Context) (seen : Bool) {j : ℕ} {xs ys i : Symbols} → Reserved word.Case xs ys → Begun (EE j true 0) ys i → Begun (KK c j seen) xs i
-  test_begun c seen o w = record { front = joined (taken o) w.front; more = λ zs. w.more (real (token (k.mark mark.Colon)) ∷ real (token (k.mark mark.CloseBrace)) ∷ zs); tree = record { test = raw.one_expr w.tree; body = [] } ∷ [];
-    holds = λ zs. g.«case» (again o _) (w.holds _) (new_at (k.mark mark.Colon)) g.done (g.no_case (new_at (k.mark mark.CloseBrace))); first = λ zs. same refl }
+  test_begun c seen o w = record {
+    front = joined (taken o) w.front;
+    more = λ zs. w.more (real (token (k.mark mark.Colon)) ∷ real (token (k.mark mark.CloseBrace)) ∷ zs);
+    tree = record { test = raw.one_expr w.tree; body = [] } ∷ [];
+    holds = λ zs. g.«case» (again o _) (w.holds _) (new_at (k.mark mark.Colon)) g.done (g.no_case (new_at (k.mark mark.CloseBrace)));
+    first = λ zs. same refl;
+  }
 
   case_begun : (c : Context) (seen : Bool) {h : ℕ} (j : ℕ) {e : RawExpr} {xs ys zs us i : Symbols} → Reserved word.Case xs ys → E h true 0 ys e zs → Sign mark.Colon zs us → Begun (BB c j) us i → Begun (KK c (max h j) seen) xs i
-  case_begun c seen {h} j {e} o x p w = let m = e_moves x in record { front = joined (taken o) (joined m.front (joined (taken p) w.front)); more = λ zs. w.more (real (token (k.mark mark.CloseBrace)) ∷ zs); tree = record { test = raw.one_expr e; body = w.tree } ∷ [];
-    holds = λ zs. g.«case» (again o _) (higher (max h j) (omega arith) (m.holds _)) (again p _) (higher_body (max h j) (omega arith) (w.holds _ refl)) (g.no_case (new_at (k.mark mark.CloseBrace))); first = λ zs. same refl }
+  case_begun c seen {h} j {e} o x p w = let m = e_moves x in record {
+    front = joined (taken o) (joined m.front (joined (taken p) w.front));
+    more = λ zs. w.more (real (token (k.mark mark.CloseBrace)) ∷ zs);
+    tree = record { test = raw.one_expr e; body = w.tree } ∷ [];
+    holds = λ zs. g.«case» (again o _) (higher (max h j) (omega arith) (m.holds _)) (again p _) (higher_body (max h j) (omega arith) (w.holds _ refl)) (g.no_case (new_at (k.mark mark.CloseBrace)));
+    first = λ zs. same refl;
+  }
 
   more_cases : (c : Context) (seen : Bool) {h u : ℕ} (j : ℕ) {e : RawExpr} {b : List RawStmt} {xs ys zs us vs i : Symbols} → Reserved word.Case xs ys → E h true 0 ys e zs → Sign mark.Colon zs us → Body c u us b vs → Begun (KK c j seen) vs i
       → Begun (KK c (max (max h u) j) seen) xs i
-  more_cases c seen {h} {u} j {e} {b} o x p y w = let m = e_moves x in let v = body_moves y in record { front = joined (taken o) (joined m.front (joined (taken p) (joined v.front w.front))); more = w.more; tree = record { test = raw.one_expr e; body = b } ∷ w.tree;
+  more_cases c seen {h} {u} j {e} {b} o x p y w = let m = e_moves x in let v = body_moves y in record {
+    front = joined (taken o) (joined m.front (joined (taken p) (joined v.front w.front)));
+    more = w.more;
+    tree = record { test = raw.one_expr e; body = b } ∷ w.tree;
     holds = λ zs. g.«case» (again o _) (higher (max (max h u) j) (omega arith) (m.holds _)) (again p _) (higher_body (max (max h u) j) (omega arith) (v.holds _ (body_fits (w.first zs)))) (higher_cases (max (max h u) j) (omega arith) (w.holds zs));
-    first = λ zs. same refl }
+    first = λ zs. same refl;
+  }
 
   default_word : (c : Context) {xs ys : Symbols} (j : ℕ) → Reserved word.Default xs ys → Begun (KK c j false) xs ys
-  default_word c j o = record { front = taken o; more = λ zs. real (token (k.mark mark.Colon)) ∷ real (token (k.mark mark.CloseBrace)) ∷ zs; tree = record { test = raw.no_expr; body = [] } ∷ [];
-    holds = λ zs. g.default (again o _) (new_at (k.mark mark.Colon)) g.done (g.no_case (new_at (k.mark mark.CloseBrace))); first = λ zs. same refl }
+  default_word c j o = record {
+    front = taken o;
+    more = λ zs. real (token (k.mark mark.Colon)) ∷ real (token (k.mark mark.CloseBrace)) ∷ zs;
+    tree = record { test = raw.no_expr; body = [] } ∷ [];
+    holds = λ zs. g.default (again o _) (new_at (k.mark mark.Colon)) g.done (g.no_case (new_at (k.mark mark.CloseBrace)));
+    first = λ zs. same refl;
+  }
 
   default_begun : (c : Context) (j : ℕ) {xs ys us i : Symbols} → Reserved word.Default xs ys → Sign mark.Colon ys us → Begun (BB c j) us i → Begun (KK c j false) xs i
-  default_begun c j o p w = record { front = joined (taken o) (joined (taken p) w.front); more = λ zs. w.more (real (token (k.mark mark.CloseBrace)) ∷ zs); tree = record { test = raw.no_expr; body = w.tree } ∷ [];
-    holds = λ zs. g.default (again o _) (again p _) (w.holds _ refl) (g.no_case (new_at (k.mark mark.CloseBrace))); first = λ zs. same refl }
+  default_begun c j o p w = record {
+    front = joined (taken o) (joined (taken p) w.front);
+    more = λ zs. w.more (real (token (k.mark mark.CloseBrace)) ∷ zs);
+    tree = record { test = raw.no_expr; body = w.tree } ∷ [];
+    holds = λ zs. g.default (again o _) (again p _) (w.holds _ refl) (g.no_case (new_at (k.mark mark.CloseBrace)));
+    first = λ zs. same refl;
+  }
 
   more_defaults : (c : Context) {u : ℕ} (j : ℕ) {b : List RawStmt} {xs ys us vs i : Symbols} → Reserved word.Default xs ys → Sign mark.Colon ys us → Body c u us b vs → Begun (KK c j true) vs i → Begun (KK c (max u j) false) xs i
-  more_defaults c {u} j {b} o p y w = let v = body_moves y in record { front = joined (taken o) (joined (taken p) (joined v.front w.front)); more = w.more; tree = record { test = raw.no_expr; body = b } ∷ w.tree;
-    holds = λ zs. g.default (again o _) (again p _) (higher_body (max u j) (omega arith) (v.holds _ (body_fits (w.first zs)))) (higher_cases (max u j) (omega arith) (w.holds zs)); first = λ zs. same refl }
+  more_defaults c {u} j {b} o p y w = let v = body_moves y in record {
+    front = joined (taken o) (joined (taken p) (joined v.front w.front));
+    more = w.more;
+    tree = record { test = raw.no_expr; body = b } ∷ w.tree;
+    holds = λ zs. g.default (again o _) (again p _) (higher_body (max u j) (omega arith) (v.holds _ (body_fits (w.first zs)))) (higher_cases (max u j) (omega arith) (w.holds zs));
+    first = λ zs. same refl;
+  }
 
   clause_fails : (c : Context) (next : Bool → List RawCase → ℕ → s.Reader (Sized (List RawCase))) (seen : Bool) (before : List RawCase) (h : ℕ) (xs : Symbols) (x : Kind) (v : Clause) → 0 < d → reals xs < n → (look xs).kind ≡ x → IsClause x v
       → ((seen : Bool) (before : List RawCase) (h : ℕ) (ys : Symbols) → reals ys < reals xs → Fails d (λ j i. Begun (KK c j seen) ys i) (next seen before h ys))
@@ -213,7 +277,7 @@ module _ (d n : ℕ) (inner : In) (sound : SoundInner d inner) (all : FailsInner
       fails_after (sound.expr true 0 (rest xs) (omega arith)) (fails_map (λ j. j) (λ j l. l) (λ j i w. test_begun c seen o w) (all.expr lt true 0 (rest xs) (omega (arith, at_less o)) (omega arith))) (λ y ys p. let t = p.0.whole.tree in
       fails_after (expected mark.Colon ys) (expect_fails mark.Colon ys y.1 (omega arith) (test_begun c seen o (Rattle.cc_grammar.proofs.FrontsPrimary.whole_e t))) (λ _ zs q.
       fails_after (list_sound d n inner sound c n [] 0 zs (omega arith))
-        (fails_map (λ j. max y.1 j) (λ j l. omega (arith, p.1)) (λ j i w. case_begun c seen j o t q w) (statements_fail d n inner sound all c zs lt (omega (arith, at_less o, e_less t, at_less q)))) (λ b us z. let body = whole_list z.0 in
+      (fails_map (λ j. max y.1 j) (λ j l. omega (arith, p.1)) (λ j i w. case_begun c seen j o t q w) (statements_fail d n inner sound all c zs lt (omega (arith, at_less o, e_less t, at_less q)))) (λ b us z. let body = whole_list z.0 in
       fails_map (λ j. max (max y.1 b.1) j) (λ j l. omega (arith, p.1, z.0.low)) (λ j i w. more_cases c seen j o t q body w) (f seen _ _ us (omega (arith, at_less o, e_less t, at_less q, body_less body))))))
   clause_fails c next true before h xs x v lt ln e view.default f = fails_here r.a_token xs 0 (omega arith) (no_cases xs c 0 true)
   clause_fails c next false before h xs x v lt ln e view.default f = let o = consumed xs (k.word word.Default) refl e in
@@ -253,23 +317,40 @@ module _ (d n : ℕ) (inner : In) (sound : SoundInner d inner) (all : FailsInner
 
   -- its word has come, then the parenthesis, then the name
   catch_word : {c : Context} {xs ys : Symbols} → Reserved word.Catch xs ys → Begun (CA c 1) xs ys
-  catch_word {c} {ys} o = let w = no_block ys c 1 (omega arith) in record { front = taken o;
-    more = λ zs. real (token (k.mark mark.OpenParen)) ∷ real (token (k.due k.variable)) ∷ real (token (k.mark mark.CloseParen)) ∷ w.more zs; tree = raw.caught (record { place = nowhere; name = [] }) (stmts w.tree);
-    holds = λ zs f. g.caught (again o _) (new_at (k.mark mark.OpenParen)) (g.any_variable (new_at (k.due k.variable))) (new_at (k.mark mark.CloseParen)) (w.holds zs f).begins (w.holds zs f).tree; first = λ zs. same refl }
+  catch_word {c} {ys} o = let w = no_block ys c 1 (omega arith) in record {
+    front = taken o;
+    more = λ zs. real (token (k.mark mark.OpenParen)) ∷ real (token (k.due k.variable)) ∷ real (token (k.mark mark.CloseParen)) ∷ w.more zs;
+    tree = raw.caught (record { place = nowhere; name = [] }) (stmts w.tree);
+    holds = λ zs f. g.caught (again o _) (new_at (k.mark mark.OpenParen)) (g.any_variable (new_at (k.due k.variable))) (new_at (k.mark mark.CloseParen)) (w.holds zs f).begins (w.holds zs f).tree;
+    first = λ zs. same refl;
+  }
 
   catch_open : {c : Context} {xs ys zs : Symbols} → Reserved word.Catch xs ys → Sign mark.OpenParen ys zs → Begun (CA c 1) xs zs
-  catch_open {c} {ys} o p = let w = no_block ys c 1 (omega arith) in record { front = joined (taken o) (taken p);
-    more = λ zs. real (token (k.due k.variable)) ∷ real (token (k.mark mark.CloseParen)) ∷ w.more zs; tree = raw.caught (record { place = nowhere; name = [] }) (stmts w.tree);
-    holds = λ zs f. g.caught (again o _) (again p _) (g.any_variable (new_at (k.due k.variable))) (new_at (k.mark mark.CloseParen)) (w.holds zs f).begins (w.holds zs f).tree; first = λ zs. same refl }
+  catch_open {c} {ys} o p = let w = no_block ys c 1 (omega arith) in record {
+    front = joined (taken o) (taken p);
+    more = λ zs. real (token (k.due k.variable)) ∷ real (token (k.mark mark.CloseParen)) ∷ w.more zs;
+    tree = raw.caught (record { place = nowhere; name = [] }) (stmts w.tree);
+    holds = λ zs f. g.caught (again o _) (again p _) (g.any_variable (new_at (k.due k.variable))) (new_at (k.mark mark.CloseParen)) (w.holds zs f).begins (w.holds zs f).tree;
+    first = λ zs. same refl;
+  }
 
   catch_name : {c : Context} {v : List ℕ} {xs ys zs us : Symbols} → Reserved word.Catch xs ys → Sign mark.OpenParen ys zs → Variable zs v us → Begun (CA c 1) xs us
-  catch_name {c} {v} {ys} {zs} o p q = let w = no_block ys c 1 (omega arith) in record { front = joined (taken o) (joined (taken p) (variable_taken q));
-    more = λ zs. real (token (k.mark mark.CloseParen)) ∷ w.more zs; tree = raw.caught (record { place = (look zs).place; name = v }) (stmts w.tree);
-    holds = λ zs f. g.caught (again o _) (again p _) (variable_again q _) (new_at (k.mark mark.CloseParen)) (w.holds zs f).begins (w.holds zs f).tree; first = λ zs. same refl }
+  catch_name {c} {v} {ys} {zs} o p q = let w = no_block ys c 1 (omega arith) in record {
+    front = joined (taken o) (joined (taken p) (variable_taken q));
+    more = λ zs. real (token (k.mark mark.CloseParen)) ∷ w.more zs;
+    tree = raw.caught (record { place = (look zs).place; name = v }) (stmts w.tree);
+    holds = λ zs f. g.caught (again o _) (again p _) (variable_again q _) (new_at (k.mark mark.CloseParen)) (w.holds zs f).begins (w.holds zs f).tree;
+    first = λ zs. same refl;
+  }
 
   catch_begun : {c : Context} {j : ℕ} {v : List ℕ} {xs ys zs us vs i : Symbols} → Reserved word.Catch xs ys → Sign mark.OpenParen ys zs → Variable zs v us → Sign mark.CloseParen us vs → Begun (XX c j) vs i → Begun (CA c j) xs i
-  catch_begun {v} {zs} o p q u w = record { front = joined (taken o) (joined (taken p) (joined (variable_taken q) (joined (taken u) w.front))); more = w.more; tree = raw.caught (record { place = (look zs).place; name = v }) (stmts w.tree);
-    holds = λ zs f. g.caught (again o _) (again p _) (variable_again q _) (again u _) (w.holds zs f).begins (w.holds zs f).tree; first = λ zs. same refl }
+  catch_begun {v} {zs} o p q u w = record {
+    front = joined (taken o) (joined (taken p) (joined (variable_taken q) (joined (taken u) w.front)));
+    more = w.more;
+    tree = raw.caught (record { place = (look zs).place; name = v }) (stmts w.tree);
+    holds = λ zs f. g.caught (again o _) (again p _) (variable_again q _) (again u _) (w.holds zs f).begins (w.holds zs f).tree;
+    first = λ zs. same refl;
+  }
 
   pub catch_fails : (c : Context) (xs : Symbols) → 1 < d → reals xs < n → is_word word.Catch (look xs).kind ≡ true → Fails d (λ j i. Begun (CA (inside c) j) xs i) (s.catch d n inner c xs)
   unfolding r.catch

@@ -129,7 +129,7 @@ module _ (d n : ℕ) (inner : In) (sound : SoundInner d inner) (all : FailsInner
     by : (o : Option Bool) (t : Option RawTarget) (c : Bool) → step_of (look ys).kind ≡ o → target_of a.0 ≡ t → (look ys).after_line ≡ c → Fails (suc d) (XE b 13 xs) (s.postfix_by d n inner a o t c ys)
     by (Some up) (Some t) false e f q = let c = found step_of ys up refl refl e in let m = e_moves h.tree in
         deeper_fails {h = a.1} c (λ lt. fine) a.1 (omega (arith, h.low)) (lower_begun 13 (omega arith) (λ z. absurd (omega arith)) (whole_e h.tree)) (suc a.1)
-          (record { front = joined m.front (taken c); more = λ zs. zs; tree = raw.step (look ys).place up false t; holds = λ zs. g.postfix (omega arith) (omega arith) (m.holds _) f q (again c _) e; first = λ zs. same (look_kept m.front (e_less h.tree) _) })
+        (record { front = joined m.front (taken c); more = λ zs. zs; tree = raw.step (look ys).place up false t; holds = λ zs. g.postfix (omega arith) (omega arith) (m.holds _) f q (again c _) e; first = λ zs. same (look_kept m.front (e_less h.tree) _) })
     by (Some up) (Some t) true e f q = fine
     by (Some up) None c e f q = fine
     by None t c e f q = fine
@@ -139,25 +139,37 @@ module _ (d n : ℕ) (inner : In) (sound : SoundInner d inner) (all : FailsInner
   prefix_begun o {b} j {xs} {us} {i} c e w = by (prefix_tree o (look xs).place w.tree) refl where
     by : (v : Option RawExpr) → prefix_tree o (look xs).place w.tree ≡ v → Begun (EE (suc j) b 13) xs i
     by (Some f) q = record { front = joined (taken c) w.front; more = w.more; tree = f; holds = λ zs. g.prefix (omega arith) (omega arith) (again c _) e (w.holds zs) q; first = λ zs. same refl }
-    by None q = record { front = joined (taken c) w.front; more = λ zs. w.more (real (token (k.due k.remedy)) ∷ zs); tree = raw.lit (look xs).place undefined;
-      holds = λ zs. g.wrong_prefix (omega arith) (omega arith) (again c _) e (w.holds _) q (new_at (k.due k.remedy)); first = λ zs. same refl }
+    by None q = record {
+      front = joined (taken c) w.front;
+      more = λ zs. w.more (real (token (k.due k.remedy)) ∷ zs);
+      tree = raw.lit (look xs).place undefined;
+      holds = λ zs. g.wrong_prefix (omega arith) (omega arith) (again c _) e (w.holds _) q (new_at (k.due k.remedy));
+      first = λ zs. same refl;
+    }
 
   wrong_begun : (o : Prefix) {b : Bool} {h : ℕ} {e : RawExpr} {xs us ys : Symbols} → At (look xs).kind xs us → prefix_of (look xs).kind ≡ Some o → E h b 13 us e ys → prefix_tree o (look xs).place e ≡ None → Begun (EE (suc h) b 13) xs ys
-  wrong_begun o {xs} c e x q = let m = e_moves x in record { front = joined (taken c) m.front; more = λ zs. real (token (k.due k.remedy)) ∷ zs; tree = raw.lit (look xs).place undefined;
-    holds = λ zs. g.wrong_prefix (omega arith) (omega arith) (again c _) e (m.holds _) q (new_at (k.due k.remedy)); first = λ zs. same refl }
+  wrong_begun o {xs} c e x q = let m = e_moves x in record {
+    front = joined (taken c) m.front;
+    more = λ zs. real (token (k.due k.remedy)) ∷ zs;
+    tree = raw.lit (look xs).place undefined;
+    holds = λ zs. g.wrong_prefix (omega arith) (omega arith) (again c _) e (m.holds _) q (new_at (k.due k.remedy));
+    first = λ zs. same refl;
+  }
 
   prefix_expr_fails : (b : Bool) (o : Prefix) (xs : Symbols) → 0 < d → reals xs < n → prefix_of (look xs).kind ≡ Some o → Fails (suc d) (XE b 13 xs) (s.prefix_expr d n inner b o xs)
   unfolding r.prefix_expr
   prefix_expr_fails b o xs lt ln e = fails_after (sound.expr b 13 (rest xs) (omega arith)) (fails_map suc (λ j l. omega arith) (λ j i w. prefix_begun o j c e w) (all.expr lt b 13 (rest xs) (omega (arith, at_less c)) (omega arith)))
       (λ a ys p. by a ys p.1 p.0.whole.tree (prefix_tree o (look xs).place a.0) refl) where
-    c : At (look xs).kind xs (rest xs)
-    c = found prefix_of xs o refl refl e
-    wrong : (x : Prefix) (p : Place) (ys : Symbols) (j : ℕ) → j < suc d → XE b 13 xs j ys → Fails (suc d) (XE b 13 xs) (s.wrong_prefix d n inner x p ys)
-    wrong (sign.step up) p ys j lt h = fails_here r.a_token ys j lt h
-    wrong (sign.unary x) p ys j lt h = stop refl j (inl lt) (by_construct construct.DeleteName refl) h
-    by : (a : Sized RawExpr) (ys : Symbols) → a.1 < d → E a.1 b 13 (rest xs) a.0 ys → (f : Option RawExpr) → prefix_tree o (look xs).place a.0 ≡ f → Fails (suc d) (XE b 13 xs) (s.prefix_by d n inner o (look xs).place a f ys)
-    by a ys lt x (Some f) q = fine
-    by a ys lt x None q = fails_fork (is_remedy (look ys).kind) _ _ (λ _. fine) (λ _. wrong o (look xs).place ys (suc a.1) (omega arith) (wrong_begun o c e x q))
+        c : At (look xs).kind xs (rest xs)
+        c = found prefix_of xs o refl refl e
+
+        wrong : (x : Prefix) (p : Place) (ys : Symbols) (j : ℕ) → j < suc d → XE b 13 xs j ys → Fails (suc d) (XE b 13 xs) (s.wrong_prefix d n inner x p ys)
+        wrong (sign.step up) p ys j lt h = fails_here r.a_token ys j lt h
+        wrong (sign.unary x) p ys j lt h = stop refl (λ w. cc) j (inl lt) (by_construct construct.DeleteName refl) h
+
+        by : (a : Sized RawExpr) (ys : Symbols) → a.1 < d → E a.1 b 13 (rest xs) a.0 ys → (f : Option RawExpr) → prefix_tree o (look xs).place a.0 ≡ f → Fails (suc d) (XE b 13 xs) (s.prefix_by d n inner o (look xs).place a f ys)
+        by a ys lt x (Some f) q = fine
+        by a ys lt x None q = fails_fork (is_remedy (look ys).kind) _ _ (λ _. fine) (λ _. wrong o (look xs).place ys (suc a.1) (omega arith) (wrong_begun o c e x q))
 
   deep_prefix : (b : Bool) (o : Prefix) (xs : Symbols) → reals xs < n → prefix_of (look xs).kind ≡ Some o
       → Fails (suc d) (XE b 13 xs) (cond (nat_lt 0 d) (s.prefix_expr d n inner b o xs) (Err (record { cause = r.depth; place = (look xs).place }, xs)))
@@ -166,36 +178,47 @@ module _ (d n : ℕ) (inner : In) (sound : SoundInner d inner) (all : FailsInner
 
   -- where the operand of `delete` is a variable, a dot makes it one that can be deleted
   delete_begun : (b : Bool) (o : Prefix) {xs us j : Symbols} → is_delete o ≡ true → At (look xs).kind xs us → prefix_of (look xs).kind ≡ Some o → Nest 0 us j → (h : ℕ) × XE b 13 xs h j
-  delete_begun b o {xs} t c e h = let f = nest_found b 16 h in let x = all_closed f in let m = e_moves x in
-      (suc (suc f.height), record { front = joined (taken c) m.front; more = λ zs. real (token (k.mark mark.Dot)) ∷ real (token (k.name [])) ∷ zs; tree = raw.unary (look xs).place op.Delete (raw.member nowhere f.tree nowhere []);
-        holds = λ zs. g.prefix {h = suc f.height} (omega arith) (omega arith) (again c _) e (g.dotted g.chain (omega arith) (omega arith) (m.holds _) (new_at (k.mark mark.Dot)) (new_at (k.name [])) refl) (delete_member o (look xs).place nowhere f.tree nowhere [] t);
-        first = λ zs. same refl })
+  delete_begun b o {xs} t c e h = let f = nest_found b 16 h in let x = all_closed f in let m = e_moves x in (
+    suc (suc f.height),
+    record {
+      front = joined (taken c) m.front;
+      more = λ zs. real (token (k.mark mark.Dot)) ∷ real (token (k.name [])) ∷ zs;
+      tree = raw.unary (look xs).place op.Delete (raw.member nowhere f.tree nowhere []);
+      holds = λ zs. g.prefix {h = suc f.height} (omega arith) (omega arith) (again c _) e (g.dotted g.chain (omega arith) (omega arith) (m.holds _) (new_at (k.mark mark.Dot)) (new_at (k.name [])) refl) (delete_member o (look xs).place nowhere f.tree nowhere [] t);
+      first = λ zs. same refl;
+    },
+  )
 
   prefixed_fails : (b : Bool) (o : Prefix) (xs : Symbols) → reals xs < n → prefix_of (look xs).kind ≡ Some o → Fails (suc d) (XE b 13 xs) (s.prefixed d n inner b o xs)
   unfolding r.prefixed
   prefixed_fails b o xs ln e = fails_fork (is_delete o) _ _ (λ t. by t (opened_looks n 0 (rest xs) (omega (arith, at_less (found prefix_of xs o refl refl e))))) (λ _. deep_prefix b o xs ln e) where
     by : is_delete o ≡ true → {u : Outcome Symbols Bool} → Looks 0 (rest xs) u
         → Fails (suc d) (XE b 13 xs) (r.unless_deleted Symbols look rest r.semicolon_symbol u (look xs).place (cond (nat_lt 0 d) (s.prefix_expr d n inner b o xs) (Err (record { cause = r.depth; place = (look xs).place }, xs))))
-    by t (looks_true h) = let p = delete_begun b o t (found prefix_of xs o refl refl e) e h in stop refl p.0 (inr refl) (by_construct construct.DeleteName refl) p.1
+    by t (looks_true h) = let p = delete_begun b o t (found prefix_of xs o refl refl e) e h in stop refl (λ w. cc) p.0 (inr refl) (by_construct construct.DeleteName refl) p.1
     by t looks_false = deep_prefix b o xs ln e
 
   -- ---- binary operators
 
   binary_begun : (b : Bool) (l : ℕ) (o : Infix) {h : ℕ} (j : ℕ) {e : RawExpr} {xs ys i : Symbols} → l ≤ level o → E h b (level o) xs e ys → infix_of b (look ys).kind ≡ Some o → Begun (EE j b (level o + 1)) (rest ys) i → XE b (max l 3) xs (suc (max h j)) i
   binary_begun b l o j {e} {ys} le t q w = let m = e_moves t in let c = operator_at b ys o q in
-      record { front = joined m.front (joined (taken c) w.front); more = w.more; tree = infix_tree o (look ys).place e w.tree;
-        holds = λ zs. g.binary (omega (arith, above o)) (omega arith) (omega arith) (m.holds _) (again c _) q (w.holds zs); first = λ zs. same (look_kept m.front (e_less t) _) }
+      record {
+        front = joined m.front (joined (taken c) w.front);
+        more = w.more;
+        tree = infix_tree o (look ys).place e w.tree;
+        holds = λ zs. g.binary (omega (arith, above o)) (omega arith) (omega arith) (m.holds _) (again c _) q (w.holds zs);
+        first = λ zs. same (look_kept m.front (e_less t) _);
+      }
 
   turn_fails : (b : Bool) (l : ℕ) (xs : Symbols) (a : Sized RawExpr) (ys : Symbols) (next : Sized RawExpr → s.Reader (Sized RawExpr)) (o : Option Infix) → reals xs < n → infix_of b (look ys).kind ≡ o → Climbs d n inner sound b l xs a ys
       → ((c : Sized RawExpr) (zs : Symbols) → Climbs d n inner sound b l xs c zs → a.1 < d → a.1 < c.1 → Fails (suc d) (XE b (max l 3) xs) (next c zs)) → Fails (suc d) (XE b (max l 3) xs) (s.climb_by d n inner next b l a o ys)
   turn_fails b l xs a ys next None ln e h f = fine
   turn_fails b l xs a ys next (Some o) ln e h f = fails_fork (nat_lt (level o) l) _ _ (λ _. fine)
       (λ ge. let le = ltb-false _ _ ge in let t = h.next o e le in let c = operator_at b ys o e in
-        deeper_fails c
-          (λ (lt : a.1 < d). fails_after (sound.expr b (level o + 1) (rest ys) (omega (arith, bounded o)))
-            (fails_map (λ j. suc (max a.1 j)) (λ j m. omega arith) (λ j i w. binary_begun b l o j le t e w) (all.expr (omega arith) b (level o + 1) (rest ys) (omega (arith, e_less t, at_less c)) (omega (arith, bounded o))))
-            (λ x zs p. f _ zs (climbed d n inner sound b l xs a ys o e le lt h x zs p.0 p.1) lt (omega arith)))
-          a.1 (omega (arith, h.whole.low)) (whole_e h.whole.tree) (suc (max a.1 0)) (binary_begun b l o 0 le t e (no_e (rest ys) 0 b (level o + 1))))
+      deeper_fails c
+      (λ (lt : a.1 < d). fails_after (sound.expr b (level o + 1) (rest ys) (omega (arith, bounded o)))
+      (fails_map (λ j. suc (max a.1 j)) (λ j m. omega arith) (λ j i w. binary_begun b l o j le t e w) (all.expr (omega arith) b (level o + 1) (rest ys) (omega (arith, e_less t, at_less c)) (omega (arith, bounded o))))
+      (λ x zs p. f _ zs (climbed d n inner sound b l xs a ys o e le lt h x zs p.0 p.1) lt (omega arith)))
+      a.1 (omega (arith, h.whole.low)) (whole_e h.whole.tree) (suc (max a.1 0)) (binary_begun b l o 0 le t e (no_e (rest ys) 0 b (level o + 1))))
 
   climb_fails : (b : Bool) (l m : ℕ) (xs : Symbols) (a : Sized RawExpr) (ys : Symbols) → reals xs < n → d < m + a.1 → Climbs d n inner sound b l xs a ys → Fails (suc d) (XE b (max l 3) xs) (s.climb d n inner b l m a ys)
   unfolding r.climb
@@ -206,30 +229,44 @@ module _ (d n : ℕ) (inner : In) (sound : SoundInner d inner) (all : FailsInner
 
   -- a condition, with the first of its two values that has begun, or both
   then_begun : (b : Bool) {h : ℕ} (j : ℕ) {e : RawExpr} {xs ys i : Symbols} → E h b 3 xs e ys → Sign mark.Question ys (rest ys) → Begun (EE j true 1) (rest ys) i → XE b 2 xs (suc (max h j)) i
-  then_begun b j {e} {ys} t c w = let m = e_moves t in record { front = joined m.front (joined (taken c) w.front); more = λ zs. w.more (real (token (k.mark mark.Colon)) ∷ real (token (k.due k.operand)) ∷ zs);
+  then_begun b j {e} {ys} t c w = let m = e_moves t in record {
+    front = joined m.front (joined (taken c) w.front);
+    more = λ zs. w.more (real (token (k.mark mark.Colon)) ∷ real (token (k.due k.operand)) ∷ zs);
     tree = raw.cond (look ys).place e w.tree (raw.lit nowhere undefined);
-    holds = λ zs. g.conditional {j = 0} (omega arith) (omega arith) (omega arith) (omega arith) (m.holds _) (again c _) (w.holds _) (new_at (k.mark mark.Colon)) (g.operand (new_at (k.due k.operand))); first = λ zs. same (look_kept m.front (e_less t) _) }
+    holds = λ zs. g.conditional {j = 0} (omega arith) (omega arith) (omega arith) (omega arith) (m.holds _) (again c _) (w.holds _) (new_at (k.mark mark.Colon)) (g.operand (new_at (k.due k.operand)));
+    first = λ zs. same (look_kept m.front (e_less t) _);
+  }
 
   else_begun : (b : Bool) {h u : ℕ} (j : ℕ) {e f : RawExpr} {xs ys zs us i : Symbols} → E h b 3 xs e ys → Sign mark.Question ys (rest ys) → E u true 1 (rest ys) f zs → Sign mark.Colon zs us → Begun (EE j b 1) us i → XE b 2 xs (suc (max (max h u) j)) i
-  else_begun b j {e} {f} {ys} t c x o w = let m = e_moves t in let v = e_moves x in record { front = joined m.front (joined (taken c) (joined v.front (joined (taken o) w.front))); more = w.more; tree = raw.cond (look ys).place e f w.tree;
-    holds = λ zs. g.conditional (omega arith) (omega arith) (omega arith) (omega arith) (m.holds _) (again c _) (v.holds _) (again o _) (w.holds zs); first = λ zs. same (look_kept m.front (e_less t) _) }
+  else_begun b j {e} {f} {ys} t c x o w = let m = e_moves t in let v = e_moves x in record {
+    front = joined m.front (joined (taken c) (joined v.front (joined (taken o) w.front)));
+    more = w.more;
+    tree = raw.cond (look ys).place e f w.tree;
+    holds = λ zs. g.conditional (omega arith) (omega arith) (omega arith) (omega arith) (m.holds _) (again c _) (v.holds _) (again o _) (w.holds zs);
+    first = λ zs. same (look_kept m.front (e_less t) _);
+  }
 
   conditional_fails : (b : Bool) (a : Sized RawExpr) (xs ys : Symbols) → reals xs < n → Derived d b 3 xs a ys → Fails (suc d) (XE b 2 xs) (s.conditional d n inner b a ys)
   unfolding r.conditional
   conditional_fails b a xs ys ln h = fails_fork (is_mark mark.Question (look ys).kind) _ _
       (λ e. let c = marked mark.Question ys e in deeper_fails c
-        (λ (lt : a.1 < d). fails_after (sound.expr true 1 (rest ys) (omega arith))
-          (fails_map (λ j. suc (max a.1 j)) (λ j m. omega arith) (λ j i w. then_begun b j h.tree c w) (all.expr (omega arith) true 1 (rest ys) (omega (arith, e_less h.tree, at_less c)) (omega arith)))
-          (λ x zs p. fails_after (expected mark.Colon zs) (expect_fails mark.Colon zs (suc (max a.1 x.1)) (omega arith) (then_begun b x.1 h.tree c (whole_e p.0.whole.tree)))
-            (λ _ us o. fails_after (sound.expr b 1 us (omega arith))
-              (fails_map (λ j. suc (max (max a.1 x.1) j)) (λ j m. omega (arith, p.1)) (λ j i w. else_begun b j h.tree c p.0.whole.tree o w) (all.expr (omega arith) b 1 us (omega (arith, e_less h.tree, at_less c, e_less p.0.whole.tree, at_less o)) (omega arith)))
-              (λ y ws q. fine))))
-        a.1 (omega (arith, h.low)) (lower_begun 2 (omega arith) (λ z. absurd (omega arith)) (whole_e h.tree)) (suc (max a.1 0)) (then_begun b 0 h.tree c (no_e (rest ys) 0 true 1)))
+      (λ (lt : a.1 < d). fails_after (sound.expr true 1 (rest ys) (omega arith))
+      (fails_map (λ j. suc (max a.1 j)) (λ j m. omega arith) (λ j i w. then_begun b j h.tree c w) (all.expr (omega arith) true 1 (rest ys) (omega (arith, e_less h.tree, at_less c)) (omega arith)))
+      (λ x zs p. fails_after (expected mark.Colon zs) (expect_fails mark.Colon zs (suc (max a.1 x.1)) (omega arith) (then_begun b x.1 h.tree c (whole_e p.0.whole.tree)))
+      (λ _ us o. fails_after (sound.expr b 1 us (omega arith))
+      (fails_map (λ j. suc (max (max a.1 x.1) j)) (λ j m. omega (arith, p.1)) (λ j i w. else_begun b j h.tree c p.0.whole.tree o w) (all.expr (omega arith) b 1 us (omega (arith, e_less h.tree, at_less c, e_less p.0.whole.tree, at_less o)) (omega arith)))
+      (λ y ws q. fine))))
+      a.1 (omega (arith, h.low)) (lower_begun 2 (omega arith) (λ z. absurd (omega arith)) (whole_e h.tree)) (suc (max a.1 0)) (then_begun b 0 h.tree c (no_e (rest ys) 0 true 1)))
       (λ _. fine)
 
   assign_begun : (b : Bool) {h : ℕ} (j : ℕ) {e : RawExpr} {t : RawTarget} {o : Option BinOp} {xs ys i : Symbols} → E h b 15 xs e ys → target_of e ≡ Some t → assign_of (look ys).kind ≡ Some o → Begun (EE j b 1) (rest ys) i → XE b 1 xs (suc (max h j)) i
-  assign_begun b j {t} {o} {ys} x f e w = let m = e_moves x in let c = found assign_of ys o refl refl e in record { front = joined m.front (joined (taken c) w.front); more = w.more; tree = raw.assign (look ys).place o t w.tree;
-    holds = λ zs. g.assign (omega arith) (omega arith) (omega arith) (m.holds _) f (again c _) e (w.holds zs); first = λ zs. same (look_kept m.front (e_less x) _) }
+  assign_begun b j {t} {o} {ys} x f e w = let m = e_moves x in let c = found assign_of ys o refl refl e in record {
+    front = joined m.front (joined (taken c) w.front);
+    more = w.more;
+    tree = raw.assign (look ys).place o t w.tree;
+    holds = λ zs. g.assign (omega arith) (omega arith) (omega arith) (m.holds _) f (again c _) e (w.holds zs);
+    first = λ zs. same (look_kept m.front (e_less x) _);
+  }
 
   assign_fails : (b : Bool) (a : Sized RawExpr) (xs ys : Symbols) → reals xs < n → Derived d b 2 xs a ys → Fails (suc d) (XE b 1 xs) (s.assign d n inner b a ys)
   unfolding r.assign
@@ -237,23 +274,28 @@ module _ (d n : ℕ) (inner : In) (sound : SoundInner d inner) (all : FailsInner
     by : (o : Option (Option BinOp)) (t : Option RawTarget) → assign_of (look ys).kind ≡ o → target_of a.0 ≡ t → Fails (suc d) (XE b 1 xs) (s.assign_by d n inner b a o t ys)
     by (Some o) (Some t) e f = let c = found assign_of ys o refl refl e in let x = settable t f h.tree in deeper_fails c
         (λ (lt : a.1 < d). fails_after (sound.expr b 1 (rest ys) (omega arith))
-          (fails_map (λ j. suc (max a.1 j)) (λ j m. omega arith) (λ j i w. assign_begun b j x f e w) (all.expr (omega arith) b 1 (rest ys) (omega (arith, e_less h.tree, at_less c)) (omega arith)))
-          (λ y zs p. fine))
+        (fails_map (λ j. suc (max a.1 j)) (λ j m. omega arith) (λ j i w. assign_begun b j x f e w) (all.expr (omega arith) b 1 (rest ys) (omega (arith, e_less h.tree, at_less c)) (omega arith)))
+        (λ y zs p. fine))
         a.1 (omega (arith, h.low)) (lower_begun 1 (omega arith) (λ z. absurd (omega arith)) (whole_e h.tree)) (suc (max a.1 0)) (assign_begun b 0 x f e (no_e (rest ys) 0 b 1))
     by (Some o) None e f = fine
     by None t e f = fine
 
   comma_begun : (b : Bool) {h : ℕ} (j : ℕ) {e : RawExpr} {xs ys i : Symbols} → E h b 0 xs e ys → Sign mark.Comma ys (rest ys) → Begun (EE j b 1) (rest ys) i → XE b 0 xs (suc (max h j)) i
-  comma_begun b j {e} {ys} t c w = let m = e_moves t in record { front = joined m.front (joined (taken c) w.front); more = w.more; tree = raw.comma (look ys).place e w.tree;
-    holds = λ zs. g.comma (omega arith) (omega arith) (m.holds _) (again c _) (w.holds zs); first = λ zs. same (look_kept m.front (e_less t) _) }
+  comma_begun b j {e} {ys} t c w = let m = e_moves t in record {
+    front = joined m.front (joined (taken c) w.front);
+    more = w.more;
+    tree = raw.comma (look ys).place e w.tree;
+    holds = λ zs. g.comma (omega arith) (omega arith) (m.holds _) (again c _) (w.holds zs);
+    first = λ zs. same (look_kept m.front (e_less t) _);
+  }
 
   comma_fails : (b : Bool) (next : Sized RawExpr → s.Reader (Sized RawExpr)) (a : Sized RawExpr) (xs ys : Symbols) (c : Bool) → reals xs < n → is_mark mark.Comma (look ys).kind ≡ c → Derived d b 0 xs a ys
       → ((x : Sized RawExpr) (zs : Symbols) → Derived d b 0 xs x zs → a.1 < d → a.1 < x.1 → Fails (suc d) (XE b 0 xs) (next x zs)) → Fails (suc d) (XE b 0 xs) (s.comma_by d n inner next b a c ys)
   comma_fails b next a xs ys false ln e h f = fine
   comma_fails b next a xs ys true ln e h f = let c = marked mark.Comma ys e in deeper_fails c
       (λ (lt : a.1 < d). fails_after (sound.expr b 1 (rest ys) (omega arith))
-        (fails_map (λ j. suc (max a.1 j)) (λ j m. omega arith) (λ j i w. comma_begun b j h.tree c w) (all.expr (omega arith) b 1 (rest ys) (omega (arith, e_less h.tree, at_less c)) (omega arith)))
-        (λ x zs p. f _ zs (record { tree = g.comma (omega arith) (omega arith) h.tree c p.0.whole.tree; low = omega (arith, p.1) }) lt (omega arith)))
+      (fails_map (λ j. suc (max a.1 j)) (λ j m. omega arith) (λ j i w. comma_begun b j h.tree c w) (all.expr (omega arith) b 1 (rest ys) (omega (arith, e_less h.tree, at_less c)) (omega arith)))
+      (λ x zs p. f _ zs (record { tree = g.comma (omega arith) (omega arith) h.tree c p.0.whole.tree; low = omega (arith, p.1) }) lt (omega arith)))
       a.1 (omega (arith, h.low)) (whole_e h.tree) (suc (max a.1 0)) (comma_begun b 0 h.tree c (no_e (rest ys) 0 b 1))
 
   commas_fail : (b : Bool) (m : ℕ) (a : Sized RawExpr) (xs ys : Symbols) → reals xs < n → d < m + a.1 → Derived d b 0 xs a ys → Fails (suc d) (XE b 0 xs) (s.commas d n inner b m a ys)
@@ -281,9 +323,9 @@ module _ (d n : ℕ) (inner : In) (sound : SoundInner d inner) (all : FailsInner
   after_unary_fails b l a xs ys ln ll h = let c = begin_climb d n inner sound b l xs a ys ll h in
       fails_after (climb_sound d n inner sound b l (suc d) xs a ys c) (lowest l (omega arith) ll (climb_fails b l (suc d) xs a ys ln (omega arith) c)) (λ x zs p.
       fails_after (conditional_part b l x xs zs ll p.0)
-        (fails_fork (nat_lt l 3) _ _ (λ lt. lowest l (omega (arith, ltb-true _ _ lt)) ll (conditional_fails b x xs zs ln (lowered 3 (omega arith) (λ q. absurd (omega arith)) p.0))) (λ _. fine)) (λ y us q.
+      (fails_fork (nat_lt l 3) _ _ (λ lt. lowest l (omega (arith, ltb-true _ _ lt)) ll (conditional_fails b x xs zs ln (lowered 3 (omega arith) (λ q. absurd (omega arith)) p.0))) (λ _. fine)) (λ y us q.
       fails_after (assign_part b l y xs us ll q)
-        (fails_fork (nat_lt l 2) _ _ (λ lt. lowest l (omega (arith, ltb-true _ _ lt)) ll (assign_fails b y xs us ln (lowered 2 (omega arith) (λ s. absurd (omega arith)) q))) (λ _. fine)) (λ z vs o.
+      (fails_fork (nat_lt l 2) _ _ (λ lt. lowest l (omega (arith, ltb-true _ _ lt)) ll (assign_fails b y xs us ln (lowered 2 (omega arith) (λ s. absurd (omega arith)) q))) (λ _. fine)) (λ z vs o.
       fails_fork (l == 0) _ _ (λ e. let zeroth : l ≡ 0 = eqb-true _ _ e in lowest l (omega arith) ll (commas_fail b (suc d) z xs vs ln (omega arith) (lowered 0 (omega arith) (λ s. absurd (omega arith)) o))) (λ _. fine))))
 
   pub after_head_fails : (b : Bool) (l : ℕ) (a : Sized RawExpr) (xs ys : Symbols) → reals xs < n → l ≤ 13 → Chained d false b xs a ys → Fails (suc d) (XE b l xs) (s.after_head d n inner b l a ys)

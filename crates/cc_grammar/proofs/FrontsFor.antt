@@ -69,45 +69,73 @@ module _ (d n : ℕ) (inner : In) (sound : SoundInner d inner) (all : FailsInner
 
     -- the beginning has begun
     init_begun : {j : ℕ} {i : Symbols} → Begun (λ (a : RawInit) us vs. Init j us a vs) zs i → FT (suc (max (max j (max 0 0)) 0)) i
-    init_begun w = record { front = joined (taken o) (joined (taken p) w.front);
+    init_begun w = record {
+      front = joined (taken o) (joined (taken p) w.front);
       more = λ us. w.more (real (token (k.mark mark.Semicolon)) ∷ real (token (k.mark mark.Semicolon)) ∷ real (token (k.mark mark.CloseParen)) ∷ real (token (k.due k.statement)) ∷ us);
       tree = raw.for (look xs).place w.tree raw.no_expr raw.no_expr (stmts []) ∷ [];
-      holds = λ us f. for_of {u = 0} {v = 0} {i = 0} (again o _) (again p _) (w.holds _) (new_at (k.mark mark.Semicolon)) g.absent (new_at (k.mark mark.Semicolon)) g.absent (new_at (k.mark mark.CloseParen)) (g.any_statement (new_at (k.due k.statement))); first = λ us. same refl }
+      holds = λ us f. for_of {u = 0} {v = 0} {i = 0} (again o _) (again p _) (w.holds _) (new_at (k.mark mark.Semicolon)) g.absent (new_at (k.mark mark.Semicolon)) g.absent (new_at (k.mark mark.CloseParen)) (g.any_statement (new_at (k.due k.statement)));
+      first = λ us. same refl;
+    }
 
     test_begun : {h : ℕ} (j : ℕ) {a : RawInit} {us vs i : Symbols} → Init h zs a us → Sign mark.Semicolon us vs → Begun (OO j) vs i → FT (suc (max (max h (max j 0)) 0)) i
-    test_begun j {a} m q w = let u = init_moves m in record { front = joined (taken o) (joined (taken p) (joined u.front (joined (taken q) w.front)));
-      more = λ us. w.more (real (token (k.mark mark.Semicolon)) ∷ real (token (k.mark mark.CloseParen)) ∷ real (token (k.due k.statement)) ∷ us); tree = raw.for (look xs).place a w.tree raw.no_expr (stmts []) ∷ [];
-      holds = λ us f. for_of {v = 0} {i = 0} (again o _) (again p _) (u.holds _) (again q _) (w.holds _) (new_at (k.mark mark.Semicolon)) g.absent (new_at (k.mark mark.CloseParen)) (g.any_statement (new_at (k.due k.statement))); first = λ us. same refl }
+    test_begun j {a} m q w = let u = init_moves m in record {
+      front = joined (taken o) (joined (taken p) (joined u.front (joined (taken q) w.front)));
+      more = λ us. w.more (real (token (k.mark mark.Semicolon)) ∷ real (token (k.mark mark.CloseParen)) ∷ real (token (k.due k.statement)) ∷ us);
+      tree = raw.for (look xs).place a w.tree raw.no_expr (stmts []) ∷ [];
+      holds = λ us f. for_of {v = 0} {i = 0} (again o _) (again p _) (u.holds _) (again q _) (w.holds _) (new_at (k.mark mark.Semicolon)) g.absent (new_at (k.mark mark.CloseParen)) (g.any_statement (new_at (k.due k.statement)));
+      first = λ us. same refl;
+    }
 
     step_begun : {h u : ℕ} (j : ℕ) {a : RawInit} {e : MaybeExpr} {us vs ws ts i : Symbols} → Init h zs a us → Sign mark.Semicolon us vs → Optional u vs e ws → Sign mark.Semicolon ws ts → Begun (OO j) ts i → FT (suc (max (max h (max u j)) 0)) i
-    step_begun j {a} {e} m q x v w = let y = init_moves m in let z = optional_moves x in record { front = joined (taken o) (joined (taken p) (joined y.front (joined (taken q) (joined z.front (joined (taken v) w.front)))));
-      more = λ us. w.more (real (token (k.mark mark.CloseParen)) ∷ real (token (k.due k.statement)) ∷ us); tree = raw.for (look xs).place a e w.tree (stmts []) ∷ [];
-      holds = λ us f. for_of {i = 0} (again o _) (again p _) (y.holds _) (again q _) (z.holds _) (again v _) (w.holds _) (new_at (k.mark mark.CloseParen)) (g.any_statement (new_at (k.due k.statement))); first = λ us. same refl }
+    step_begun j {a} {e} m q x v w = let y = init_moves m in let z = optional_moves x in record {
+      front = joined (taken o) (joined (taken p) (joined y.front (joined (taken q) (joined z.front (joined (taken v) w.front)))));
+      more = λ us. w.more (real (token (k.mark mark.CloseParen)) ∷ real (token (k.due k.statement)) ∷ us);
+      tree = raw.for (look xs).place a e w.tree (stmts []) ∷ [];
+      holds = λ us f. for_of {i = 0} (again o _) (again p _) (y.holds _) (again q _) (z.holds _) (again v _) (w.holds _) (new_at (k.mark mark.CloseParen)) (g.any_statement (new_at (k.due k.statement)));
+      first = λ us. same refl;
+    }
 
     for_begun : {h u l : ℕ} (j : ℕ) {a : RawInit} {e f : MaybeExpr} {us vs ws ts rs os i : Symbols} → Init h zs a us → Sign mark.Semicolon us vs → Optional u vs e ws → Sign mark.Semicolon ws ts → Optional l ts f rs → Sign mark.CloseParen rs os
         → Begun (TT (in_loop c) j) os i → FT (suc (max (max h (max u l)) j)) i
     for_begun j {a} {e} {f} m q x v t r w = let y = init_moves m in let z = optional_moves x in let b = optional_moves t in
-        record { front = joined (taken o) (joined (taken p) (joined y.front (joined (taken q) (joined z.front (joined (taken v) (joined b.front (joined (taken r) w.front))))))); more = w.more; tree = raw.for (look xs).place a e f (stmts w.tree) ∷ [];
-      holds = λ us g. for_of (again o _) (again p _) (y.holds _) (again q _) (z.holds _) (again v _) (b.holds _) (again r _) (w.holds us g); first = λ us. same refl }
+        record {
+          front = joined (taken o) (joined (taken p) (joined y.front (joined (taken q) (joined z.front (joined (taken v) (joined b.front (joined (taken r) w.front)))))));
+          more = w.more;
+          tree = raw.for (look xs).place a e f (stmts w.tree) ∷ [];
+          holds = λ us g. for_of (again o _) (again p _) (y.holds _) (again q _) (z.holds _) (again v _) (b.holds _) (again r _) (w.holds us g);
+          first = λ us. same refl;
+        }
 
     -- what has come whole
     whole_init : {h : ℕ} {a : RawInit} {us : Symbols} → Init h zs a us → Begun (OO 0) us us → FT (suc (max (max h (max 0 0)) 0)) us
-    whole_init {a} m w = let u = init_moves m in record { front = joined (taken o) (joined (taken p) u.front);
-      more = λ us. real (token (k.mark mark.Semicolon)) ∷ real (token (k.mark mark.Semicolon)) ∷ real (token (k.mark mark.CloseParen)) ∷ real (token (k.due k.statement)) ∷ us; tree = raw.for (look xs).place a raw.no_expr raw.no_expr (stmts []) ∷ [];
-      holds = λ us f. for_of {u = 0} {v = 0} {i = 0} (again o _) (again p _) (u.holds _) (new_at (k.mark mark.Semicolon)) g.absent (new_at (k.mark mark.Semicolon)) g.absent (new_at (k.mark mark.CloseParen)) (g.any_statement (new_at (k.due k.statement))); first = λ us. same refl }
+    whole_init {a} m w = let u = init_moves m in record {
+      front = joined (taken o) (joined (taken p) u.front);
+      more = λ us. real (token (k.mark mark.Semicolon)) ∷ real (token (k.mark mark.Semicolon)) ∷ real (token (k.mark mark.CloseParen)) ∷ real (token (k.due k.statement)) ∷ us;
+      tree = raw.for (look xs).place a raw.no_expr raw.no_expr (stmts []) ∷ [];
+      holds = λ us f. for_of {u = 0} {v = 0} {i = 0} (again o _) (again p _) (u.holds _) (new_at (k.mark mark.Semicolon)) g.absent (new_at (k.mark mark.Semicolon)) g.absent (new_at (k.mark mark.CloseParen)) (g.any_statement (new_at (k.due k.statement)));
+      first = λ us. same refl;
+    }
 
     no_optional : (us : Symbols) → Begun (OO 0) us us
     no_optional us = record { front = stays us; more = λ zs. real (token (k.due k.operand)) ∷ zs; tree = raw.one_expr (raw.lit nowhere undefined); holds = λ zs. g.present (g.operand (new_at (k.due k.operand))); first = λ zs. fresh (k.due k.operand) refl refl }
 
     whole_test : {h u : ℕ} {a : RawInit} {e : MaybeExpr} {us vs ws : Symbols} → Init h zs a us → Sign mark.Semicolon us vs → Optional u vs e ws → FT (suc (max (max h (max u 0)) 0)) ws
-    whole_test {a} {e} m q x = let y = init_moves m in let z = optional_moves x in record { front = joined (taken o) (joined (taken p) (joined y.front (joined (taken q) z.front)));
-      more = λ us. real (token (k.mark mark.Semicolon)) ∷ real (token (k.mark mark.CloseParen)) ∷ real (token (k.due k.statement)) ∷ us; tree = raw.for (look xs).place a e raw.no_expr (stmts []) ∷ [];
-      holds = λ us f. for_of {v = 0} {i = 0} (again o _) (again p _) (y.holds _) (again q _) (z.holds _) (new_at (k.mark mark.Semicolon)) g.absent (new_at (k.mark mark.CloseParen)) (g.any_statement (new_at (k.due k.statement))); first = λ us. same refl }
+    whole_test {a} {e} m q x = let y = init_moves m in let z = optional_moves x in record {
+      front = joined (taken o) (joined (taken p) (joined y.front (joined (taken q) z.front)));
+      more = λ us. real (token (k.mark mark.Semicolon)) ∷ real (token (k.mark mark.CloseParen)) ∷ real (token (k.due k.statement)) ∷ us;
+      tree = raw.for (look xs).place a e raw.no_expr (stmts []) ∷ [];
+      holds = λ us f. for_of {v = 0} {i = 0} (again o _) (again p _) (y.holds _) (again q _) (z.holds _) (new_at (k.mark mark.Semicolon)) g.absent (new_at (k.mark mark.CloseParen)) (g.any_statement (new_at (k.due k.statement)));
+      first = λ us. same refl;
+    }
 
     whole_step : {h u l : ℕ} {a : RawInit} {e f : MaybeExpr} {us vs ws ts rs : Symbols} → Init h zs a us → Sign mark.Semicolon us vs → Optional u vs e ws → Sign mark.Semicolon ws ts → Optional l ts f rs → FT (suc (max (max h (max u l)) 0)) rs
-    whole_step {a} {e} {f} m q x v t = let y = init_moves m in let z = optional_moves x in let b = optional_moves t in record { front = joined (taken o) (joined (taken p) (joined y.front (joined (taken q) (joined z.front (joined (taken v) b.front)))));
-      more = λ us. real (token (k.mark mark.CloseParen)) ∷ real (token (k.due k.statement)) ∷ us; tree = raw.for (look xs).place a e f (stmts []) ∷ [];
-      holds = λ us h. for_of {i = 0} (again o _) (again p _) (y.holds _) (again q _) (z.holds _) (again v _) (b.holds _) (new_at (k.mark mark.CloseParen)) (g.any_statement (new_at (k.due k.statement))); first = λ us. same refl }
+    whole_step {a} {e} {f} m q x v t = let y = init_moves m in let z = optional_moves x in let b = optional_moves t in record {
+      front = joined (taken o) (joined (taken p) (joined y.front (joined (taken q) (joined z.front (joined (taken v) b.front)))));
+      more = λ us. real (token (k.mark mark.CloseParen)) ∷ real (token (k.due k.statement)) ∷ us;
+      tree = raw.for (look xs).place a e f (stmts []) ∷ [];
+      holds = λ us h. for_of {i = 0} (again o _) (again p _) (y.holds _) (again q _) (z.holds _) (again v _) (b.holds _) (new_at (k.mark mark.CloseParen)) (g.any_statement (new_at (k.due k.statement)));
+      first = λ us. same refl;
+    }
 
     for_rest_fails : (us : Symbols) (a : Sized RawInit) → Init a.1 zs a.0 us → a.1 < d → Fails (suc d) FT (s.for_rest d n inner c (look xs).place a us)
     unfolding r.for_rest
@@ -115,24 +143,39 @@ module _ (d n : ℕ) (inner : In) (sound : SoundInner d inner) (all : FailsInner
         fails_after (optional_sound d n inner sound mark.Semicolon vs lt) (fails_map (λ j. suc (max (max a.1 (max j 0)) 0)) (λ j l. omega arith) (λ j i w. test_begun j m q w) (optional_fails d n inner sound all mark.Semicolon vs lt (omega (arith, at_less o, at_less p, init_less m, at_less q)))) (λ x ws t.
         fails_after (expected mark.Semicolon ws) (expect_fails mark.Semicolon ws _ (omega arith) (whole_test m q t.0)) (λ _ ts v.
         fails_after (optional_sound d n inner sound mark.CloseParen ts lt) (fails_map (λ j. suc (max (max a.1 (max x.1 j)) 0)) (λ j l. omega (arith, t.1)) (λ j i w. step_begun j m q t.0 v w)
-          (optional_fails d n inner sound all mark.CloseParen ts lt (omega (arith, at_less o, at_less p, init_less m, at_less q, optional_less t.0, at_less v)))) (λ y rs w.
+        (optional_fails d n inner sound all mark.CloseParen ts lt (omega (arith, at_less o, at_less p, init_less m, at_less q, optional_less t.0, at_less v)))) (λ y rs w.
         fails_after (expected mark.CloseParen rs) (expect_fails mark.CloseParen rs _ (omega arith) (whole_step m q t.0 v w.0)) (λ _ os b.
         fails_after (sound.stmt (in_loop c) os) (fails_map (λ j. suc (max (max a.1 (max x.1 y.1)) j)) (λ j l. omega (arith, t.1, w.1)) (λ j i z. for_begun j m q t.0 v w.0 b z)
-          (all.stmt lt (in_loop c) os (omega (arith, at_less o, at_less p, init_less m, at_less q, optional_less t.0, at_less v, optional_less w.0, at_less b)))) (λ b rs z. fine))))))
+        (all.stmt lt (in_loop c) os (omega (arith, at_less o, at_less p, init_less m, at_less q, optional_less t.0, at_less v, optional_less w.0, at_less b)))) (λ b rs z. fine))))))
 
     -- ---- `in`
 
     object_begun : {h : ℕ} (j : ℕ) {t : RawForTarget} {us vs i : Symbols} → Aim h t zs us → Reserved word.In us vs → Begun (EE j true 0) vs i → FT (suc (max (max h j) 0)) i
-    object_begun j {t} m q w = let u = aim_moves m in record { front = joined (taken o) (joined (taken p) (joined u.front (joined (taken q) w.front))); more = λ us. w.more (real (token (k.mark mark.CloseParen)) ∷ real (token (k.due k.statement)) ∷ us);
-      tree = raw.for_in (look xs).place t w.tree (stmts []) ∷ []; holds = λ us f. in_of {i = 0} (again o _) (again p _) (u.holds _) (again q _) (w.holds _) (new_at (k.mark mark.CloseParen)) (g.any_statement (new_at (k.due k.statement))); first = λ us. same refl }
+    object_begun j {t} m q w = let u = aim_moves m in record {
+      front = joined (taken o) (joined (taken p) (joined u.front (joined (taken q) w.front)));
+      more = λ us. w.more (real (token (k.mark mark.CloseParen)) ∷ real (token (k.due k.statement)) ∷ us);
+      tree = raw.for_in (look xs).place t w.tree (stmts []) ∷ [];
+      holds = λ us f. in_of {i = 0} (again o _) (again p _) (u.holds _) (again q _) (w.holds _) (new_at (k.mark mark.CloseParen)) (g.any_statement (new_at (k.due k.statement)));
+      first = λ us. same refl;
+    }
 
     whole_object : {h u : ℕ} {t : RawForTarget} {e : RawExpr} {us vs ws : Symbols} → Aim h t zs us → Reserved word.In us vs → E u true 0 vs e ws → FT (suc (max (max h u) 0)) ws
-    whole_object {t} {e} m q x = let u = aim_moves m in let v = e_moves x in record { front = joined (taken o) (joined (taken p) (joined u.front (joined (taken q) v.front))); more = λ us. real (token (k.mark mark.CloseParen)) ∷ real (token (k.due k.statement)) ∷ us;
-      tree = raw.for_in (look xs).place t e (stmts []) ∷ []; holds = λ us f. in_of {i = 0} (again o _) (again p _) (u.holds _) (again q _) (v.holds _) (new_at (k.mark mark.CloseParen)) (g.any_statement (new_at (k.due k.statement))); first = λ us. same refl }
+    whole_object {t} {e} m q x = let u = aim_moves m in let v = e_moves x in record {
+      front = joined (taken o) (joined (taken p) (joined u.front (joined (taken q) v.front)));
+      more = λ us. real (token (k.mark mark.CloseParen)) ∷ real (token (k.due k.statement)) ∷ us;
+      tree = raw.for_in (look xs).place t e (stmts []) ∷ [];
+      holds = λ us f. in_of {i = 0} (again o _) (again p _) (u.holds _) (again q _) (v.holds _) (new_at (k.mark mark.CloseParen)) (g.any_statement (new_at (k.due k.statement)));
+      first = λ us. same refl;
+    }
 
     in_begun : {h u : ℕ} (j : ℕ) {t : RawForTarget} {e : RawExpr} {us vs ws os i : Symbols} → Aim h t zs us → Reserved word.In us vs → E u true 0 vs e ws → Sign mark.CloseParen ws os → Begun (TT (in_loop c) j) os i → FT (suc (max (max h u) j)) i
-    in_begun j {t} {e} m q x y w = let u = aim_moves m in let v = e_moves x in record { front = joined (taken o) (joined (taken p) (joined u.front (joined (taken q) (joined v.front (joined (taken y) w.front))))); more = w.more;
-      tree = raw.for_in (look xs).place t e (stmts w.tree) ∷ []; holds = λ us f. in_of (again o _) (again p _) (u.holds _) (again q _) (v.holds _) (again y _) (w.holds us f); first = λ us. same refl }
+    in_begun j {t} {e} m q x y w = let u = aim_moves m in let v = e_moves x in record {
+      front = joined (taken o) (joined (taken p) (joined u.front (joined (taken q) (joined v.front (joined (taken y) w.front)))));
+      more = w.more;
+      tree = raw.for_in (look xs).place t e (stmts w.tree) ∷ [];
+      holds = λ us f. in_of (again o _) (again p _) (u.holds _) (again q _) (v.holds _) (again y _) (w.holds us f);
+      first = λ us. same refl;
+    }
 
     for_in_fails : (us : Symbols) (t : RawForTarget) (h : ℕ) → Aim h t zs us → is_word word.In (look us).kind ≡ true → h < d → Fails (suc d) FT (s.for_in d n inner c (look xs).place t h us)
     unfolding r.for_in
@@ -141,7 +184,7 @@ module _ (d n : ℕ) (inner : In) (sound : SoundInner d inner) (all : FailsInner
         let y = x_is.0.whole.tree in
         fails_after (expected mark.CloseParen vs) (expect_fails mark.CloseParen vs _ (omega arith) (whole_object m q y)) (λ _ ws w.
         fails_after (sound.stmt (in_loop c) ws) (fails_map (λ j. suc (max (max h x.1) j)) (λ j l. omega (arith, x_is.1)) (λ j i z. in_begun j m q y w z)
-          (all.stmt lt (in_loop c) ws (omega (arith, at_less o, at_less p, aim_less m, at_less q, e_less y, at_less w)))) (λ b os z. fine)))
+        (all.stmt lt (in_loop c) ws (omega (arith, at_less o, at_less p, aim_less m, at_less q, e_less y, at_less w)))) (λ b os z. fine)))
 
     for_vars_fails : (us ws : Symbols) (vs : List RawDeclarator) (h : ℕ) (b : Bool) → Reserved word.Var zs us → Declarators h false us vs ws → is_word word.In (look ws).kind ≡ b → h < d → Fails (suc d) FT (s.for_vars_by d n inner c (look xs).place vs h b ws)
     for_vars_fails us ws (v ∷ []) h true w m e lh = for_in_fails ws (raw.in_declared v.variable v.value) h (at_variable w (one_of _ v refl m)) e lh
@@ -158,14 +201,14 @@ module _ (d n : ℕ) (inner : In) (sound : SoundInner d inner) (all : FailsInner
     pub for_head_fails : Fails (suc d) FT (cond (is_word word.Var (look zs).kind)
         (λ i. and_then (s.declarators d n inner inner.expr false n [] 0 (rest i)) (λ vs j. s.for_vars_by d n inner c (look xs).place vs.0 vs.1 (is_word word.In (look j).kind) j))
         (cond (is_mark mark.Semicolon (look zs).kind) (s.for_rest d n inner c (look xs).place (raw.no_init, 0))
-          (λ i. and_then (inner.expr false 0 i) (λ x j. s.for_value_by d n inner c (look xs).place x (target_of x.0) (is_word word.In (look j).kind) j))) zs)
+        (λ i. and_then (inner.expr false 0 i) (λ x j. s.for_value_by d n inner c (look xs).place x (target_of x.0) (is_word word.In (look j).kind) j))) zs)
     for_head_fails = fails_fork (is_word word.Var (look zs).kind) _ _
         (λ e. let w = worded word.Var zs e in fails_after (declarators_sound d inner.expr (inner_expr d n inner sound) d n inner false n [] 0 (rest zs) lt)
-          (fails_map (λ j. suc (max (max j (max 0 0)) 0)) (λ j l. omega arith) (λ j i v. init_begun (record { front = joined (taken w) v.front; more = v.more; tree = raw.init_vars (raw.declarators v.tree); holds = λ us. g.init_vars (again w _) (v.holds us); first = λ us. same refl }))
-            (declarators_fail d n d inner inner.expr (inner_expr d n inner sound) false (λ l us lm ll. all.expr lt false l us lm ll) lt n [] 0 (rest zs) (omega (arith, at_less o, at_less p, at_less w)) (omega (arith, at_less o, at_less p, at_less w))))
-          (λ vs us q. for_vars_fails (rest zs) us vs.0 vs.1 (is_word word.In (look us).kind) w (whole_list q) refl q.low))
+        (fails_map (λ j. suc (max (max j (max 0 0)) 0)) (λ j l. omega arith) (λ j i v. init_begun (record { front = joined (taken w) v.front; more = v.more; tree = raw.init_vars (raw.declarators v.tree); holds = λ us. g.init_vars (again w _) (v.holds us); first = λ us. same refl }))
+        (declarators_fail d n d inner inner.expr (inner_expr d n inner sound) false (λ l us lm ll. all.expr lt false l us lm ll) lt n [] 0 (rest zs) (omega (arith, at_less o, at_less p, at_less w)) (omega (arith, at_less o, at_less p, at_less w))))
+        (λ vs us q. for_vars_fails (rest zs) us vs.0 vs.1 (is_word word.In (look us).kind) w (whole_list q) refl q.low))
         (λ _. fails_fork (is_mark mark.Semicolon (look zs).kind) _ _ (λ _. for_rest_fails zs (raw.no_init, 0) g.no_init lt)
-          (λ _. fails_after (sound.expr false 0 zs (omega arith))
-            (fails_map (λ j. suc (max (max j (max 0 0)) 0)) (λ j l. omega arith) (λ j i v. init_begun (record { front = v.front; more = v.more; tree = raw.init_value v.tree; holds = λ us. g.init_value (v.holds us); first = v.first }))
-              (all.expr lt false 0 zs (omega (arith, at_less o, at_less p)) (omega arith)))
-            (λ x us q. for_value_fails x us q.0.whole.tree q.1 (target_of x.0) (is_word word.In (look us).kind) refl refl)))
+        (λ _. fails_after (sound.expr false 0 zs (omega arith))
+        (fails_map (λ j. suc (max (max j (max 0 0)) 0)) (λ j l. omega arith) (λ j i v. init_begun (record { front = v.front; more = v.more; tree = raw.init_value v.tree; holds = λ us. g.init_value (v.holds us); first = v.first }))
+        (all.expr lt false 0 zs (omega (arith, at_less o, at_less p)) (omega arith)))
+        (λ x us q. for_value_fails x us q.0.whole.tree q.1 (target_of x.0) (is_word word.In (look us).kind) refl refl)))

@@ -65,29 +65,44 @@ module _ (d n : ℕ) (inner : In) (sound : SoundInner d inner) (all : FailsInner
   parentheses_fail : (b : Bool) (xs : Symbols) → Sign mark.OpenParen xs (rest xs) → 0 < d → reals xs < n → Fails (suc d) (PE b xs) (s.parentheses d n inner xs)
   unfolding r.parentheses
   parentheses_fail b xs c lt ln = fails_after (sound.expr true 0 (rest xs) (omega arith))
-      (fails_map suc (λ j l. omega arith) (λ j i w. record { front = joined (taken c) w.front; more = λ zs. w.more (real (token (k.mark mark.CloseParen)) ∷ zs); tree = parenthesised (look xs) w.tree;
-        holds = λ zs. g.paren (omega arith) (again c _) (w.holds _) (new_at (k.mark mark.CloseParen)); first = λ zs. same refl }) (all.expr lt true 0 (rest xs) (omega (arith, at_less c)) (omega arith)))
-      (λ x ys p. let m = e_moves p.0.whole.tree in fails_after (expected mark.CloseParen ys) (expect_fails mark.CloseParen ys (x.1 + 1) (omega arith) (record { front = joined (taken c) m.front; more = λ zs. real (token (k.mark mark.CloseParen)) ∷ zs;
-        tree = parenthesised (look xs) x.0; holds = λ zs. g.paren (omega arith) (again c _) (m.holds _) (new_at (k.mark mark.CloseParen)); first = λ zs. same refl })) (λ _ zs q. fine))
+      (fails_map suc (λ j l. omega arith) (λ j i w. record {
+        front = joined (taken c) w.front;
+        more = λ zs. w.more (real (token (k.mark mark.CloseParen)) ∷ zs);
+        tree = parenthesised (look xs) w.tree;
+        holds = λ zs. g.paren (omega arith) (again c _) (w.holds _) (new_at (k.mark mark.CloseParen));
+        first = λ zs. same refl;
+      }) (all.expr lt true 0 (rest xs) (omega (arith, at_less c)) (omega arith)))
+      (λ x ys p. let m = e_moves p.0.whole.tree in fails_after (expected mark.CloseParen ys) (expect_fails mark.CloseParen ys (x.1 + 1) (omega arith) (record {
+        front = joined (taken c) m.front;
+        more = λ zs. real (token (k.mark mark.CloseParen)) ∷ zs;
+        tree = parenthesised (look xs) x.0;
+        holds = λ zs. g.paren (omega arith) (again c _) (m.holds _) (new_at (k.mark mark.CloseParen));
+        first = λ zs. same refl;
+      })) (λ _ zs q. fine))
 
   array_fails : (b : Bool) (xs : Symbols) → Sign mark.OpenBracket xs (rest xs) → 0 < d → reals xs < n → Fails (suc d) (PE b xs) (s.array d n inner xs)
   unfolding r.array
   array_fails b xs c lt ln = fails_after (Rattle.cc_grammar.proofs.SoundLists.elements_sound d n inner sound n [] 0 (rest xs) lt)
       (fails_map suc (λ j l. omega arith) (λ j i w. record { front = joined (taken c) w.front; more = w.more; tree = raw.list (look xs).place (exprs w.tree); holds = λ zs. g.array (omega arith) (again c _) (w.holds zs); first = λ zs. same refl })
-        (all_elements_fail d n inner sound all (rest xs) lt (omega (arith, at_less c))))
+      (all_elements_fail d n inner sound all (rest xs) lt (omega (arith, at_less c))))
       (λ x ys p. fine)
 
   object_fails : (b : Bool) (xs : Symbols) → Sign mark.OpenBrace xs (rest xs) → 0 < d → reals xs < n → Fails (suc d) (PE b xs) (s.object d n inner xs)
   unfolding r.object
   object_fails b xs c lt ln = fails_after (Rattle.cc_grammar.proofs.SoundLists.object_fields_sound d n inner sound n [] 0 (rest xs) lt)
       (fails_map suc (λ j l. omega arith) (λ j i w. record { front = joined (taken c) w.front; more = w.more; tree = raw.object (look xs).place (fields w.tree); holds = λ zs. g.object (omega arith) (again c _) (w.holds zs); first = λ zs. same refl })
-        (all_fields_fail d n inner sound all (rest xs) lt (omega (arith, at_less c))))
+      (all_fields_fail d n inner sound all (rest xs) lt (omega (arith, at_less c))))
       (λ x ys p. fine)
 
   -- a function, behind its word
   function_begun : {o : Option Named} {xs ys zs i : Symbols} (b : Bool) (j : ℕ) → Reserved word.Function xs ys → OwnName ys o zs → Begun (UU j) zs i → Begun (EE (suc j) b 17) xs i
-  function_begun {o} {xs} b j c w u = let m = own_moves w in record { front = joined (taken c) (joined m.front u.front); more = u.more; tree = raw.fun (look xs).place o u.tree.0 (stmts u.tree.1);
-    holds = λ zs. g.function (omega arith) (again c _) (m.holds _) (u.holds zs); first = λ zs. same refl }
+  function_begun {o} {xs} b j c w u = let m = own_moves w in record {
+    front = joined (taken c) (joined m.front u.front);
+    more = u.more;
+    tree = raw.fun (look xs).place o u.tree.0 (stmts u.tree.1);
+    holds = λ zs. g.function (omega arith) (again c _) (m.holds _) (u.holds zs);
+    first = λ zs. same refl;
+  }
 
   function_expr_fails : (b : Bool) (xs : Symbols) → Reserved word.Function xs (rest xs) → 0 < d → reals xs < n → Fails (suc d) (PE b xs) (s.function_expr d n inner xs)
   unfolding r.function_expr
@@ -101,13 +116,18 @@ module _ (d n : ℕ) (inner : In) (sound : SoundInner d inner) (all : FailsInner
   unfolding r.new_expr
   new_expr_fails b xs c lt ln = fails_after (sound.callee b (rest xs)) (fails_map suc (λ j l. omega arith) (λ j i w. new_begun b j c w) (all.callee lt b (rest xs) (omega (arith, at_less c)))) (λ f ys p.
       fails_fork (is_mark mark.OpenParen (look ys).kind) _ _
-        (λ e. let o = marked mark.OpenParen ys e in let t = p.0.member (a_call (look ys).kind e) in let m = e_moves t in
-          fails_after (Rattle.cc_grammar.proofs.SoundLists.arguments_of_sound d n inner sound (rest ys) lt)
-            (fails_map (λ j. suc (max f.1 j)) (λ j l. omega (arith, p.1)) (λ j i w. record { front = joined (taken c) (joined m.front (joined (taken o) w.front)); more = w.more; tree = raw.new (look xs).place f.0 (exprs w.tree);
-              holds = λ zs. g.new_call (omega arith) (omega arith) (omega arith) (again c _) (m.holds _) (again o _) (w.holds zs); first = λ zs. same refl })
-              (arguments_of_fail d n inner sound all (rest ys) lt (omega (arith, at_less c, e_less t, at_less o))))
-            (λ x zs q. fine))
-        (λ _. fine))
+      (λ e. let o = marked mark.OpenParen ys e in let t = p.0.member (a_call (look ys).kind e) in let m = e_moves t in
+      fails_after (Rattle.cc_grammar.proofs.SoundLists.arguments_of_sound d n inner sound (rest ys) lt)
+      (fails_map (λ j. suc (max f.1 j)) (λ j l. omega (arith, p.1)) (λ j i w. record {
+        front = joined (taken c) (joined m.front (joined (taken o) w.front));
+        more = w.more;
+        tree = raw.new (look xs).place f.0 (exprs w.tree);
+        holds = λ zs. g.new_call (omega arith) (omega arith) (omega arith) (again c _) (m.holds _) (again o _) (w.holds zs);
+        first = λ zs. same refl;
+      })
+      (arguments_of_fail d n inner sound all (rest ys) lt (omega (arith, at_less c, e_less t, at_less o))))
+      (λ x zs q. fine))
+      (λ _. fine))
 
   primary_by_fails : (b : Bool) (xs : Symbols) (x : Kind) (h : Head) → reals xs < n → (look xs).kind ≡ x → IsHead x h → Fails (suc d) (PE b xs) (s.primary_by d n inner b h xs)
   primary_by_fails b xs x h ln e (view.literal q) = fine
@@ -115,14 +135,29 @@ module _ (d n : ℕ) (inner : In) (sound : SoundInner d inner) (all : FailsInner
   primary_by_fails b xs x h ln e view.this = fine
   primary_by_fails b xs x h ln e view.operand = fine
   primary_by_fails b xs x h ln e view.paren = let c = consumed xs (k.mark mark.OpenParen) refl e in
-      deeper_fails c (λ lt. parentheses_fail b xs c lt ln) 0 (omega arith) (no_e xs 0 b 17) 1 (record { front = taken c; more = λ zs. real (token (k.due k.operand)) ∷ real (token (k.mark mark.CloseParen)) ∷ zs; tree = parenthesised (look xs) (raw.lit nowhere undefined);
-        holds = λ zs. g.paren {h = 0} (omega arith) (again c _) (g.operand (new_at (k.due k.operand))) (new_at (k.mark mark.CloseParen)); first = λ zs. same refl })
+      deeper_fails c (λ lt. parentheses_fail b xs c lt ln) 0 (omega arith) (no_e xs 0 b 17) 1 (record {
+        front = taken c;
+        more = λ zs. real (token (k.due k.operand)) ∷ real (token (k.mark mark.CloseParen)) ∷ zs;
+        tree = parenthesised (look xs) (raw.lit nowhere undefined);
+        holds = λ zs. g.paren {h = 0} (omega arith) (again c _) (g.operand (new_at (k.due k.operand))) (new_at (k.mark mark.CloseParen));
+        first = λ zs. same refl;
+      })
   primary_by_fails b xs x h ln e view.array = let c = consumed xs (k.mark mark.OpenBracket) refl e in
-      deeper_fails c (λ lt. array_fails b xs c lt ln) 0 (omega arith) (no_e xs 0 b 17) 1 (record { front = taken c; more = λ zs. real (token (k.mark mark.CloseBracket)) ∷ zs; tree = raw.list (look xs).place (exprs []);
-        holds = λ zs. g.array {h = 0} (omega arith) (again c _) (g.no_element (new_at (k.mark mark.CloseBracket))); first = λ zs. same refl })
+      deeper_fails c (λ lt. array_fails b xs c lt ln) 0 (omega arith) (no_e xs 0 b 17) 1 (record {
+        front = taken c;
+        more = λ zs. real (token (k.mark mark.CloseBracket)) ∷ zs;
+        tree = raw.list (look xs).place (exprs []);
+        holds = λ zs. g.array {h = 0} (omega arith) (again c _) (g.no_element (new_at (k.mark mark.CloseBracket)));
+        first = λ zs. same refl;
+      })
   primary_by_fails b xs x h ln e view.object = let c = consumed xs (k.mark mark.OpenBrace) refl e in
-      deeper_fails c (λ lt. object_fails b xs c lt ln) 0 (omega arith) (no_e xs 0 b 17) 1 (record { front = taken c; more = λ zs. real (token (k.mark mark.CloseBrace)) ∷ zs; tree = raw.object (look xs).place (fields []);
-        holds = λ zs. g.object {h = 0} (omega arith) (again c _) (g.no_field (new_at (k.mark mark.CloseBrace))); first = λ zs. same refl })
+      deeper_fails c (λ lt. object_fails b xs c lt ln) 0 (omega arith) (no_e xs 0 b 17) 1 (record {
+        front = taken c;
+        more = λ zs. real (token (k.mark mark.CloseBrace)) ∷ zs;
+        tree = raw.object (look xs).place (fields []);
+        holds = λ zs. g.object {h = 0} (omega arith) (again c _) (g.no_field (new_at (k.mark mark.CloseBrace)));
+        first = λ zs. same refl;
+      })
   primary_by_fails b xs x h ln e view.function = let c = consumed xs (k.word word.Function) refl e in
       deeper_fails c (λ lt. function_expr_fails b xs c lt ln) 0 (omega arith) (no_e xs 0 b 17) 1 (function_begun b 0 c g.no_name (no_function (rest xs) 0))
   primary_by_fails b xs x h ln e view.new = let c = consumed xs (k.word word.New) refl e in
@@ -139,8 +174,13 @@ module _ (d n : ℕ) (inner : In) (sound : SoundInner d inner) (all : FailsInner
   SE calls b xs j i = Begun (EE j b (stands calls)) xs i
 
   dot_begun : (calls b : Bool) {h : ℕ} {e : RawExpr} {xs ys : Symbols} → E h b (chains calls) xs e ys → Sign mark.Dot ys (rest ys) → SE calls b xs (suc h) (rest ys)
-  dot_begun calls b {e} {ys} t c = let m = e_moves t in record { front = joined m.front (taken c); more = λ zs. real (token (k.name [])) ∷ zs; tree = raw.member (look ys).place e nowhere [];
-    holds = λ zs. g.dotted (goes_on_by calls) (low_enough calls) (omega arith) (m.holds _) (again c _) (new_at (k.name [])) refl; first = λ zs. same (look_kept m.front (e_less t) _) }
+  dot_begun calls b {e} {ys} t c = let m = e_moves t in record {
+    front = joined m.front (taken c);
+    more = λ zs. real (token (k.name [])) ∷ zs;
+    tree = raw.member (look ys).place e nowhere [];
+    holds = λ zs. g.dotted (goes_on_by calls) (low_enough calls) (omega arith) (m.holds _) (again c _) (new_at (k.name [])) refl;
+    first = λ zs. same (look_kept m.front (e_less t) _);
+  }
 
   dotted_fails : (calls b : Bool) (a : Sized RawExpr) (xs ys : Symbols) → E a.1 b (chains calls) xs a.0 ys → Sign mark.Dot ys (rest ys) → a.1 < d → Fails (suc d) (SE calls b xs) (s.dotted d n inner a ys)
   unfolding r.dotted
@@ -150,8 +190,13 @@ module _ (d n : ℕ) (inner : In) (sound : SoundInner d inner) (all : FailsInner
     by (Some v) = fine
 
   bracket_begun : (calls b : Bool) {h : ℕ} (j : ℕ) {e : RawExpr} {xs ys i : Symbols} → E h b (chains calls) xs e ys → Sign mark.OpenBracket ys (rest ys) → Begun (EE j true 0) (rest ys) i → SE calls b xs (suc (max h j)) i
-  bracket_begun calls b j {e} {ys} t c w = let m = e_moves t in record { front = joined m.front (joined (taken c) w.front); more = λ zs. w.more (real (token (k.mark mark.CloseBracket)) ∷ zs); tree = raw.index (look ys).place e w.tree;
-    holds = λ zs. g.bracketed (goes_on_by calls) (low_enough calls) (omega arith) (omega arith) (m.holds _) (again c _) (w.holds _) (new_at (k.mark mark.CloseBracket)); first = λ zs. same (look_kept m.front (e_less t) _) }
+  bracket_begun calls b j {e} {ys} t c w = let m = e_moves t in record {
+    front = joined m.front (joined (taken c) w.front);
+    more = λ zs. w.more (real (token (k.mark mark.CloseBracket)) ∷ zs);
+    tree = raw.index (look ys).place e w.tree;
+    holds = λ zs. g.bracketed (goes_on_by calls) (low_enough calls) (omega arith) (omega arith) (m.holds _) (again c _) (w.holds _) (new_at (k.mark mark.CloseBracket));
+    first = λ zs. same (look_kept m.front (e_less t) _);
+  }
 
   bracketed_fails : (calls b : Bool) (a : Sized RawExpr) (xs ys : Symbols) → reals xs < n → a.1 < d → E a.1 b (chains calls) xs a.0 ys → Sign mark.OpenBracket ys (rest ys) → Fails (suc d) (SE calls b xs) (s.bracketed d n inner a ys)
   unfolding r.bracketed
@@ -160,8 +205,13 @@ module _ (d n : ℕ) (inner : In) (sound : SoundInner d inner) (all : FailsInner
       (λ x zs p. fails_after (expected mark.CloseBracket zs) (expect_fails mark.CloseBracket zs (suc (max a.1 x.1)) (omega arith) (bracket_begun calls b x.1 t c (whole_e p.0.whole.tree))) (λ _ ws q. fine))
 
   call_begun : (b : Bool) {h : ℕ} (j : ℕ) {e : RawExpr} {xs ys i : Symbols} → E h b 16 xs e ys → Sign mark.OpenParen ys (rest ys) → Begun (AA j) (rest ys) i → SE true b xs (suc (max h j)) i
-  call_begun b j {e} {ys} t c w = let m = e_moves t in record { front = joined m.front (joined (taken c) w.front); more = w.more; tree = raw.call (look ys).place e (exprs w.tree);
-    holds = λ zs. g.call (omega arith) (omega arith) (omega arith) (m.holds _) (again c _) (w.holds zs); first = λ zs. same (look_kept m.front (e_less t) _) }
+  call_begun b j {e} {ys} t c w = let m = e_moves t in record {
+    front = joined m.front (joined (taken c) w.front);
+    more = w.more;
+    tree = raw.call (look ys).place e (exprs w.tree);
+    holds = λ zs. g.call (omega arith) (omega arith) (omega arith) (m.holds _) (again c _) (w.holds zs);
+    first = λ zs. same (look_kept m.front (e_less t) _);
+  }
 
   called_fails : (b : Bool) (a : Sized RawExpr) (xs ys : Symbols) → reals xs < n → a.1 < d → E a.1 b 16 xs a.0 ys → Sign mark.OpenParen ys (rest ys) → Fails (suc d) (SE true b xs) (s.called d n inner a ys)
   unfolding r.called
@@ -177,10 +227,10 @@ module _ (d n : ℕ) (inner : In) (sound : SoundInner d inner) (all : FailsInner
       deeper_fails c (λ lt. fails_after (dotted_sound d n inner sound calls b a xs ys e t lt) (dotted_fails calls b a xs ys t c lt) (λ w zs p. f w zs p.0 lt p.1)) a.1 (omega (arith, h.whole.low)) (whole_e h.whole.tree) (suc a.1) (dot_begun calls b t c)
   suffix_fails calls b a xs ys next x v ln e q view.bracket h f = let c = consumed ys (k.mark mark.OpenBracket) refl e in let t = h.onward (has_suffix (look ys).kind r.by_bracket (ap (suffix_of true) e) (λ z. cc)) in
       deeper_fails c (λ lt. fails_after (bracketed_sound d n inner sound calls b a xs ys e t lt) (bracketed_fails calls b a xs ys ln lt t c) (λ w zs p. f w zs p.0 lt p.1)) a.1 (omega (arith, h.whole.low)) (whole_e h.whole.tree)
-        (suc (max a.1 0)) (bracket_begun calls b 0 t c (no_e (rest ys) 0 true 0))
+      (suc (max a.1 0)) (bracket_begun calls b 0 t c (no_e (rest ys) 0 true 0))
   suffix_fails true b a xs ys next x v ln e q view.call h f = let c = consumed ys (k.mark mark.OpenParen) refl e in let t = h.onward (has_suffix (look ys).kind r.by_call (ap (suffix_of true) e) (λ z. cc)) in
       deeper_fails c (λ lt. fails_after (called_sound d n inner sound b a xs ys e t lt) (called_fails b a xs ys ln lt t c) (λ w zs p. f w zs p.0 lt p.1)) a.1 (omega (arith, h.whole.low)) (whole_e h.whole.tree)
-        (suc (max a.1 0)) (call_begun b 0 t c (record { front = stays (rest ys); more = λ zs. real (token (k.mark mark.CloseParen)) ∷ zs; tree = []; holds = λ zs. g.no_argument (new_at (k.mark mark.CloseParen)); first = λ zs. fresh (k.mark mark.CloseParen) refl refl }))
+      (suc (max a.1 0)) (call_begun b 0 t c (record { front = stays (rest ys); more = λ zs. real (token (k.mark mark.CloseParen)) ∷ zs; tree = []; holds = λ zs. g.no_argument (new_at (k.mark mark.CloseParen)); first = λ zs. fresh (k.mark mark.CloseParen) refl refl }))
   suffix_fails false b a xs ys next x v ln e q view.call h f = let no : r.no_suffix ≡ r.by_call = q in absurd (cc)
   suffix_fails calls b a xs ys next x v ln e q view.none h f = fine
 

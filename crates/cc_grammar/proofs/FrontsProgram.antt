@@ -57,7 +57,7 @@ module _ (d n : ℕ) (inner : In) (sound : SoundInner d inner) (all : FailsInner
   stmt_by_fails c xs x v ln e view.throw = throw_fails d n inner sound all c xs ln e
   stmt_by_fails c xs x v ln e view.try = let o = consumed xs (k.word word.Try) refl e in begins c xs {h = 1} o (λ lt. try_fails d n inner sound all c xs o lt ln) _ (try_begun d n inner sound all c 1 o (no_block (rest xs) (g.inside c) 1 (omega arith)))
   stmt_by_fails c xs x v ln e view.declaration = let o = consumed xs (k.word word.Function) refl e in fails_fork c.declares _ _
-      (λ a. begins c xs {h = 0} o (λ lt. declaration_fails d n inner sound all c xs a o lt ln) 1 (declare_word d n inner sound all c a o)) (λ _. stop refl 0 (inl (omega arith)) (by_construct construct.BlockFunction refl) (no_t xs c 0))
+      (λ a. begins c xs {h = 0} o (λ lt. declaration_fails d n inner sound all c xs a o lt ln) 1 (declare_word d n inner sound all c a o)) (λ _. stop refl (λ w. cc) 0 (inl (omega arith)) (by_construct construct.BlockFunction refl) (no_t xs c 0))
   stmt_by_fails c xs x v ln e view.any_statement = fine
   stmt_by_fails c xs x v ln e (view.name {n = w}) = name_fails d n inner sound all c w xs ln e
   stmt_by_fails c xs x v ln e (view.plain f) = plain_fails d n inner sound all c xs ln (ap opens_no_expression e ∙ f)
@@ -70,7 +70,8 @@ one_more : (d n : ℕ) (inner : In) (sound : SoundInner d inner) (all : FailsInn
 one_more d n inner sound all = record {
   expr = λ lt b l xs ln ll. expr_fails d n inner sound all b l xs ln ll;
   callee = λ lt b xs ln. callee_fails d n inner sound all b xs ln;
-  stmt = λ lt c xs ln. stmt_fails d n inner sound all c xs ln }
+  stmt = λ lt c xs ln. stmt_fails d n inner sound all c xs ln;
+}
 
 none_fails : (n : ℕ) → FailsInner 0 n s.no_depth
 none_fails n = record { expr = λ lt b l xs ln ll. absurd (omega arith); callee = λ lt b xs ln. absurd (omega arith); stmt = λ lt c xs ln. absurd (omega arith) }
@@ -89,13 +90,26 @@ pub record FrontAt (j : ℕ) (xs i : Symbols) : Type 0 where
   pub front : IsFrontWithin j before
 
 ended_front : {j : ℕ} {xs i : Symbols} → Begun (BB of_program j) xs i → FrontAt j xs i
-ended_front {j} {xs} {i} w = record { before = w.front.before; is = sym w.front.is ∙ w.front.prefix i; front = record {
-  more = w.more (real (token k.end) ∷ []); tree = w.tree;
-  derives = subst (λ z. Derives j z w.tree) (w.front.prefix (w.more (real (token k.end) ∷ []))) (record { last = real (token k.end) ∷ []; body = w.holds (real (token k.end) ∷ []) refl; ends = new_at k.end }) } }
+ended_front {j} {xs} {i} w = record {
+  before = w.front.before;
+  is = sym w.front.is ∙ w.front.prefix i;
+  front = record {
+    more = w.more (real (token k.end) ∷ []);
+    tree = w.tree;
+    derives = subst (λ z. Derives j z w.tree) (w.front.prefix (w.more (real (token k.end) ∷ []))) (record { last = real (token k.end) ∷ []; body = w.holds (real (token k.end) ∷ []) refl; ends = new_at k.end });
+  };
+}
 
 list_front : {h : ℕ} {b : List RawStmt} {xs ys : Symbols} → Body of_program h xs b ys → FrontAt h xs ys
-list_front {h} {b} {xs} {ys} x = let m = body_moves x in record { before = m.front.before; is = sym m.front.is ∙ m.front.prefix ys; front = record { more = real (token k.end) ∷ []; tree = b;
-  derives = subst (λ z. Derives h z b) (m.front.prefix (real (token k.end) ∷ [])) (record { last = real (token k.end) ∷ []; body = m.holds (real (token k.end) ∷ []) (moves.free refl); ends = new_at k.end }) } }
+list_front {h} {b} {xs} {ys} x = let m = body_moves x in record {
+  before = m.front.before;
+  is = sym m.front.is ∙ m.front.prefix ys;
+  front = record {
+    more = real (token k.end) ∷ [];
+    tree = b;
+    derives = subst (λ z. Derives h z b) (m.front.prefix (real (token k.end) ∷ [])) (record { last = real (token k.end) ∷ []; body = m.holds (real (token k.end) ∷ []) (moves.free refl); ends = new_at k.end });
+  };
+}
 
 end_fails : {b : ℕ} {P : ℕ → Symbols → Type 0} (xs : Symbols) (j : ℕ) → j < b → P j xs → Fails b P (s.expect_end xs)
 unfolding r.expect_end

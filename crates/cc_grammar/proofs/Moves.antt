@@ -28,7 +28,8 @@ joined f h = record {
   go = λ us. f.go (h.go us);
   before = f.before ++ h.before;
   prefix = λ us. f.prefix (h.go us) ∙ ap (λ w. f.before ++ w) (h.prefix us) ∙ sym (append_assoc f.before h.before us);
-  is = ap f.go h.is ∙ f.is }
+  is = ap f.go h.is ∙ f.is;
+}
 
 -- a token, and then such a list
 abbrev pub behind : (t : Lexeme) {ys zs : Symbols} → Front ys zs → Front (real t ∷ ys) zs

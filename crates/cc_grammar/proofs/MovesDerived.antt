@@ -144,30 +144,51 @@ mutual
       record { front = behind t (joined m.front w.front); holds = λ zs _. g.vars (g.at_token t q) (m.holds (w.front.go zs)) (w.holds zs) }
   t_moves (g.empty (g.at_token t {ys} q)) = record { front = one (real t) ys; holds = λ zs _. g.empty (g.at_token t q) }
   t_moves (g.simple {c} {d} {e = v} {xs} b x e) = let m = e_moves x in let w = ends_move e in let f = joined m.front w.front in
-      record { front = f; holds = λ zs _. let kept = look_kept f (omega (arith, e_less x, ends_less e)) zs in
-        subst (λ (z : Lexeme). T c d (f.go zs) (raw.simple z.place v ∷ []) zs) kept (g.simple (ap (λ z. opens_no_expression z.kind) kept ∙ b) (m.holds (w.front.go zs)) (w.holds zs)) }
+      record {
+        front = f;
+        holds = λ zs _. let kept = look_kept f (omega (arith, e_less x, ends_less e)) zs in
+            subst (λ (z : Lexeme). T c d (f.go zs) (raw.simple z.place v ∷ []) zs) kept (g.simple (ap (λ z. opens_no_expression z.kind) kept ∙ b) (m.holds (w.front.go zs)) (w.holds zs));
+      }
   t_moves (g.if_else lt lu lv (g.at_token t q) (g.at_token u r) x (g.at_token v w) y (g.at_token o p) z) = let m = e_moves x in let a = t_moves y in let b = t_moves z in
-      record { front = behind t (behind u (joined m.front (behind v (joined a.front (behind o b.front))))); holds = λ zs f.
-        g.if_else lt lu lv (g.at_token t q) (g.at_token u r) (m.holds (real v ∷ a.front.go (real o ∷ b.front.go zs))) (g.at_token v w) (a.holds (real o ∷ b.front.go zs) (same refl)) (g.at_token o p) (b.holds zs f) }
+      record {
+        front = behind t (behind u (joined m.front (behind v (joined a.front (behind o b.front)))));
+        holds = λ zs f.
+            g.if_else lt lu lv (g.at_token t q) (g.at_token u r) (m.holds (real v ∷ a.front.go (real o ∷ b.front.go zs))) (g.at_token v w) (a.holds (real o ∷ b.front.go zs) (same refl)) (g.at_token o p) (b.holds zs f);
+      }
   t_moves (g.if_only lt lu (g.at_token t q) (g.at_token u r) x (g.at_token v w) y n) = let m = e_moves x in let a = t_moves y in
-      record { front = behind t (behind u (joined m.front (behind v a.front))); holds = λ zs f.
-        g.if_only lt lu (g.at_token t q) (g.at_token u r) (m.holds (real v ∷ a.front.go zs)) (g.at_token v w) (a.holds zs f) (still_no word.Else refl n f) }
+      record {
+        front = behind t (behind u (joined m.front (behind v a.front)));
+        holds = λ zs f.
+            g.if_only lt lu (g.at_token t q) (g.at_token u r) (m.holds (real v ∷ a.front.go zs)) (g.at_token v w) (a.holds zs f) (still_no word.Else refl n f);
+      }
   t_moves (g.do_while lt lu (g.at_token t q) x (g.at_token u r) (g.at_token v w) y (g.at_token o p) e) = let m = t_moves x in let a = e_moves y in let b = ends_move e in
-      record { front = behind t (joined m.front (behind u (behind v (joined a.front (behind o b.front))))); holds = λ zs _.
-        g.do_while lt lu (g.at_token t q) (m.holds (real u ∷ real v ∷ a.front.go (real o ∷ b.front.go zs)) (same refl)) (g.at_token u r) (g.at_token v w) (a.holds (real o ∷ b.front.go zs)) (g.at_token o p) (b.holds zs) }
+      record {
+        front = behind t (joined m.front (behind u (behind v (joined a.front (behind o b.front)))));
+        holds = λ zs _.
+            g.do_while lt lu (g.at_token t q) (m.holds (real u ∷ real v ∷ a.front.go (real o ∷ b.front.go zs)) (same refl)) (g.at_token u r) (g.at_token v w) (a.holds (real o ∷ b.front.go zs)) (g.at_token o p) (b.holds zs);
+      }
   t_moves (g.while lt lu (g.at_token t q) (g.at_token u r) x (g.at_token v w) y) = let m = e_moves x in let a = t_moves y in
       record { front = behind t (behind u (joined m.front (behind v a.front))); holds = λ zs f. g.while lt lu (g.at_token t q) (g.at_token u r) (m.holds (real v ∷ a.front.go zs)) (g.at_token v w) (a.holds zs f) }
   t_moves (g.for lt lu (g.at_token t q) (g.at_token u r) i (g.at_token v w) x (g.at_token o p) y (g.at_token j l) z) =
       let a = init_moves i in let b = optional_moves x in let c = optional_moves y in let d = t_moves z in
-      record { front = behind t (behind u (joined a.front (behind v (joined b.front (behind o (joined c.front (behind j d.front))))))); holds = λ zs f.
-        g.for lt lu (g.at_token t q) (g.at_token u r) (a.holds (real v ∷ b.front.go (real o ∷ c.front.go (real j ∷ d.front.go zs)))) (g.at_token v w) (b.holds (real o ∷ c.front.go (real j ∷ d.front.go zs))) (g.at_token o p)
-          (c.holds (real j ∷ d.front.go zs)) (g.at_token j l) (d.holds zs f) }
+      record {
+        front = behind t (behind u (joined a.front (behind v (joined b.front (behind o (joined c.front (behind j d.front)))))));
+        holds = λ zs f.
+            g.for lt lu (g.at_token t q) (g.at_token u r) (a.holds (real v ∷ b.front.go (real o ∷ c.front.go (real j ∷ d.front.go zs)))) (g.at_token v w) (b.holds (real o ∷ c.front.go (real j ∷ d.front.go zs))) (g.at_token o p)
+            (c.holds (real j ∷ d.front.go zs)) (g.at_token j l) (d.holds zs f);
+      }
   t_moves (g.for_in lt lu (g.at_token t q) (g.at_token u r) x m (g.at_token v w) y (g.at_token o p) z) = let a = e_moves x in let b = e_moves y in let d = t_moves z in
-      record { front = behind t (behind u (joined a.front (behind v (joined b.front (behind o d.front))))); holds = λ zs f.
-        g.for_in lt lu (g.at_token t q) (g.at_token u r) (a.holds (real v ∷ b.front.go (real o ∷ d.front.go zs))) m (g.at_token v w) (b.holds (real o ∷ d.front.go zs)) (g.at_token o p) (d.holds zs f) }
+      record {
+        front = behind t (behind u (joined a.front (behind v (joined b.front (behind o d.front)))));
+        holds = λ zs f.
+            g.for_in lt lu (g.at_token t q) (g.at_token u r) (a.holds (real v ∷ b.front.go (real o ∷ d.front.go zs))) m (g.at_token v w) (b.holds (real o ∷ d.front.go zs)) (g.at_token o p) (d.holds zs f);
+      }
   t_moves (g.for_in_var lt lu (g.at_token t q) (g.at_token u r) (g.at_token j l) x (g.at_token v w) y (g.at_token o p) z) = let a = declarator_moves x in let b = e_moves y in let d = t_moves z in
-      record { front = behind t (behind u (behind j (joined a.front (behind v (joined b.front (behind o d.front)))))); holds = λ zs f.
-        g.for_in_var lt lu (g.at_token t q) (g.at_token u r) (g.at_token j l) (a.holds (real v ∷ b.front.go (real o ∷ d.front.go zs))) (g.at_token v w) (b.holds (real o ∷ d.front.go zs)) (g.at_token o p) (d.holds zs f) }
+      record {
+        front = behind t (behind u (behind j (joined a.front (behind v (joined b.front (behind o d.front))))));
+        holds = λ zs f.
+            g.for_in_var lt lu (g.at_token t q) (g.at_token u r) (g.at_token j l) (a.holds (real v ∷ b.front.go (real o ∷ d.front.go zs))) (g.at_token v w) (b.holds (real o ∷ d.front.go zs)) (g.at_token o p) (d.holds zs f);
+      }
   t_moves (g.continue a (g.at_token t q) e) = let w = ends_move e in record { front = behind t w.front; holds = λ zs _. g.continue a (g.at_token t q) (w.holds zs) }
   t_moves (g.continue_to a (g.at_token t q) s (g.at_token u r) i e) = let w = ends_move e in
       record { front = behind t (behind u w.front); holds = λ zs _. g.continue_to a (g.at_token t q) s (g.at_token u r) i (w.holds zs) }
@@ -184,14 +205,20 @@ mutual
   t_moves (g.throw (g.at_token t q) s x e) = let m = e_moves x in let w = ends_move e in
       record { front = behind t (joined m.front w.front); holds = λ zs _. g.throw (g.at_token t q) (ap (λ z. z.after_line) (look_kept m.front (e_less x) (w.front.go zs)) ∙ s) (m.holds (w.front.go zs)) (w.holds zs) }
   t_moves (g.try_catch lt lu (g.at_token t q) b x y n) = let m = t_moves x in let w = catch_moves y in
-      record { front = behind t (joined m.front w.front); holds = λ zs f. g.try_catch lt lu (g.at_token t q) (ap (λ z. z.kind) (look_kept m.front (t_less x) (w.front.go zs)) ∙ b) (m.holds (w.front.go zs) (kept_fits w.front (catch_less y) zs)) (w.holds zs f)
-        (still_no word.Finally refl n f) }
+      record {
+        front = behind t (joined m.front w.front);
+        holds = λ zs f. g.try_catch lt lu (g.at_token t q) (ap (λ z. z.kind) (look_kept m.front (t_less x) (w.front.go zs)) ∙ b) (m.holds (w.front.go zs) (kept_fits w.front (catch_less y) zs)) (w.holds zs f)
+            (still_no word.Finally refl n f);
+      }
   t_moves (g.try_finally lt lu (g.at_token t q) b x y) = let m = t_moves x in let w = finally_moves y in
       record { front = behind t (joined m.front w.front); holds = λ zs f. g.try_finally lt lu (g.at_token t q) (ap (λ z. z.kind) (look_kept m.front (t_less x) (w.front.go zs)) ∙ b) (m.holds (w.front.go zs) (kept_fits w.front (finally_less y) zs)) (w.holds zs f) }
   t_moves (g.try_both lt lu lv (g.at_token t q) b x y z) = let m = t_moves x in let w = catch_moves y in let o = finally_moves z in
-      record { front = behind t (joined m.front (joined w.front o.front)); holds = λ zs f.
-        g.try_both lt lu lv (g.at_token t q) (ap (λ z. z.kind) (look_kept m.front (t_less x) (w.front.go (o.front.go zs))) ∙ b) (m.holds (w.front.go (o.front.go zs)) (kept_fits w.front (catch_less y) (o.front.go zs)))
-          (w.holds (o.front.go zs) (kept_fits o.front (finally_less z) zs)) (o.holds zs f) }
+      record {
+        front = behind t (joined m.front (joined w.front o.front));
+        holds = λ zs f.
+            g.try_both lt lu lv (g.at_token t q) (ap (λ z. z.kind) (look_kept m.front (t_less x) (w.front.go (o.front.go zs))) ∙ b) (m.holds (w.front.go (o.front.go zs)) (kept_fits w.front (catch_less y) (o.front.go zs)))
+            (w.holds (o.front.go zs) (kept_fits o.front (finally_less z) zs)) (o.holds zs f);
+      }
   t_moves (g.declare a lt (g.at_token t q) (g.variable (g.at_token u r) e) x) = let m = function_moves x in
       record { front = behind t (behind u m.front); holds = λ zs _. g.declare a lt (g.at_token t q) (g.variable (g.at_token u r) e) (m.holds zs) }
   t_moves (g.declare a lt (g.at_token t q) (g.any_variable (g.at_token u r)) x) = let m = function_moves x in

@@ -35,7 +35,8 @@ looser {l} m le q = record {
   infix_below = λ o e. omega (arith, q.infix_below o e);
   question = λ lt. q.question (omega arith);
   assigning = λ lt. q.assigning (omega arith);
-  comma = λ e. q.comma (omega arith) }
+  comma = λ e. q.comma (omega arith);
+}
 
 -- it goes on with nothing
 silent : (n : Bool) (x : Kind) → suffix_of true x ≡ r.no_suffix → step_of x ≡ None → infix_of n x ≡ None → is_mark mark.Question x ≡ false → assign_of x ≡ None → is_mark mark.Comma x ≡ false
@@ -45,7 +46,8 @@ silent n x s t i q a c = record {
   infix_below = λ o e. let no : None ≡ Some o = sym i ∙ e in (cc);
   question = λ _. q;
   assigning = λ _. a;
-  comma = λ _. c }
+  comma = λ _. c;
+}
 
 pub close_paren : (n : Bool) → Quiet n 0 (k.mark mark.CloseParen)
 close_paren n = silent n _ refl refl refl refl refl refl
@@ -77,7 +79,8 @@ comma n = record {
   infix_below = λ o e. cc;
   question = λ _. refl;
   assigning = λ _. refl;
-  comma = λ e. absurd (omega arith) }
+  comma = λ e. absurd (omega arith);
+}
 
 pub question : (n : Bool) → Quiet n 3 (k.mark mark.Question)
 question n = record {
@@ -85,7 +88,8 @@ question n = record {
   infix_below = λ o e. cc;
   question = λ le. absurd (omega arith);
   assigning = λ _. refl;
-  comma = λ _. refl }
+  comma = λ _. refl;
+}
 
 -- ---- operators
 
@@ -141,7 +145,8 @@ assignment n x o e = record {
   infix_below = λ p f. let no : None ≡ Some p = sym (assign_infix n x o e) ∙ f in (cc);
   question = λ _. not_in_table assign_of mark.Question x o refl e;
   assigning = λ le. absurd (omega arith);
-  comma = λ le. absurd (omega arith) }
+  comma = λ le. absurd (omega arith);
+}
 
 -- ---- at the next symbol
 

@@ -157,8 +157,8 @@ stops_before n d p f lt h e = by (s.list (suc d) n (s.reader n d) of_program n [
   by : (o : Read) → Done (λ x ys. EndsWith (Body of_program) (suc d) [] 0 p x ys × (ends_list (look ys).kind ≡ true)) o → Fails (suc d) (λ j i. Begun (BB of_program j) p i) o
       → and_then o (λ b i. and_then (s.expect_end i) (λ _ j. Ok (b, j))) ≡ Err (f, []) → ⊥
   by o (ok {a} {i} q) w e = end_place i a f q.1 e
-  by o err (stop l j lt y w) e = never_past h (subst (λ v. Begun (BB of_program j) p v) (err_place e) w)
-  by o err (deep m j lt w t q u z) e = never_past h (subst (λ v. Begun (BB of_program j) p v) (err_place e) w)
+  by o err (stop l m j lt y w) e = never_past h (subst (λ v. Begun (BB of_program j) p v) (err_place e) w)
+  by o err (deep m g j lt w t q u z) e = never_past h (subst (λ v. Begun (BB of_program j) p v) (err_place e) w)
 
 -- ---- where it stops
 
