@@ -1,6 +1,6 @@
 -- Where reading stops, what came before is a front: what the laws of the parts have in common.
 use Rattle.std.specs.Prelude.{◌≡◌, ℕ, zero, suc, ◌+◌, ◌<◌, ◌≤◌, Bool, true, false, cond, nat_lt, Ok, Err, List, [], ◌∷◌, ◌++◌, ◌⊎◌, Option, Some, None}
-use Rattle.std.proofs.Common.{refl, sym, ap, ◌∙◌, subst, arith, inl, inr, ltb-true, ltb-false}
+use Rattle.std.proofs.Common.{refl, inl, inr, sym, ap, ◌∙◌, subst, arith, ltb-true, ltb-false}
 use Rattle.cc_ast.specs.Syntax.{undefined}
 use Rattle.cc_ast.specs.declared.place.Place.{Place}
 use Rattle.cc_ast.specs.declared.reading.Construct.{Construct}
@@ -14,7 +14,7 @@ use Rattle.cc_grammar.specs.RawTree as raw
 use Rattle.cc_grammar.specs.Signs.{refused_kind}
 use Rattle.cc_grammar.specs.Grammar as g
 use Rattle.cc_grammar.specs.Grammar.{Context, At, Variable, E, T, is_tail, opens_no_expression}
-use Rattle.cc_grammar.specs.Reading.{Outcome, Fault, Cause, Due, and_then, fault, either, refused_there, depth, refused, variable_of}
+use Rattle.cc_grammar.specs.Reading.{Outcome, Fault, Cause, Due, and_then, fault, either, refused_there, depth, refused, syntax, variable_of}
 use Rattle.cc_grammar.specs.Reading as r
 use Rattle.cc_grammar.proofs.Marked.{In}
 use Rattle.cc_grammar.proofs.Meets.{Done, ok, err}
@@ -92,14 +92,14 @@ pub data Why (c : Fault) (i : Symbols) : Type 0 where
 -- If it isn't read, then what came before is a front. At the depth it is one below b, and with the next token it is one too.
 pub data Fails {A : Type 0} (b : ℕ) (P : ℕ → Symbols → Type 0) : Outcome Symbols A → Type 0 where
   fine : {p : A × Symbols} → Fails b P (Ok p)
-  stop : {c : Fault} {i : Symbols} → is_limit c.cause ≡ false → (j : ℕ) → (j < b) ⊎ (c.cause ≡ refused construct.DeleteName) → Why c i → P j i → Fails b P (Err (c, i))
-  deep : {c : Fault} {i ys : Symbols} → c.cause ≡ depth → (j : ℕ) → j < b → P j i → (t : Lexeme) → real t ∷ ys ≡ i → (u : ℕ) → P u ys → Fails b P (Err (c, i))
+  stop : {c : Fault} {i : Symbols} → is_limit c.cause ≡ false → (c.cause ≡ syntax → c.place ≡ (look i).place) → (j : ℕ) → (j < b) ⊎ (c.cause ≡ refused construct.DeleteName) → Why c i → P j i → Fails b P (Err (c, i))
+  deep : {c : Fault} {i ys : Symbols} → c.cause ≡ depth → c.place ≡ (look i).place → (j : ℕ) → j < b → P j i → (t : Lexeme) → real t ∷ ys ≡ i → (u : ℕ) → P u ys → Fails b P (Err (c, i))
 
 pub fails_after : {A B : Type 0} {b : ℕ} {D : A → Symbols → Type 0} {P : ℕ → Symbols → Type 0} {o : Outcome Symbols A} {f : A → s.Reader B}
     → Done D o → Fails b P o → ((a : A) (i : Symbols) → D a i → Fails b P (f a i)) → Fails b P (and_then o f)
 fails_after (ok {a} {i} h) e k = k a i h
-fails_after err (stop l j lt w h) k = stop l j lt w h
-fails_after err (deep e j lt h t q u w) k = deep e j lt h t q u w
+fails_after err (stop l m j lt w h) k = stop l m j lt w h
+fails_after err (deep e m j lt h t q u w) k = deep e m j lt h t q u w
 
 -- within another bound
 rebound : {X : Type 0} {b c j k : ℕ} → (j < b → k < c) → (j < b) ⊎ X → (k < c) ⊎ X
@@ -109,8 +109,8 @@ rebound f (inr x) = inr x
 -- what begins it begins what it is a part of
 pub fails_map : {A : Type 0} {b c : ℕ} {P Q : ℕ → Symbols → Type 0} {o : Outcome Symbols A} (f : ℕ → ℕ) → ((j : ℕ) → j < b → f j < c) → ((j : ℕ) (i : Symbols) → P j i → Q (f j) i) → Fails b P o → Fails c Q o
 fails_map f lt m fine = fine
-fails_map f lt m (stop l j le w h) = stop l (f j) (rebound (lt j) le) w (m j _ h)
-fails_map f lt m (deep e j le h t q u w) = deep e (f j) (lt j le) (m j _ h) t q (f u) (m u _ w)
+fails_map f lt m (stop l o j le w h) = stop l o (f j) (rebound (lt j) le) w (m j _ h)
+fails_map f lt m (deep e o j le h t q u w) = deep e o (f j) (lt j le) (m j _ h) t q (f u) (m u _ w)
 
 pub fails_fork : {A : Type 0} {b : ℕ} {P : ℕ → Symbols → Type 0} (c : Bool) (p q : s.Reader A) {i : Symbols} → (c ≡ true → Fails b P (p i)) → (c ≡ false → Fails b P (q i)) → Fails b P (cond c p q i)
 fails_fork true p q h l = h refl
@@ -126,7 +126,7 @@ either_sharp None (Some d) = refl
 either_sharp None None = refl
 
 pub fails_here : {A : Type 0} {b : ℕ} {P : ℕ → Symbols → Type 0} (d : Due) (xs : Symbols) (j : ℕ) → j < b → P j xs → Fails {A = A} b P (Err (fault d (look xs), xs))
-fails_here d xs j lt h = stop (either_sharp (refused_kind (look xs).kind) (refused_there d (look xs).kind)) j (inl lt) (by_token d refl) h
+fails_here d xs j lt h = stop (either_sharp (refused_kind (look xs).kind) (refused_there d (look xs).kind)) (λ _. refl) j (inl lt) (by_token d refl) h
 
 pub expect_fails : {b : ℕ} {P : ℕ → Symbols → Type 0} (m : Mark) (xs : Symbols) (j : ℕ) → j < b → P j xs → Fails b P (s.expect m xs)
 unfolding r.expect
@@ -145,7 +145,7 @@ variable_fails {b} {P} xs j lt h = by (variable_of (look xs).kind) where
 
 pub deeper_fails : {A : Type 0} {b d h : ℕ} {P : ℕ → Symbols → Type 0} {x : Kind} {xs ys : Symbols} {o : Outcome Symbols A} → At x xs ys → (h < d → Fails b P o) → (j : ℕ) → j < b → P j xs → (u : ℕ) → P u ys
     → Fails b P (cond (nat_lt h d) o (Err (record { cause = depth; place = (look xs).place }, xs)))
-deeper_fails {d} {h} {xs} c f j lt p u q = fails_choice (nat_lt h d) (λ e. f (ltb-true h d e)) (λ _. deep refl j lt p (look xs) (at_is c) u q)
+deeper_fails {d} {h} {xs} c f j lt p u q = fails_choice (nat_lt h d) (λ e. f (ltb-true h d e)) (λ _. deep refl refl j lt p (look xs) (at_is c) u q)
 
 pub record FailsInner (d n : ℕ) (inner : In) : Type 0 where
   pub expr : 0 < d → (b : Bool) (l : ℕ) (xs : Symbols) → reals xs < n → l ≤ 13 → Fails d (λ j i. Begun (EE j b l) xs i) (inner.expr b l xs)

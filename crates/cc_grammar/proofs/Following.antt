@@ -15,7 +15,7 @@ use Rattle.cc_grammar.proofs.Steps.{step, chosen, skipped, chosen_at, skipped_at
 use Rattle.cc_grammar.proofs.Quiet.{Quiet, looser, close_paren}
 use Rattle.cc_grammar.proofs.Stopping.{either_way, by_head, by_operand, head_ends}
 use Rattle.cc_grammar.proofs.CompleteOperands.{variable_head}
-use Rattle.cc_grammar.proofs.Alike.{Stands, whole, stands_after, alike_close}
+use Rattle.cc_grammar.proofs.Alike.{Bounds, Deeper, Stands, whole, stands_after, alike_close}
 use Rattle.cc_grammar.proofs.AlikeExpressions.{Follow, held, on, past, Follows, AlikeInner, at_zero, expr_alike, after_head_alike}
 use Rattle.cc_grammar.proofs.OnSymbols as s
 
@@ -50,9 +50,9 @@ some_value : (o : Option (List ℕ)) → is_some o ≡ true → Valued o
 some_value (Some w) e = record { value = w; is = refl }
 some_value None e = let no : false ≡ true = e in absurd (cc)
 
-module _ (d e n o : ℕ) (inner outer : In) (le : d ≤ e) (lo : n ≤ o) (all : AlikeInner inner outer) where
+module _ {bounds : Bounds} (d e n o : ℕ) (inner outer : In) (le : d ≤ e) (deep : Deeper bounds d e) (lo : n ≤ o) (all : AlikeInner bounds inner outer) where
   after_walks : (b : Bool) (l : ℕ) (a : Sized RawExpr) (ys : Symbols) → Stands ys (s.after_head d n inner b l a ys)
-  after_walks b l a ys = (after_head_alike d e n o inner outer le lo all b l a).walks ys
+  after_walks b l a ys = (after_head_alike d e n o inner outer le deep lo all b l a).walks ys
 
   closing_quiet : (b : Bool) (l : ℕ) (i : Symbols) → is_mark mark.CloseParen (look i).kind ≡ true → Quiet b l (look i).kind
   closing_quiet b l i q = let Q : Kind → Type 0 = λ y. Quiet b l y in subst Q (sym (mark_true mark.CloseParen (look i).kind q)) (looser l (omega arith) (close_paren b))
@@ -70,9 +70,9 @@ module _ (d e n o : ℕ) (inner outer : In) (le : d ≤ e) (lo : n ≤ o) (all :
 
   inside : (b : Bool) (l : ℕ) (xs : Symbols) (count : ℕ) (v : Bool) (j : Symbols) (u : Outcome Symbols (Sized RawExpr)) → Follow (suc count) v j u → Follow count v j (in_parentheses b l xs u)
   unfolding r.expect
-  inside b l xs count v j _ (held h) = held h
+  inside b l xs count v j _ held = held
   inside b l xs count v j u (past h) = past (stands_after j (and_then u (λ x i. and_then (s.expect mark.CloseParen i) (λ _ z. Ok ((parenthesised (look xs) x.0, x.1 + 1), z)))) (s.after_head d n inner b l)
-      (stands_after j u (λ x i. and_then (s.expect mark.CloseParen i) (λ _ z. Ok ((parenthesised (look xs) x.0, x.1 + 1), z))) h (λ x i. (alike_close mark.CloseParen (parenthesised (look xs) x.0, x.1 + 1)).walks i))
+      (stands_after j u (λ x i. and_then (s.expect mark.CloseParen i) (λ _ z. Ok ((parenthesised (look xs) x.0, x.1 + 1), z))) h (λ x i. (alike_close {bounds = bounds} mark.CloseParen (parenthesised (look xs) x.0, x.1 + 1)).walks i))
       (λ a ys. after_walks b l a ys))
   inside b l xs count v j _ (on {a} {i} q) = either_way (is_mark mark.CloseParen (look i).kind)
       (λ c. let read : s.expect mark.CloseParen i ≡ Ok (tt, rest i) = chosen _ _ c refl in
@@ -88,7 +88,7 @@ module _ (d e n o : ℕ) (inner outer : In) (le : d ≤ e) (lo : n ≤ o) (all :
       let kind = mark_true mark.OpenParen (look xs).kind q in
       follow_by (by_operand d n inner b l xs ll (ap prefix_of kind) ∙ ap (λ w. and_then w (s.after_head d n inner b l)) (by_head d n inner b xs r.is_paren (ap head_of kind) refl)) (by (nat_lt 0 d)) where
         by : (c : Bool) → Follow count v j (and_then (cond c (s.parentheses d n inner xs) (Err (record { cause = depth; place = (look xs).place }, xs))) (s.after_head d n inner b l))
-        by false = held refl
+        by false = held
         by true = inside b l xs count v j (inner.expr true 0 (rest xs)) (all.follows.is true 0 m (suc count) v j (rest xs) (omega arith) f)
 
   at_name : (b : Bool) (l count : ℕ) (v : Bool) (j xs : Symbols) → l ≤ 13 → Valued (variable_of (look xs).kind) → s.closed count (rest xs) ≡ Ok (v, j) → Follow count v j (s.expr_of d n inner b l xs)
@@ -106,7 +106,7 @@ module _ (d e n o : ℕ) (inner outer : In) (le : d ≤ e) (lo : n ≤ o) (all :
       (λ w. at_name b l count v j xs ll (some_value (variable_of (look xs).kind) w)
       (sym (skipped_at (is_mark mark.OpenParen (look xs).kind) _ _ q (chosen_at (is_some (variable_of (look xs).kind)) _ _ w refl)) ∙ f))
       (λ w. past (subst (λ z. Stands z (s.expr_of d n inner b l xs)) (same_place (sym (skipped_at (is_mark mark.OpenParen (look xs).kind) _ _ q (skipped_at (is_some (variable_of (look xs).kind)) _ _ w refl)) ∙ f))
-      ((expr_alike d e n o inner outer le lo all b l).walks xs))))
+      ((expr_alike d e n o inner outer le deep lo all b l).walks xs))))
 
   pub expr_follows : Follows (s.expr_of d n inner)
   expr_follows = record { is = expr_follows_at }

@@ -165,7 +165,7 @@ module _ (d n : ℕ) (inner : In) (sound : SoundInner d inner) (all : FailsInner
 
         wrong : (x : Prefix) (p : Place) (ys : Symbols) (j : ℕ) → j < suc d → XE b 13 xs j ys → Fails (suc d) (XE b 13 xs) (s.wrong_prefix d n inner x p ys)
         wrong (sign.step up) p ys j lt h = fails_here r.a_token ys j lt h
-        wrong (sign.unary x) p ys j lt h = stop refl j (inl lt) (by_construct construct.DeleteName refl) h
+        wrong (sign.unary x) p ys j lt h = stop refl (λ w. cc) j (inl lt) (by_construct construct.DeleteName refl) h
 
         by : (a : Sized RawExpr) (ys : Symbols) → a.1 < d → E a.1 b 13 (rest xs) a.0 ys → (f : Option RawExpr) → prefix_tree o (look xs).place a.0 ≡ f → Fails (suc d) (XE b 13 xs) (s.prefix_by d n inner o (look xs).place a f ys)
         by a ys lt x (Some f) q = fine
@@ -194,7 +194,7 @@ module _ (d n : ℕ) (inner : In) (sound : SoundInner d inner) (all : FailsInner
   prefixed_fails b o xs ln e = fails_fork (is_delete o) _ _ (λ t. by t (opened_looks n 0 (rest xs) (omega (arith, at_less (found prefix_of xs o refl refl e))))) (λ _. deep_prefix b o xs ln e) where
     by : is_delete o ≡ true → {u : Outcome Symbols Bool} → Looks 0 (rest xs) u
         → Fails (suc d) (XE b 13 xs) (r.unless_deleted Symbols look rest r.semicolon_symbol u (look xs).place (cond (nat_lt 0 d) (s.prefix_expr d n inner b o xs) (Err (record { cause = r.depth; place = (look xs).place }, xs))))
-    by t (looks_true h) = let p = delete_begun b o t (found prefix_of xs o refl refl e) e h in stop refl p.0 (inr refl) (by_construct construct.DeleteName refl) p.1
+    by t (looks_true h) = let p = delete_begun b o t (found prefix_of xs o refl refl e) e h in stop refl (λ w. cc) p.0 (inr refl) (by_construct construct.DeleteName refl) p.1
     by t looks_false = deep_prefix b o xs ln e
 
   -- ---- binary operators

@@ -174,7 +174,7 @@ module _ (d n : ℕ) (inner : In) (sound : SoundInner d inner) (all : FailsInner
     by None false f q = fails_after (after_head_sound d n inner sound true 0 (raw.var (look xs).place v, 0) xs (rest xs) (omega arith) (free (λ l _. g.name (g.variable o f)) (omega arith)))
         (fails_map (λ j. j) (λ j l. l) (λ j i w. simple_begun c (ap opens_no_expression e) w) (after_head_fails d n inner sound all true 0 (raw.var (look xs).place v, 0) xs (rest xs) ln (omega arith) (free (λ l _. g.name (g.variable o f)) (omega arith))))
         (λ x ys p. simple_fails d n inner sound all c xs (look xs).place x ys (ap opens_no_expression e) p.whole.tree p.whole.low)
-    by (Some x) false f q = fails_fork (is_remedy (look (rest xs)).kind) _ _ (λ _. fine) (λ _. stop refl 0 (inl (omega arith)) (by_construct x refl) (name_begun c 0 o e))
+    by (Some x) false f q = fails_fork (is_remedy (look (rest xs)).kind) _ _ (λ _. fine) (λ _. stop refl (λ w. cc) 0 (inl (omega arith)) (by_construct x refl) (name_begun c 0 o e))
 
   -- ---- `try`
 

@@ -127,7 +127,7 @@ module _ (d n : ℕ) (inner : In) (sound : SoundInner d inner) (all : FailsInner
         first = λ zs. same refl;
       })) (λ _ zs q. fine))
       (λ _. fails_fork (is_mark mark.Comma (look xs).kind) _ _
-      (λ _. stop refl 0 (inl (omega arith)) (by_construct construct.Hole refl) (record { front = stays xs; more = λ zs. real (token (k.mark mark.CloseBracket)) ∷ zs; tree = []; holds = λ zs. g.no_element (new_at (k.mark mark.CloseBracket)); first = λ zs. fresh (k.mark mark.CloseBracket) refl refl }))
+      (λ _. stop refl (λ w. cc) 0 (inl (omega arith)) (by_construct construct.Hole refl) (record { front = stays xs; more = λ zs. real (token (k.mark mark.CloseBracket)) ∷ zs; tree = []; holds = λ zs. g.no_element (new_at (k.mark mark.CloseBracket)); first = λ zs. fresh (k.mark mark.CloseBracket) refl refl }))
       (λ _. fails_after (sound.expr true 1 xs (omega arith))
       (fails_map (λ j. j) (λ j l. l) (λ j i w. record {
         front = w.front;
@@ -179,7 +179,7 @@ module _ (d n : ℕ) (inner : In) (sound : SoundInner d inner) (all : FailsInner
 
   key_fails : {b : ℕ} (xs : Symbols) (v : Option RawKey) → key_of (look xs).kind ≡ v → 0 < b → Fails b (λ j i. Begun (FF j) xs i) (s.key_by d n inner v xs)
   key_fails xs None e some = fails_here r.a_token xs 0 (omega arith) (no_field_yet xs 0)
-  key_fails xs (Some y) e some = fails_fork (is_accessor (look xs).kind && is_some (key_of (look (rest xs)).kind)) _ _ (λ _. stop refl 0 (inl some) (by_construct construct.Accessor refl) (key_begun 0 (found key_of xs y refl refl e) e)) (λ _. fine)
+  key_fails xs (Some y) e some = fails_fork (is_accessor (look xs).kind && is_some (key_of (look (rest xs)).kind)) _ _ (λ _. stop refl (λ w. cc) 0 (inl some) (by_construct construct.Accessor refl) (key_begun 0 (found key_of xs y refl refl e) e)) (λ _. fine)
 
   -- a key and its colon
   key_held : {y : Place × RawKey} {xs ys zs i : Symbols} (j : ℕ) → IsKey xs y ys → Sign mark.Colon ys zs → Begun (EE j true 1) zs i → Begun (FF j) xs i

@@ -1,14 +1,15 @@
 -- Where reading a list of symbols stops, what came before is a front of a program.
-use Rattle.std.specs.Prelude.{◌≡◌, ℕ, zero, suc, ◌+◌, ◌<◌, ◌≤◌, max, Bool, true, false, cond, nat_lt, List, [], ◌∷◌, ◌++◌, Ok, Err, Option, Some, None}
-use Rattle.std.proofs.Common.{refl, inl, inr, sym, ap, arith, ◌∙◌, subst, append_assoc}
+use Rattle.std.specs.Prelude.{◌≡◌, ℕ, zero, suc, ◌+◌, ◌<◌, ◌≤◌, max, Bool, true, false, cond, nat_lt, List, [], ◌∷◌, ◌++◌, Ok, Err, Option, Some, None, ◌⊎◌}
+use Rattle.std.proofs.Common.{refl, sym, ap, arith, ◌∙◌, subst, append_assoc, inl, inr}
 use Rattle.cc_ast.specs.declared.reading.Construct.TheVariants as construct
 use Rattle.cc_lexer.specs.declared.token.Mark.TheVariants as mark
 use Rattle.cc_grammar.specs.declared.word.Word.TheVariants as word
-use Rattle.cc_grammar.specs.Symbols.{Kind, Symbol, Symbols, real, look, rest, is_mark}
+use Rattle.cc_grammar.specs.Symbols.{Kind, Symbol, Symbols, real, inserted, look, rest, is_mark}
 use Rattle.cc_grammar.specs.Symbols as k
 use Rattle.cc_grammar.specs.RawTree.{RawStmt}
 use Rattle.cc_grammar.specs.Grammar as g
 use Rattle.cc_grammar.specs.Grammar.{Context, of_program, At, T, Body, is_tail, opens_no_expression}
+use Rattle.cc_grammar.specs.Laws.{is_last}
 use Rattle.cc_grammar.specs.Fronts.{Derives, IsFrontWithin, IsFront, is_end}
 use Rattle.cc_grammar.specs.Reading.{Outcome, Sized, Fault, Start, and_then, start_of, read_symbols, refused, depth}
 use Rattle.cc_grammar.specs.Reading as r
@@ -23,6 +24,7 @@ use Rattle.cc_grammar.proofs.Sound.{reader_sound}
 use Rattle.cc_grammar.proofs.Moves.{Front, stays, joined}
 use Rattle.cc_grammar.proofs.Moves as moves
 use Rattle.cc_grammar.proofs.MovesDerived.{body_moves}
+use Rattle.cc_grammar.proofs.Paired.{Paired, body_ready}
 use Rattle.cc_grammar.proofs.Alike.{is_limit}
 use Rattle.cc_grammar.proofs.Fails.{token, new_at, taken, again, First, same, fresh, Begun, EE, TT, no_e, no_t, Fails, fine, stop, by_construct, deep, fails_after, fails_map, fails_fork, fails_choice, fails_here, deeper_fails, FailsInner}
 use Rattle.cc_grammar.proofs.FrontsLists.{BB, statements_fail, no_function}
@@ -57,7 +59,7 @@ module _ (d n : ℕ) (inner : In) (sound : SoundInner d inner) (all : FailsInner
   stmt_by_fails c xs x v ln e view.throw = throw_fails d n inner sound all c xs ln e
   stmt_by_fails c xs x v ln e view.try = let o = consumed xs (k.word word.Try) refl e in begins c xs {h = 1} o (λ lt. try_fails d n inner sound all c xs o lt ln) _ (try_begun d n inner sound all c 1 o (no_block (rest xs) (g.inside c) 1 (omega arith)))
   stmt_by_fails c xs x v ln e view.declaration = let o = consumed xs (k.word word.Function) refl e in fails_fork c.declares _ _
-      (λ a. begins c xs {h = 0} o (λ lt. declaration_fails d n inner sound all c xs a o lt ln) 1 (declare_word d n inner sound all c a o)) (λ _. stop refl 0 (inl (omega arith)) (by_construct construct.BlockFunction refl) (no_t xs c 0))
+      (λ a. begins c xs {h = 0} o (λ lt. declaration_fails d n inner sound all c xs a o lt ln) 1 (declare_word d n inner sound all c a o)) (λ _. stop refl (λ w. cc) 0 (inl (omega arith)) (by_construct construct.BlockFunction refl) (no_t xs c 0))
   stmt_by_fails c xs x v ln e view.any_statement = fine
   stmt_by_fails c xs x v ln e (view.name {n = w}) = name_fails d n inner sound all c w xs ln e
   stmt_by_fails c xs x v ln e (view.plain f) = plain_fails d n inner sound all c xs ln (ap opens_no_expression e ∙ f)
@@ -83,11 +85,43 @@ reader_fails n (suc d) = one_more (suc d) n (s.reader n d) (reader_sound n d) (r
 
 -- ---- programs
 
+-- no token of it is the last of a text
+abbrev pub Open : Symbols → Type 0
+Open [] = Unit {0}
+Open (real t ∷ xs) = (is_last t.kind ≡ false) × Open xs
+Open (inserted ∷ xs) = Open xs
+
+open_part : (a b : Symbols) → Open (a ++ b) → Open a
+open_part [] b h = tt
+open_part (real t ∷ a) b h = (h.0, open_part a b h.1)
+open_part (inserted ∷ a) b h = open_part a b h
+
+abbrev brace : Symbols
+brace = real (token (k.mark mark.CloseBrace)) ∷ []
+
+never_nothing : (a : Symbols) → a ++ brace ≡ [] → ⊥
+never_nothing [] e = cc
+never_nothing (m ∷ a) e = cc
+
+paired_open : (a : Symbols) → Paired (a ++ brace) → Open (a ++ brace)
+paired_open [] h = (refl, tt)
+paired_open (real t ∷ a) h = (by h.0, paired_open a h.1) where
+  by : (is_last t.kind ≡ false) ⊎ (a ++ brace ≡ []) → is_last t.kind ≡ false
+  by (inl f) = f
+  by (inr e) = absurd (never_nothing a e)
+paired_open (inserted ∷ a) h = paired_open a h.1
+
+-- what stands before the end of a block
+body_open : {h : ℕ} {b : List RawStmt} {xs : Symbols} → Body of_program h xs b brace → Open xs
+body_open {xs} x = let m = body_moves x in let e : m.front.before ++ brace ≡ xs = sym (m.front.prefix brace) ∙ m.front.is in
+    subst (λ z. Open z) e (paired_open m.front.before (subst (λ z. Paired z) (sym e) (body_ready x (record { begun = refl; paired = (inl refl, tt) })).paired))
+
 -- A list that is a front, and what follows it.
 pub record FrontAt (j : ℕ) (xs i : Symbols) : Type 0 where
   pub before : Symbols
   pub is : xs ≡ before ++ i
   pub front : IsFrontWithin j before
+  pub unclosed : Open before
 
 ended_front : {j : ℕ} {xs i : Symbols} → Begun (BB of_program j) xs i → FrontAt j xs i
 ended_front {j} {xs} {i} w = record {
@@ -98,6 +132,7 @@ ended_front {j} {xs} {i} w = record {
     tree = w.tree;
     derives = subst (λ z. Derives j z w.tree) (w.front.prefix (w.more (real (token k.end) ∷ []))) (record { last = real (token k.end) ∷ []; body = w.holds (real (token k.end) ∷ []) refl; ends = new_at k.end });
   };
+  unclosed = open_part w.front.before (w.more brace) (subst (λ z. Open z) (w.front.prefix (w.more brace)) (body_open (w.holds brace refl)));
 }
 
 list_front : {h : ℕ} {b : List RawStmt} {xs ys : Symbols} → Body of_program h xs b ys → FrontAt h xs ys
@@ -109,6 +144,7 @@ list_front {h} {b} {xs} {ys} x = let m = body_moves x in record {
     tree = b;
     derives = subst (λ z. Derives h z b) (m.front.prefix (real (token k.end) ∷ [])) (record { last = real (token k.end) ∷ []; body = m.holds (real (token k.end) ∷ []) (moves.free refl); ends = new_at k.end });
   };
+  unclosed = open_part m.front.before brace (subst (λ z. Open z) (m.front.prefix brace) (body_open (m.holds brace (moves.free refl))));
 }
 
 end_fails : {b : ℕ} {P : ℕ → Symbols → Type 0} (xs : Symbols) (j : ℕ) → j < b → P j xs → Fails b P (s.expect_end xs)

@@ -61,5 +61,6 @@ pub mod CopyStatements
 pub mod CopyJumps
 pub mod CopyPrograms
 pub mod SoundTokens
+pub mod TokenFronts
+pub mod Halts
 pub mod CompleteTokens
-pub mod FirstDifference
