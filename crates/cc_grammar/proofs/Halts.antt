@@ -146,6 +146,7 @@ module _ (n d : ℕ) {ts us : L} {c : Fault} (w : Copy ts us) (e : read_symbols 
       by zs k l (offending u {after} o sharp) begun = limited (is_limit c.cause) refl where
         same : u ≡ t
         same = same_head u t (lexemes_of after) [] l
+
         limited : (v : Bool) → is_limit c.cause ≡ v → ⊥
         limited true m = sharp (subst (λ (v : Lexeme). IsFront (put w [] ++ real v ∷ [])) (sym same) (f.deeper m t vs q))
         limited false m = barred (bar m (ap (λ (l : L). offends (look_token l)) q ∙ ap (λ (v : Lexeme). offends v) (sym same) ∙ o)) where
@@ -197,6 +198,7 @@ halt n d {ts} {us} {c} text lt q = by (program_copy n d ts) q where
     stopped_there = f;
     none = λ h s x k low. no_front_there n d w e j z f t vs refl h s x k low;
   }
+
   by : {o : Outcome L (Sized (List RawStmt))} → Copies false Quiet (read_symbols n d) ts o → o ≡ Err (c, us) → Halt d ts c
   by (read w e j k z) r = absurd (cc)
   by (copies.stop {c = a} {us = v} w e j k z) r =

@@ -88,6 +88,7 @@ justified_by turns d {us} w xs n l j p before after e = by after (at_insertion (
   offered : (tokens : L) (t : Lexeme) → t ≡ look_token tokens → offends (look_token tokens) ≡ true → StopsAt (read_symbols turns d) tokens (before ++ map real tokens) → (after : Symbols) → Offends before (real t ∷ after)
   offered [] t q o h after = absurd (cc)
   offered (u ∷ vs) t q o h after = subst (λ (s : Lexeme). Offends before (real s ∷ after)) (sym q) (offending u o (stopped turns d before u vs h))
+
   by : (after : Symbols) → Inserted (StopsAt (read_symbols turns d)) before after us xs → Led after → Offends before after
   by [] i b = absurd b
   by (inserted ∷ after) i b = absurd b

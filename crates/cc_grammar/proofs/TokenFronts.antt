@@ -183,5 +183,6 @@ module _ (turns d : ℕ) {ts us : L} (w : Copy ts us) (j : Just (read_symbols tu
         offered : (tokens : L) → offends (look_token tokens) ≡ true → StopsAt (read_symbols turns d) tokens (before ++ map real tokens) → Shown tokens after → Offends before after
         offered tokens o h s = subst (λ z. Offends before z) (sym s.symbols_are) (offending s.token (ap (λ (l : L). offends (look_token l)) (sym s.tokens_are) ∙ o)
             (no_front turns d before (real s.token) (map real s.others) (fault r.a_token s.token) (no_limit (refused_kind s.token.kind) None) (subst (λ (l : L). StopsAt (read_symbols turns d) l (before ++ map real l)) s.tokens_are h)))
+
         by : Inserted (StopsAt (read_symbols turns d)) before after us (real t ∷ []) → Ordinary after → Offends before after
         by i o = offered i.tokens i.offends_there i.holds (shown_copy i.copy t vs q after i.is o)
