@@ -13,6 +13,7 @@ pub mod Turns
 pub mod Sim
 pub mod Upkeep
 pub mod Runs
+pub mod Whole
 pub mod Reaching
 pub mod Valued
 pub mod Nodes
