@@ -53,7 +53,7 @@ module _ (F : Facts) (S : Tables) (set' : List (Path × ℕ)) where
   with_frame w p = record w { frames = p ∷ w.frames }
 
   pub ext_frame : (w : Tabs) (p : Pair Label) → Ext w (with_frame w p)
-  ext_frame w p = record { objs = λ q h. h; frames = λ q h. there h; spare = λ q h. h; alone = λ q h. h }
+  ext_frame w p = record { objs = λ q h. h; frames = λ q h. there h; spare = λ q h. h; alone = λ q h. h; begun = λ c h. h }
 
   pub frame_added : {w : Tabs} {s t : State} (x : Label) (a b : Frame) → Tied w s t → FrameT F S w x a b → Tied (with_frame w (record { label = x; left = length s.frames; right = length t.frames })) (record s { frames = s.frames ++ a ∷ [] }) (record t { frames = t.frames ++ b ∷ [] })
   frame_added {w = w} {s = s} {t = t} x a b ti h =
@@ -66,6 +66,7 @@ module _ (F : Facts) (S : Tables) (set' : List (Path × ℕ)) where
         globals = places_more (val_more e) ti.globals;
         known = λ g k d. known_more e (ti.known g k d);
         loaded = ti.loaded;
+        begun = ti.begun;
         failed = ti.failed;
         constructed = ti.constructed;
         handles = list_as (λ m n o. mates_more e o) ti.handles;
@@ -82,7 +83,7 @@ module _ (F : Facts) (S : Tables) (set' : List (Path × ℕ)) where
   unfolding push_frame ret marks
   push_t {w = w} x k u u' vs us h s t ti le le' =
       let p : Pair Label = record { label = x; left = length s.frames; right = length t.frames } in
-      ok_t refl (record { l = w.l; r = w.r; w = with_frame w.w p }) (omega arith, omega arith, ext_frame w.w p) tt (record { pair = here; later = ext_frame w.w p }) (frame_added x (record { kind = k; up = u; values = vs }) (record { kind = k; up = u'; values = us }) ti h) le le'
+      ok_t refl (record { l = w.l; r = w.r; w = with_frame w.w p }) (omega arith, omega arith, record { ext = ext_frame w.w p; still = refl }) tt (record { pair = here; later = ext_frame w.w p }) (frame_added x (record { kind = k; up = u; values = vs }) (record { kind = k; up = u'; values = us }) ti h) le le'
 
   -- frames of which nothing is kept
   push_apart : {w : W} (k : FrameKind) (u u' : Option ℕ) (vs us : List (Option Val)) → Sim T (λ v m n. Unit {0}) w (push_frame k u vs) (push_frame k u' us)
@@ -156,7 +157,7 @@ module _ (F : Facts) (S : Tables) (set' : List (Path × ℕ)) where
 
   pub cast_t : {w : W} (i i' : Spot) (d : ℕ) {x y : Val} → Vals w.w x y → Sim T Done w (cast_to checked i d x) (cast_to checked i' d y)
   unfolding cast_to least_broken
-  cast_t i i' d {x = x} {y = y} v = sim_bind T {R = Done} (judged_i F S set' i i' (casts d x) (casts d y) skip skip (λ s t ti e. cast_none ti d v e) (sim_ret T tt tt tt)) (λ z l _ _ _. cast_received d (val_more l.2 _ _ v))
+  cast_t i i' d {x = x} {y = y} v = sim_bind T {R = Done} (judged_i F S set' i i' (casts d x) (casts d y) skip skip (λ s t ti e. cast_none ti d v e) (sim_ret T tt tt tt)) (λ z l _ _ _. cast_received d (val_more l.2.ext _ _ v))
 
   -- ---- calls
 

@@ -104,13 +104,13 @@ module _ (F : Facts) (S : Tables) (set' : List (Path × ℕ)) where
 
   -- ---- globals that the right never reads
 
-  known_left : {w : Tabs} {s t : State} → Tied w s t → (n : ℕ) (u : Val) → ((h : Held) → F.Known n h → ⊥) → (g : ℕ) (h : Held) → F.Known g h → (n ≡ g) ⊎ (n ≢ g) → KnownT w h (flat_option (slice_get (slice_set s.globals n (Some u)) g))
+  known_left : {w : Tabs} {s t : State} → Tied w s t → (n : ℕ) (u : Val) → ((h : Held) → F.Known n h → ⊥) → (g : ℕ) (h : Held) → F.Known g h → (n ≡ g) ⊎ (n ≢ g) → KnownT w w.still g h (flat_option (slice_get (slice_set s.globals n (Some u)) g))
   known_left ti n u d g h k (inl e) = absurd (d h (subst (λ z. F.Known z h) (sym e) k))
-  known_left {w = w} {s = s} ti n u d g h k (inr e) = subst (λ z. KnownT w h (flat_option z)) (sym (get_set_other s.globals n g (Some u) e)) (ti.known g h k)
+  known_left {w = w} {s = s} ti n u d g h k (inr e) = subst (λ z. KnownT w w.still g h (flat_option z)) (sym (get_set_other s.globals n g (Some u) e)) (ti.known g h k)
 
   global_left : {w : Tabs} {s t : State} → Tied w s t → (n : ℕ) → F.Unread n → ((h : Held) → F.Known n h → ⊥) → (u : Val) → Tied w (set_global n u s) t
   unfolding set_global
-  global_left ti n r d u = record { tables = ti.tables; tables' = ti.tables'; objs = ti.objs; owned = ti.owned; frames = ti.frames; globals = places_left ti.globals n u r; known = λ g h k. known_left ti n u d g h k (place_cases n g); loaded = ti.loaded; failed = ti.failed; constructed = ti.constructed; handles = ti.handles; replies = ti.replies; budget = ti.budget }
+  global_left ti n r d u = record { tables = ti.tables; tables' = ti.tables'; objs = ti.objs; owned = ti.owned; frames = ti.frames; globals = places_left ti.globals n u r; known = λ g h k. known_left ti n u d g h k (place_cases n g); loaded = ti.loaded; begun = ti.begun; failed = ti.failed; constructed = ti.constructed; handles = ti.handles; replies = ti.replies; budget = ti.budget }
 
   pub left_writes_unread : {w : W} (i : Spot) (g : Env) (n : ℕ) → F.Unread n → ((h : Held) → F.Known n h → ⊥) → (u : Val) → Quiet w (write_var checked i g (Ref.Global n) u)
   unfolding write_var

@@ -138,7 +138,7 @@ module _ (F : Facts) (S : Tables) (set' : List (Path × ℕ)) where
       stays m q (inr e) = get_set_other a.values n m (Some u) e ∙ h.fixed m q
 
   pub with_frames : {w : Tabs} {s t : State} (fs gs : List Frame) → Tied w s t → Table (FrameT F S w) (λ y a. a ≡ y) w.frames w.alone fs gs → Tied w (record s { frames = fs }) (record t { frames = gs })
-  with_frames fs gs ti h = record { tables = ti.tables; tables' = ti.tables'; objs = ti.objs; owned = ti.owned; frames = h; globals = ti.globals; known = ti.known; loaded = ti.loaded; failed = ti.failed; constructed = ti.constructed; handles = ti.handles; replies = ti.replies; budget = ti.budget }
+  with_frames fs gs ti h = record { tables = ti.tables; tables' = ti.tables'; objs = ti.objs; owned = ti.owned; frames = h; globals = ti.globals; known = ti.known; loaded = ti.loaded; begun = ti.begun; failed = ti.failed; constructed = ti.constructed; handles = ti.handles; replies = ti.replies; budget = ti.budget }
 
   frames_set : {w : Tabs} {s t : State} → Tied w s t → (x : Label) {m k : ℕ} → In (record { label = x; left = m; right = k }) w.frames → (n : ℕ) → (FixedAt F x.level n → ⊥) → {u v : Val} → Vals w u v → (a b : Option Frame) → slice_get s.frames m ≡ a → slice_get t.frames k ≡ b → Both (FrameT F S w x) a b → Table (FrameT F S w) (λ y a. a ≡ y) w.frames w.alone (frames_with s.frames m n u a) (frames_with t.frames k n v b)
   unfolding frames_with
@@ -161,7 +161,7 @@ module _ (F : Facts) (S : Tables) (set' : List (Path × ℕ)) where
   unfolding keep changing ret ◌>>=◌ least_broken
   keep_at i i' x {u = u} {v = v} h f g {s = s} {t = t} ti le le' b c k =
       let d = b s in let e = c t in
-      after_t T {R = Done} (λ z l _ _ _. received_t x (val_more l.2 _ _ h))
+      after_t T {R = Done} (λ z l _ _ _. received_t x (val_more l.2.ext _ _ h))
       (judged_in F S set' i i' (keeps x u) (keeps x v) (changing f) (changing g) ti (λ q. (keep_none ti x h q, fine T tt tt tt k (omega arith) (omega arith))))
 
   pub place_budget : (at : Option ℕ) (n : ℕ) (x : Val) (u : State) → (set_place at n x u).budget ≡ u.budget
@@ -182,13 +182,13 @@ module _ (F : Facts) (S : Tables) (set' : List (Path × ℕ)) where
       (subst (λ z. ResT T Done w (write_by_kind checked i (frame_kind x.level) a n u s) (write_by_kind checked i' z b n v t)) (sym h.kind')
       (write_kind_at i i' x.level a b n k ti le le' j))
 
-  known_set : {w : Tabs} {s t : State} → Tied w s t → (n : ℕ) (u : Val) → ((h : Held) → F.Known n h → ⊥) → (g : ℕ) (h : Held) → F.Known g h → (n ≡ g) ⊎ (n ≢ g) → KnownT w h (flat_option (slice_get (slice_set s.globals n (Some u)) g))
+  known_set : {w : Tabs} {s t : State} → Tied w s t → (n : ℕ) (u : Val) → ((h : Held) → F.Known n h → ⊥) → (g : ℕ) (h : Held) → F.Known g h → (n ≡ g) ⊎ (n ≢ g) → KnownT w w.still g h (flat_option (slice_get (slice_set s.globals n (Some u)) g))
   known_set ti n u d g h k (inl e) = absurd (d h (subst (λ z. F.Known z h) (sym e) k))
-  known_set {w = w} {s = s} ti n u d g h k (inr e) = subst (λ z. KnownT w h (flat_option z)) (sym (get_set_other s.globals n g (Some u) e)) (ti.known g h k)
+  known_set {w = w} {s = s} ti n u d g h k (inr e) = subst (λ z. KnownT w w.still g h (flat_option z)) (sym (get_set_other s.globals n g (Some u) e)) (ti.known g h k)
 
   pub global_tied : {w : Tabs} {s t : State} → Tied w s t → (n : ℕ) → ((h : Held) → F.Known n h → ⊥) → {u v : Val} → Vals w u v → Tied w (set_global n u s) (set_global n v t)
   unfolding set_global
-  global_tied ti n d {u = u} v = record { tables = ti.tables; tables' = ti.tables'; objs = ti.objs; owned = ti.owned; frames = ti.frames; globals = places_set ti.globals n v; known = λ g h k. known_set ti n u d g h k (place_cases n g); loaded = ti.loaded; failed = ti.failed; constructed = ti.constructed; handles = ti.handles; replies = ti.replies; budget = ti.budget }
+  global_tied ti n d {u = u} v = record { tables = ti.tables; tables' = ti.tables'; objs = ti.objs; owned = ti.owned; frames = ti.frames; globals = places_set ti.globals n v; known = λ g h k. known_set ti n u d g h k (place_cases n g); loaded = ti.loaded; begun = ti.begun; failed = ti.failed; constructed = ti.constructed; handles = ti.handles; replies = ti.replies; budget = ti.budget }
 
   pub global_budget : (n : ℕ) (x : Val) (u : State) → (set_global n x u).budget ≡ u.budget
   unfolding set_global

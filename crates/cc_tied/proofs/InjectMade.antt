@@ -31,7 +31,7 @@ prototype_object_tied (some_t (obj_t o)) = some_t o
 
 -- ---- classes of which an object was made
 
-any_front : (f : ℕ → Bool) (xs ys : List ℕ) → list_any f xs ≡ true → list_any f (xs ++ ys) ≡ true
+pub any_front : (f : ℕ → Bool) (xs ys : List ℕ) → list_any f xs ≡ true → list_any f (xs ++ ys) ≡ true
 any_front f [] ys e = absurd (cc)
 any_front f (x ∷ xs) ys e = by_test (f x) e (λ d. any_front f xs ys d)
   where
@@ -154,6 +154,7 @@ module _ (F : Facts) (S : Tables) (set' : List (Path × ℕ)) where
       globals = places_more (val_more e) ti.globals;
       known = λ g h d. known_more e (ti.known g h d);
       loaded = ti.loaded;
+      begun = ti.begun;
       failed = ti.failed;
       constructed = ti.constructed;
       handles = list_as (λ a b o. mates_more e o) ti.handles;
@@ -178,8 +179,8 @@ module _ (F : Facts) (S : Tables) (set' : List (Path × ℕ)) where
   unfolding add_function ret
   plain_function_t {w = w} f i i' {u = u} {u' = u'} r up s t ti le le' =
       let c : Code = record { function = f; up = u; site = i } in let c' : Code = record { function = f; up = u'; site = i' } in
-      let e : Ext w.w (made_world w.w c s t w.w.frames) = record { objs = λ q h. there (there h); frames = λ q h. h; spare = λ q h. h; alone = λ q h. h } in
-      ok_t refl (record { l = w.l; r = w.r; w = made_world w.w c s t w.w.frames }) (omega arith, omega arith, e) tt (function_vals ti c c' w.w.frames s.frames t.frames)
+      let e : Ext w.w (made_world w.w c s t w.w.frames) = record { objs = λ q h. there (there h); frames = λ q h. h; spare = λ q h. h; alone = λ q h. h; begun = λ c h. h } in
+      ok_t refl (record { l = w.l; r = w.r; w = made_world w.w c s t w.w.frames }) (omega arith, omega arith, record { ext = e; still = refl }) tt (function_vals ti c c' w.w.frames s.frames t.frames)
       (function_tied ti c c' w.w.frames s.frames t.frames e (record { function = record { same = refl; reached = r }; up = up_more F S e up; site = tt }) (table_more ti.frames (frame_more F S e))) le le'
 
   own_label : (f : ℕ) (u u' : Option ℕ) → State → Label
@@ -206,9 +207,9 @@ module _ (F : Facts) (S : Tables) (set' : List (Path × ℕ)) where
       let c : Code = record { function = f; up = Some (length s.frames); site = i } in let c' : Code = record { function = f; up = Some (length t.frames); site = i' } in
       let q : Pair Label = record { label = own_label f u u' s; left = length s.frames; right = length t.frames } in
       let v : Tabs = made_world w.w c s t (q ∷ w.w.frames) in
-      let e : Ext w.w v = record { objs = λ q h. there (there h); frames = λ q h. there h; spare = λ q h. h; alone = λ q h. h } in
+      let e : Ext w.w v = record { objs = λ q h. there (there h); frames = λ q h. there h; spare = λ q h. h; alone = λ q h. h; begun = λ c h. h } in
       let k : UpT F S v (outward F S (called f)) (Some (length s.frames)) (Some (length t.frames)) = subst (λ z. UpT F S v z (Some (length s.frames)) (Some (length t.frames))) (sym (own_up f o)) (an_up (own_label f u u' s) refl here) in
-      ok_t refl (record { l = w.l; r = w.r; w = v }) (omega arith, omega arith, e) tt (function_vals ti c c' (q ∷ w.w.frames) s.frames t.frames)
+      ok_t refl (record { l = w.l; r = w.r; w = v }) (omega arith, omega arith, record { ext = e; still = refl }) tt (function_vals ti c c' (q ∷ w.w.frames) s.frames t.frames)
       (function_tied ti c c' (q ∷ w.w.frames) (s.frames ++ own_frame s u ∷ []) (t.frames ++ own_frame t u' ∷ []) e (record { function = record { same = refl; reached = r }; up = k; site = tt })
       (add_both (table_more ti.frames (frame_more F S e)) (own_label f u u' s) (own_frame s u) (own_frame t u') (own_frame_tied f s t (up_more F S e up) (function_vals ti c c' (q ∷ w.w.frames) s.frames t.frames)))) le le'
 
@@ -254,7 +255,7 @@ module _ (F : Facts) (S : Tables) (set' : List (Path × ℕ)) where
   class_in_states ti f = ap (λ z. class_of_function z f) ti.tables ∙ class_same f ∙ sym (ap (λ z. class_of_function z f) ti.tables')
 
   with_constructed : {w : Tabs} {s t : State} (o p : Option ℕ) → o ≡ p → Tied w s t → Tied w (record s { constructed = note_constructed o s.constructed }) (record t { constructed = note_constructed p t.constructed })
-  with_constructed {s = s} {t = t} o p e ti = record { tables = ti.tables; tables' = ti.tables'; objs = ti.objs; owned = ti.owned; frames = ti.frames; globals = ti.globals; known = ti.known; loaded = ti.loaded; failed = ti.failed; constructed = λ c h. noted_both o s.constructed t.constructed ti.constructed c (subst (λ z. Among c (note_constructed z t.constructed)) (sym e) h); handles = ti.handles; replies = ti.replies; budget = ti.budget }
+  with_constructed {s = s} {t = t} o p e ti = record { tables = ti.tables; tables' = ti.tables'; objs = ti.objs; owned = ti.owned; frames = ti.frames; globals = ti.globals; known = ti.known; loaded = ti.loaded; begun = ti.begun; failed = ti.failed; constructed = λ c h. noted_both o s.constructed t.constructed ti.constructed c (subst (λ z. Among c (note_constructed z t.constructed)) (sym e) h); handles = ti.handles; replies = ti.replies; budget = ti.budget }
 
   instance_one : {w : W} {m n : ℕ} → Mates w.w m n → (f : ℕ) → Sim T (λ v. Vals v.w) w (make_instance m f) (make_instance n f)
   unfolding make_instance

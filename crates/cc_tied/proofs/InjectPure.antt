@@ -204,7 +204,7 @@ module _ (F : Facts) (S : Tables) (set' : List (Path × ℕ)) where
 
       left_fields : {fs : Fields} → HasPureFields fs → (p : Option Path) (w : W) (o : Val) → Spare F S set' w.w o → Quiet w (ev_fields checked B g p o fs)
       left_fields no_pure_fields p w o q = quiet tt
-      left_fields (more_pure_fields {k = n} {e = e} h k) p w o q = on (left_value B (left_pure h (path_of_key p n) w)) (λ v l x. on (puts_key (site_of e) (spare_more F S set' l.2 q) (literal_key n) (path_of_key p n) x) (λ v2 l2 _. left_fields k p v2 o (spare_more F S set' l2.2 (spare_more F S set' l.2 q))))
+      left_fields (more_pure_fields {k = n} {e = e} h k) p w o q = on (left_value B (left_pure h (path_of_key p n) w)) (λ v l x. on (puts_key (site_of e) (spare_more F S set' l.2.ext q) (literal_key n) (path_of_key p n) x) (λ v2 l2 _. left_fields k p v2 o (spare_more F S set' l2.2.ext (spare_more F S set' l.2.ext q))))
 
     -- the value of a pure expression
     pub left_pure_value : {e : Expr} → IsPure e → (p : Option Path) (w : W) → Quiet w (value checked B (ev checked B g p e))

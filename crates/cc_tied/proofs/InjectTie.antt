@@ -1,5 +1,5 @@
 -- The tie for folding, inlining and local dead code: two checked runs whose objects and frames are tied by partial injections.
-use Rattle.std.proofs.Common.{◌≡◌, ◌⊎◌, ℕ, suc, ◌<◌, Bool, true, false, List, length, Option, Some, None, refl, subst}
+use Rattle.std.proofs.Common.{◌≡◌, ◌⊎◌, ℕ, suc, ◌<◌, Bool, true, false, List, length, Option, Some, None, refl, ◌∙◌, subst}
 use Rattle.std.specs.Prelude.{slice_get, nat_eq}
 use Rattle.std.specs.List.{list_any}
 use Rattle.std.proofs.lemmas.Bool.{eq-eqb, eqb-true}
@@ -18,6 +18,11 @@ use Rattle.cc_tied.proofs.Sim.{Tie, World, PayT, both_pay, neither, excuse}
 use Rattle.cc_tied.proofs.EqualModes.{SameEnd, same_end}
 use Rattle.cc_tied.proofs.InjectPlaces.{Places}
 use Rattle.cc_tied.proofs.InjectWorld.{Tabs, Ext, ext_same, ext_on, Mates, Mate, mates_more, Vals, val_more, opt_more, UpT, no_up, up_more, FunI, Codes, ObjT, FrameT, KnownT}
+
+-- what stays tied, while functions are bound to no global
+pub record ExtI (v w : Tabs) : Type 0 where
+  pub ext : Ext v w
+  pub still : v.still ≡ w.still
 
 -- the prototype p of a function that stands in no pair stands in none, and it is there
 abbrev pub Owned : List (Pair (Option Code)) → List Obj → (m p : ℕ) → Type 0
@@ -61,8 +66,8 @@ module _ (F : Facts) where
       writes_global : {o : Option ℕ} {c n : ℕ} → ((h : Held) → F.Known n h → ⊥) → WriteI (at o c) (Ref.Global n) (Ref.Global n)
       writes_place : {o : Option ℕ} {c u n : ℕ} {l : Level} → Above F S (innermost o c) u l → (FixedAt F l n → ⊥) → WriteI (at o c) (Ref.Frame u n) (Ref.Frame u n)
 
-    pub env_more : {v w : Tabs} → Ext v w → {c : Ctx} {g h : Env} → EnvI F S v c g h → EnvI F S w c g h
-    env_more l (env_at u t d) = env_at (up_more F S l u) (opt_more l t) d
+    pub env_more : {v w : Tabs} → ExtI v w → {c : Ctx} {g h : Env} → EnvI F S v c g h → EnvI F S w c g h
+    env_more l (env_at u t d) = env_at (up_more F S l.ext u) (opt_more l.ext t) d
     env_more l (env_nowhere d) = env_nowhere d
 
     pub env_this : {w : Tabs} {c : Ctx} {g h : Env} → ThisI c → EnvI F S w c g h → OptT (Vals w) g.this h.this
@@ -97,8 +102,9 @@ module _ (F : Facts) (S : Tables) (set' : List (Path × ℕ)) where
     pub owned : (m p : ℕ) → prototype_of_function (slice_get s.objs m) ≡ Some (obj p) → Owned w.objs s.objs m p
     pub frames : Table (FrameT F S w) (λ y a. a ≡ y) w.frames w.alone s.frames t.frames
     pub globals : Places (Vals w) F.Unread s.globals t.globals
-    pub known : (g : ℕ) (h : Held) → F.Known g h → KnownT w h (flat_option (slice_get s.globals g))
+    pub known : (g : ℕ) (h : Held) → F.Known g h → KnownT w w.still g h (flat_option (slice_get s.globals g))
     pub loaded : s.loaded ≡ t.loaded
+    pub begun : (c : ℕ) → In c w.begun → list_any (λ d. nat_eq d c) s.loaded ≡ true
     pub failed : s.failed ≡ t.failed
     -- the left may have made objects of more classes
     pub constructed : (c : ℕ) → list_any (λ d. nat_eq d c) t.constructed ≡ true → list_any (λ d. nat_eq d c) s.constructed ≡ true
@@ -107,7 +113,7 @@ module _ (F : Facts) (S : Tables) (set' : List (Path × ℕ)) where
     pub budget : s.budget ≡ t.budget
 
   pub with_budget : {w : Tabs} {s t : State} (b c : ℕ) → b ≡ c → TiedI w s t → TiedI w (record s { budget = b }) (record t { budget = c })
-  with_budget b c e h = record { tables = h.tables; tables' = h.tables'; objs = h.objs; owned = h.owned; frames = h.frames; globals = h.globals; known = h.known; loaded = h.loaded; failed = h.failed; constructed = h.constructed; handles = h.handles; replies = h.replies; budget = e }
+  with_budget b c e h = record { tables = h.tables; tables' = h.tables'; objs = h.objs; owned = h.owned; frames = h.frames; globals = h.globals; known = h.known; loaded = h.loaded; begun = h.begun; failed = h.failed; constructed = h.constructed; handles = h.handles; replies = h.replies; budget = e }
 
   pay_one : {w : Tabs} {s t : State} → TiedI w s t → (o : Option ℕ) → PayT (TiedI w) ⊥ ⊥ s t o o
   pay_one h None = neither
@@ -117,7 +123,7 @@ module _ (F : Facts) (S : Tables) (set' : List (Path × ℕ)) where
   pay_tied {w = w} {s = s} {t = t} h = subst (λ z. PayT (TiedI w) ⊥ ⊥ s t (paid 1 s.budget) (paid 1 z)) h.budget (pay_one h (paid 1 s.budget))
 
   pub replied : {w : Tabs} {s t : State} (rs : List Reply) → TiedI w s t → TiedI w (record s { replies = rs }) (record t { replies = rs })
-  replied rs h = record { tables = h.tables; tables' = h.tables'; objs = h.objs; owned = h.owned; frames = h.frames; globals = h.globals; known = h.known; loaded = h.loaded; failed = h.failed; constructed = h.constructed; handles = h.handles; replies = refl; budget = h.budget }
+  replied rs h = record { tables = h.tables; tables' = h.tables'; objs = h.objs; owned = h.owned; frames = h.frames; globals = h.globals; known = h.known; loaded = h.loaded; begun = h.begun; failed = h.failed; constructed = h.constructed; handles = h.handles; replies = refl; budget = h.budget }
 
   -- ---- objects one to one
 
@@ -139,9 +145,9 @@ module _ (F : Facts) (S : Tables) (set' : List (Path × ℕ)) where
     tables = S;
     tables' = S';
     W = Tabs;
-    Ext = Ext;
-    same = ext_same;
-    ext = λ l k. ext_on l k;
+    Ext = ExtI;
+    same = λ w. record { ext = ext_same w; still = refl };
+    ext = λ l k. record { ext = ext_on l.ext k.ext; still = l.still ∙ k.still };
     Excused = Unit {0};
     Short = λ w p. ⊥;
     Ahead = ⊥;
@@ -182,10 +188,10 @@ module _ (F : Facts) (S : Tables) (set' : List (Path × ℕ)) where
     UpT = λ w f f' a b. UpT F S w (outward F S (called f)) a b;
     EnvT = λ c w. EnvI F S w c;
     LoadedT = λ w c. Unit {0};
-    O_later = λ l h. mates_more l h;
-    new_later = λ l h. val_more l _ _ h;
+    O_later = λ l h. mates_more l.ext h;
+    new_later = λ l h. val_more l.ext _ _ h;
     key_later = λ l h. h;
-    up_later = λ l h. up_more F S l h;
+    up_later = λ l h. up_more F S l.ext h;
     env_later = λ l h. env_more F S l h;
     loaded_later = λ l h. h;
     new_value = λ h. h;
