@@ -14,10 +14,10 @@ use Rattle.cc_tied.specs.Tied.{ListT, nil_t, cons_t, OptT, none_t, some_t, ValT,
 use Rattle.cc_tied.specs.Facts.{Level, called, named, Facts, innermost, around_function, outward, DeadAt}
 use Rattle.cc_tied.specs.Injection.{Pair, Table}
 use Rattle.cc_tied.proofs.Parts.{list_as}
-use Rattle.cc_tied.proofs.Sim.{Tie, World, ok_t, Sim, sim_tables}
+use Rattle.cc_tied.proofs.Sim.{Tie, World, ok_t, Sim, sim_as, sim_tables}
 use Rattle.cc_tied.proofs.InjectTable.{table_more, add_both}
 use Rattle.cc_tied.proofs.InjectPlaces.{places_more, places_of_list}
-use Rattle.cc_tied.proofs.InjectWorld.{Label, Tabs, Ext, Mates, mates_more, Vals, val_more, same_kind, UpT, an_up, up_more, Codes, ObjT, obj_more, FrameT, frame_more, known_more}
+use Rattle.cc_tied.proofs.InjectWorld.{FunctionAt, a_function, Label, Tabs, Ext, Mates, mates_more, Vals, val_more, same_kind, UpT, an_up, up_more, Codes, ObjT, obj_more, FrameT, frame_more, known_more}
 use Rattle.cc_tied.proofs.InjectTie.{StandI, stands_at, EnvI, env_at, with_set, TiedI, inject}
 use Rattle.cc_tied.proofs.InjectObjects.{chain_of_tied, prototype_tied}
 use Rattle.cc_tied.proofs.InjectActs.{one_longer, owned_new, at_of, add_t}
@@ -97,6 +97,11 @@ noted_both (Some e) cs ds f c h = by_cases (noted_cases e ds c h)
     by_cases (inl k) = noted_old (Some e) cs c (f c k)
     by_cases (inr k) = subst (λ z. Among z (note_constructed (Some e) cs)) (eqb-true e c k) (noted_new e cs)
 
+-- two objects of this function
+pub record MadeT (w : Tabs) (f : ℕ) (x y : Val) : Type 0 where
+  pub vals : Vals w x y
+  pub made : FunctionAt w f (Some x)
+
 module _ (F : Facts) (S : Tables) (set' : List (Path × ℕ)) where
   abbrev R : Tables
   R = with_set S set'
@@ -175,12 +180,18 @@ module _ (F : Facts) (S : Tables) (set' : List (Path × ℕ)) where
         (subst (λ z. Vals V (obj (length (s.objs ++ bare ∷ []))) (obj z)) (one_longer t.objs bare)
         (obj_t (Some c, here)))
 
-  plain_function_t : {w : W} (f i i' : ℕ) {u u' : Option ℕ} → F.Reached f → UpT F S w.w (outward F S (called f)) u u' → Sim T (λ v. Vals v.w) w (add_function f i u) (add_function f i' u')
+    pub function_made : MadeT V c.function (obj (suc (length s.objs))) (obj (suc (length t.objs)))
+    function_made = record {
+      vals = function_vals;
+      made = subst (λ z. FunctionAt V c.function (Some (obj z))) (one_longer s.objs bare) (a_function {n = length (t.objs ++ bare ∷ [])} refl here);
+    }
+
+  plain_function_t : {w : W} (f i i' : ℕ) {u u' : Option ℕ} → F.Reached f → UpT F S w.w (outward F S (called f)) u u' → Sim T (λ v. MadeT v.w f) w (add_function f i u) (add_function f i' u')
   unfolding add_function ret
   plain_function_t {w = w} f i i' {u = u} {u' = u'} r up s t ti le le' =
       let c : Code = record { function = f; up = u; site = i } in let c' : Code = record { function = f; up = u'; site = i' } in
       let e : Ext w.w (made_world w.w c s t w.w.frames) = record { objs = λ q h. there (there h); frames = λ q h. h; spare = λ q h. h; alone = λ q h. h; begun = λ c h. h } in
-      ok_t refl (record { l = w.l; r = w.r; w = made_world w.w c s t w.w.frames }) (omega arith, omega arith, record { ext = e; still = refl }) tt (function_vals ti c c' w.w.frames s.frames t.frames)
+      ok_t refl (record { l = w.l; r = w.r; w = made_world w.w c s t w.w.frames }) (omega arith, omega arith, record { ext = e; still = refl }) tt (function_made ti c c' w.w.frames s.frames t.frames)
       (function_tied ti c c' w.w.frames s.frames t.frames e (record { function = record { same = refl; reached = r }; up = up_more F S e up; site = tt }) (table_more ti.frames (frame_more F S e))) le le'
 
   own_label : (f : ℕ) (u u' : Option ℕ) → State → Label
@@ -201,7 +212,7 @@ module _ (F : Facts) (S : Tables) (set' : List (Path × ℕ)) where
   unfolding own_label own_frame Rattle.cc_tied.specs.Facts.frame_kind
   own_frame_tied f s t up v = record { kind = refl; kind' = refl; up = refl; up' = refl; around = own_around f up; places = places_of_list (cons_t (some_t v) nil_t); fixed = λ n d. refl }
 
-  named_function_t : {w : W} (f i i' : ℕ) {u u' : Option ℕ} → F.Reached f → owns S f ≡ true → UpT F S w.w (around_function F f) u u' → Sim T (λ v. Vals v.w) w (add_function_by true f i u) (add_function_by true f i' u')
+  named_function_t : {w : W} (f i i' : ℕ) {u u' : Option ℕ} → F.Reached f → owns S f ≡ true → UpT F S w.w (around_function F f) u u' → Sim T (λ v. MadeT v.w f) w (add_function_by true f i u) (add_function_by true f i' u')
   unfolding add_function_by add_function push_frame ret ◌>>=◌ after said own_label own_frame
   named_function_t {w = w} f i i' {u = u} {u' = u'} r o up s t ti le le' =
       let c : Code = record { function = f; up = Some (length s.frames); site = i } in let c' : Code = record { function = f; up = Some (length t.frames); site = i' } in
@@ -209,7 +220,7 @@ module _ (F : Facts) (S : Tables) (set' : List (Path × ℕ)) where
       let v : Tabs = made_world w.w c s t (q ∷ w.w.frames) in
       let e : Ext w.w v = record { objs = λ q h. there (there h); frames = λ q h. there h; spare = λ q h. h; alone = λ q h. h; begun = λ c h. h } in
       let k : UpT F S v (outward F S (called f)) (Some (length s.frames)) (Some (length t.frames)) = subst (λ z. UpT F S v z (Some (length s.frames)) (Some (length t.frames))) (sym (own_up f o)) (an_up (own_label f u u' s) refl here) in
-      ok_t refl (record { l = w.l; r = w.r; w = v }) (omega arith, omega arith, record { ext = e; still = refl }) tt (function_vals ti c c' (q ∷ w.w.frames) s.frames t.frames)
+      ok_t refl (record { l = w.l; r = w.r; w = v }) (omega arith, omega arith, record { ext = e; still = refl }) tt (function_made ti c c' (q ∷ w.w.frames) s.frames t.frames)
       (function_tied ti c c' (q ∷ w.w.frames) (s.frames ++ own_frame s u ∷ []) (t.frames ++ own_frame t u' ∷ []) e (record { function = record { same = refl; reached = r }; up = k; site = tt })
       (add_both (table_more ti.frames (frame_more F S e)) (own_label f u u' s) (own_frame s u) (own_frame t u') (own_frame_tied f s t (up_more F S e up) (function_vals ti c c' (q ∷ w.w.frames) s.frames t.frames)))) le le'
 
@@ -217,7 +228,7 @@ module _ (F : Facts) (S : Tables) (set' : List (Path × ℕ)) where
   unfolding outward
   plain_up f e = rw e refl
 
-  function_by : {w : W} (b : Bool) (f i i' : ℕ) {u u' : Option ℕ} → F.Reached f → owns S f ≡ b → UpT F S w.w (around_function F f) u u' → Sim T (λ v. Vals v.w) w (add_function_by b f i u) (add_function_by b f i' u')
+  function_by : {w : W} (b : Bool) (f i i' : ℕ) {u u' : Option ℕ} → F.Reached f → owns S f ≡ b → UpT F S w.w (around_function F f) u u' → Sim T (λ v. MadeT v.w f) w (add_function_by b f i u) (add_function_by b f i' u')
   unfolding add_function_by
   function_by {w = w} false f i i' {u = u} {u' = u'} r e up s t ti le le' = plain_function_t f i i' r (subst (λ z. UpT F S w.w z u u') (sym (plain_up f e)) up) s t ti le le'
   function_by true f i i' r e up s t ti le le' = named_function_t f i i' r e up s t ti le le'
@@ -230,9 +241,12 @@ module _ (F : Facts) (S : Tables) (set' : List (Path × ℕ)) where
   unfolding owns
   owns_by f = refl
 
-  pub function_t : {w : W} {c : Rattle.cc_tied.proofs.InjectTie.Ctx} {g h : Env} {f f' : ℕ} (i i' : ℕ) → StandI F c f f' → EnvI F S w.w c g h → Sim T (λ v. Vals v.w) w (make_function f i g) (make_function f' i' h)
+  pub function_made_t : {w : W} {c : Rattle.cc_tied.proofs.InjectTie.Ctx} {g h : Env} {f f' : ℕ} (i i' : ℕ) → StandI F c f f' → EnvI F S w.w c g h → Sim T (λ v. MadeT v.w f) w (make_function f i g) (make_function f' i' h)
   unfolding make_function
-  function_t {w = w} {g = g} {h = h} i i' (stands_at {f = f} r p q) (env_at u t d) = sim_tables T _ _ (function_by (has_own_name (slice_get S.heads f)) f i i' r (owns_by f) (subst (λ z. UpT F S w.w z g.at h.at) (around_is f p q) u))
+  function_made_t {w = w} {g = g} {h = h} i i' (stands_at {f = f} r p q) (env_at u t d) = sim_tables T _ _ (function_by (has_own_name (slice_get S.heads f)) f i i' r (owns_by f) (subst (λ z. UpT F S w.w z g.at h.at) (around_is f p q) u))
+
+  pub function_t : {w : W} {c : Rattle.cc_tied.proofs.InjectTie.Ctx} {g h : Env} {f f' : ℕ} (i i' : ℕ) → StandI F c f f' → EnvI F S w.w c g h → Sim T (λ v. Vals v.w) w (make_function f i g) (make_function f' i' h)
+  function_t {f = f} i i' s e = sim_as T {R = λ v. MadeT v.w f} (λ v l x y q. q.vals) (function_made_t i i' s e)
 
   -- ---- instances
 

@@ -3,6 +3,7 @@ use Rattle.std.proofs.Common.{◌≡◌, ◌⊎◌, ℕ, suc, ◌<◌, Bool, tru
 use Rattle.std.specs.Prelude.{slice_get, nat_eq}
 use Rattle.std.specs.List.{list_any}
 use Rattle.std.proofs.lemmas.Bool.{eq-eqb, eqb-true}
+use Rattle.cc_ast.specs.Syntax.{Prim}
 use Rattle.cc_ast.specs.declared.tree.Ref.{Ref}
 use Rattle.cc_meaning.specs.Values.{obj}
 use Rattle.cc_meaning.specs.State.{Code, Obj, Env, Path, Reply, State, Tables}
@@ -12,7 +13,7 @@ use Rattle.cc_meaning.specs.SlotRules.{prototype_of_function}
 use Rattle.cc_meaning.specs.Script.{checked}
 use Rattle.cc_meaning.specs.Alike.{In}
 use Rattle.cc_tied.specs.Tied.{ListT, OptT, none_t, built_of}
-use Rattle.cc_tied.specs.Facts.{Level, Held, Facts, innermost, outward, called, Above, DeadAt, FixedAt}
+use Rattle.cc_tied.specs.Facts.{Level, Held, holds_function, holds_literal, Facts, innermost, outward, called, Above, DeadAt, FixedAt}
 use Rattle.cc_tied.specs.Injection.{Pair, Table}
 use Rattle.cc_tied.proofs.Sim.{Tie, World, PayT, both_pay, neither, excuse}
 use Rattle.cc_tied.proofs.EqualModes.{SameEnd, same_end}
@@ -65,6 +66,16 @@ module _ (F : Facts) where
     pub data WriteI : Ctx → Ref → Ref → Type 0 where
       writes_global : {o : Option ℕ} {c n : ℕ} → ((h : Held) → F.Known n h → ⊥) → WriteI (at o c) (Ref.Global n) (Ref.Global n)
       writes_place : {o : Option ℕ} {c u n : ℕ} {l : Level} → Above F S (innermost o c) u l → (FixedAt F l n → ⊥) → WriteI (at o c) (Ref.Frame u n) (Ref.Frame u n)
+
+    -- variables that are set by their one declaration alone, to what is known of them
+    pub data SetI : Ctx → Ref → Prim → Type 0 where
+      sets_known : {o : Option ℕ} {c n : ℕ} {p : Prim} → F.Known n (holds_literal p) → ((h : Held) → F.Known n h → h ≡ holds_literal p) → SetI (at o c) (Ref.Global n) p
+
+    pub data BindI : Ctx → Ref → ℕ → Type 0 where
+      binds_known : {n f : ℕ} → F.Known n (holds_function f) → ((h : Held) → F.Known n h → h ≡ holds_function f) → BindI (at None 0) (Ref.Global n) f
+
+    pub no_bind : {f g : ℕ} {r : Ref} → BindI (at (Some f) 0) r g → ⊥
+    no_bind h = elim h [ ]
 
     pub env_more : {v w : Tabs} → ExtI v w → {c : Ctx} {g h : Env} → EnvI F S v c g h → EnvI F S w c g h
     env_more l (env_at u t d) = env_at (up_more F S l.ext u) (opt_more l.ext t) d
@@ -170,9 +181,9 @@ module _ (F : Facts) (S : Tables) (set' : List (Path × ℕ)) where
     StandT = StandI F;
     ReadT = ReadI F S;
     WriteT = WriteI F S;
-    SetT = λ c r p. ⊥;
-    BindT = λ c r f. ⊥;
-    bind_inside = λ h. h;
+    SetT = SetI F S;
+    BindT = BindI F S;
+    bind_inside = λ h. no_bind F S h;
     ThisT = ThisI;
     DocT = λ d d'. d ≡ d';
     DeclaresT = DeclaresI;

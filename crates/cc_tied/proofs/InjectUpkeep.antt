@@ -35,6 +35,7 @@ use Rattle.cc_tied.proofs.InjectWrites.{out_none, write_slot_t, write_t}
 use Rattle.cc_tied.proofs.InjectAsked.{remove_t, probe_t, walk_t, instance_of_t, typeof_t}
 use Rattle.cc_tied.proofs.InjectUses.{use_t}
 use Rattle.cc_tied.proofs.InjectFrames.{read_var_t, write_var_t}
+use Rattle.cc_tied.proofs.InjectKnown.{set_known_t}
 use Rattle.cc_tied.proofs.InjectCalls.{catch_t, frame_t, take_path_t, keep_path_t, cast_t, enter_t, leave_t}
 
 module _ (F : Facts) (S : Tables) (set' : List (Path × ℕ)) where
@@ -174,7 +175,7 @@ module _ (F : Facts) (S : Tables) (set' : List (Path × ℕ)) where
     up_out_write = λ x y d d' i k f. out_write_t _ _ _ x y d d' k (f (name_same S set' k));
     up_read_var = λ i e r. read_var_t F S set' _ _ e r;
     up_write_var = λ i e r x. write_var_t F S set' _ _ e r x;
-    up_set_var = λ i e h. absurd h;
+    up_set_var = λ i e h. set_known_t F S set' _ _ e h;
     up_catch = λ e x. catch_t F S set' e x;
     up_frame = λ c t vs. frame_t F S set' c t vs;
     up_take_path = λ {w} {p} {p'} {x} {y} {a} {b} {i} {i'} s q v k. subst (λ z. Sim T Done w (take_path checked i (Some p) x a) (take_path checked i' (Some z) y b)) q (take_path_t F S set' i i' p v k);

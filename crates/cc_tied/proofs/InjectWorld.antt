@@ -90,14 +90,14 @@ pub record SlotT (O : ℕ → ℕ → Type 0) (a b : Slot) : Type 0 where
 
 -- ---- globals
 
--- nothing, or an object of this function, which no frame is around
+-- nothing, or an object of this function
 pub data FunctionAt (w : Tabs) (f : ℕ) : Option Val → Type 0 where
   no_function : FunctionAt w f None
-  a_function : {c : Code} {m n : ℕ} → c.function ≡ f → c.up ≡ None → In (record { label = Some c; left = m; right = n }) w.objs → FunctionAt w f (Some (obj m))
+  a_function : {c : Code} {m n : ℕ} → c.function ≡ f → In (record { label = Some c; left = m; right = n }) w.objs → FunctionAt w f (Some (obj m))
 
 pub function_more : {v w : Tabs} → Ext v w → {f : ℕ} {o : Option Val} → FunctionAt v f o → FunctionAt w f o
 function_more l no_function = no_function
-function_more l (a_function e d h) = a_function e d (l.objs _ h)
+function_more l (a_function e h) = a_function e (l.objs _ h)
 
 -- a global that is set by its declaration alone; a function that it holds stays
 pub data KnownT (w : Tabs) (still : List (Option Val)) (g : ℕ) : Held → Option Val → Type 0 where

@@ -58,6 +58,7 @@ pub mod InjectAsked
 pub mod InjectBuilt
 pub mod InjectUses
 pub mod InjectFrames
+pub mod InjectKnown
 pub mod InjectCalls
 pub mod InjectUpkeep
 pub mod InjectDead
