@@ -94,7 +94,7 @@ module _ (F : Facts) (P Q : Program) (same : SameButSet P Q) where
     budget = refl;
   }
 
-  exact : IsExact pair_tie
+  pub exact : IsExact pair_tie
   exact = record { never_short = λ h. h; never_ahead = λ h. h; one_end = λ e. one e }
     where
       one : {e e' : Rattle.cc_meaning.specs.Monad.End} → SameEnd e e' → Rattle.cc_meaning.specs.Same.IsBroken (Rattle.cc_meaning.specs.Script.stopped e) ⊎ (e ≡ e')

@@ -148,12 +148,12 @@ module _ (F : Facts) (S : Tables) (set' : List (Path × ℕ)) where
   unfolding set_place
   place_tied ti (an_up x e q) n d v = with_frames _ _ ti (frames_set ti x q n (subst (λ z. FixedAt F z n → ⊥) (sym e) d) v _ _ refl refl (ti.frames.tied _ q))
 
-  keep_none : {w : Tabs} {s t : State} → Tied w s t → (x : Variable) {u v : Val} → Vals w u v → keep_rule S s x u ≡ None → keep_rule R t x v ≡ None
+  pub keep_none : {w : Tabs} {s t : State} → Tied w s t → (x : Variable) {u v : Val} → Vals w u v → keep_rule S s x u ≡ None → keep_rule R t x v ≡ None
   unfolding keep_rule
   keep_none {w = w} {s = s} {t = t} ti x {u = u} {v = v} h e =
       none_unless 6 (ap (λ z. of_opt_type R t.objs z v) (sym (variable_type_same S set' x)) ∙ sym (of_opt_type_same S set' F w s.objs t.objs (at_of F S set' ti) (variable_type S x) h) ∙ unless_none _ 6 e)
 
-  received_t : {w : W} (x : Variable) {u v : Val} → Vals w.w u v → Sim T Done w (with_tables (λ T. receive (variable_type T x) u)) (with_tables (λ T. receive (variable_type T x) v))
+  pub received_t : {w : W} (x : Variable) {u v : Val} → Vals w.w u v → Sim T Done w (with_tables (λ T. receive (variable_type T x) u)) (with_tables (λ T. receive (variable_type T x) v))
   received_t {w = w} x {u = u} {v = v} h = sim_tables T _ _ (subst (λ z. Sim T Done w (receive (variable_type S x) u) (receive z v)) (variable_type_same S set' x) (receive_t F S set' (variable_type S x) h))
 
   -- a variable receives a value, in two states

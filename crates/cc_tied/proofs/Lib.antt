@@ -59,10 +59,12 @@ pub mod InjectBuilt
 pub mod InjectUses
 pub mod InjectFrames
 pub mod InjectKnown
+pub mod InjectBinds
 pub mod InjectCalls
 pub mod InjectUpkeep
 pub mod InjectDead
 pub mod InjectEnds
+pub mod InjectRuns
 pub mod FineParts
 pub mod InjectFacts
 pub mod InjectPass
