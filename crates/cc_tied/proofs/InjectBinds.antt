@@ -129,12 +129,12 @@ module _ (F : Facts) (S : Tables) (set' : List (Path × ℕ)) where
     pub binds_t : {w : W} (i : ℕ) {r : Ref} {f : ℕ} → StandI F (at None 0) f f → BindI F S (at None 0) r f → Whole T Always (Nothing T) w (hoist_one checked top (fun_decl i r f)) (hoist_one checked top (fun_decl i r f))
     unfolding hoist_one
     binds_t i {f = f} st (binds_known {n = n} d k) =
-        whole_bind T {R = λ v. MadeT v.w f} (whole_of T exact (λ v l. tt) (function_made_t F S set' i i st (env_top F S {d = None} {d' = None} (record { keeps = λ g e. e })))) (λ v l _ x y m.
+        whole_bind T {R = λ v. MadeT v.w f} (whole_of T exact (λ v l. tt) (function_made_t F S set' i i st (env_top F S set' {d = None} {d' = None} (record { keeps = λ g e. e })))) (λ v l _ x y m.
         write_bound (at_site i) (at_site i) n f m k)
 
     written_t : {w : W} (i : ℕ) {r : Ref} {f : ℕ} → StandI F (at None 0) f f → WriteI F S (at None 0) r r → Sim T (Nothing T) w (hoist_one checked top (fun_decl i r f)) (hoist_one checked top (fun_decl i r f))
     unfolding hoist_one
-    written_t i st wr = sim_bind T {R = λ v. Vals v.w} (function_t F S set' i i st (env_top F S {d = None} {d' = None} (record { keeps = λ g e. e }))) (λ v l x y h. write_var_t F S set' (at_site i) (at_site i) (env_top F S {d = None} {d' = None} (record { keeps = λ g e. e })) wr h)
+    written_t i st wr = sim_bind T {R = λ v. Vals v.w} (function_t F S set' i i st (env_top F S set' {d = None} {d' = None} (record { keeps = λ g e. e }))) (λ v l x y h. write_var_t F S set' (at_site i) (at_site i) (env_top F S set' {d = None} {d' = None} (record { keeps = λ g e. e })) wr h)
 
     one_bound : {w : W} (i : ℕ) (r : Ref) (f : ℕ) → BindsT K (at None 0) r f → StandI F (at None 0) f f → Whole T Always (Nothing T) w (hoist_one checked top (fun_decl i r f)) (hoist_one checked top (fun_decl i r f))
     one_bound i r f (bound_by_write wr) st = whole_of T exact (λ v l. tt) (written_t i st wr)

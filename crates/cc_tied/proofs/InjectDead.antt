@@ -94,11 +94,11 @@ module _ (F : Facts) (S : Tables) (set' : List (Path × ℕ)) where
   left_writes_place {w = w} i {l = l} (frame_there x {a = p} e h) {a = a} up n d f u =
       subst (λ z. Quiet w (write_by_kind checked i z a n u)) (sym (h.kind ∙ ap frame_kind e)) (left_writes_kind i l up n d f u)
 
-  env_up : {w : Tabs} {o : Option ℕ} {c : ℕ} {g h : Env} → EnvI F S w (at o c) g h → UpT F S w (innermost o c) g.at h.at
+  env_up : {w : Tabs} {o : Option ℕ} {c : ℕ} {g h : Env} → EnvI F S set' w (at o c) g h → UpT F S w (innermost o c) g.at h.at
   env_up (env_at u t d) = u
 
   -- a write to a place that is never read
-  pub left_writes_dead : {w : W} (i : Spot) {o : Option ℕ} {c m : ℕ} {l : Level} {g h : Env} → EnvI F S w.w (at o c) g h → Above F S (innermost o c) m l → (n : ℕ) → DeadAt F l n → (FixedAt F l n → ⊥) → (u : Val) → Quiet w (write_var checked i g (Ref.Frame m n) u)
+  pub left_writes_dead : {w : W} (i : Spot) {o : Option ℕ} {c m : ℕ} {l : Level} {g h : Env} → EnvI F S set' w.w (at o c) g h → Above F S (innermost o c) m l → (n : ℕ) → DeadAt F l n → (FixedAt F l n → ⊥) → (u : Val) → Quiet w (write_var checked i g (Ref.Frame m n) u)
   unfolding write_var
   left_writes_dead i {m = m} {g = g} e a n d f u = record { by = λ s t ti le le'. let up = G.ups F S set' ti a (env_up e) in (left_writes_place i (G.frames_at F S set' ti up) up n d f u).by s t ti le le' }
 
@@ -121,7 +121,7 @@ module _ (F : Facts) (S : Tables) (set' : List (Path × ℕ)) where
     gone_place : {o : Option ℕ} {c m n : ℕ} {l : Level} → Above F S (innermost o c) m l → DeadAt F l n → (FixedAt F l n → ⊥) → Gone (at o c) (Ref.Frame m n)
     gone_global : {c : Ctx} {n : ℕ} → F.Unread n → ((h : Held) → F.Known n h → ⊥) → Gone c (Ref.Global n)
 
-  pub left_sets : {w : W} (i : Spot) {c : Ctx} {g h : Env} {r : Ref} → EnvI F S w.w c g h → Gone c r → (u : Val) → Quiet w (write_var checked i g r u)
+  pub left_sets : {w : W} (i : Spot) {c : Ctx} {g h : Env} {r : Ref} → EnvI F S set' w.w c g h → Gone c r → (u : Val) → Quiet w (write_var checked i g r u)
   left_sets i e (gone_place {n = n} a d f) u = left_writes_dead i e a n d f u
   left_sets i {g = g} e (gone_global {n = n} r d) u = left_writes_unread i g n r d u
 
@@ -135,10 +135,10 @@ module _ (F : Facts) (S : Tables) (set' : List (Path × ℕ)) where
     open X use {B, B', w}
 
     abbrev Env2 : W → Env → Env → Type 0
-    Env2 v g g' = EnvI F S v.w c g g'
+    Env2 v g g' = EnvI F S set' v.w c g g'
 
     later_env : {u v : W} {g g' : Env} → Later T u v → Env2 u g g' → Env2 v g g'
-    later_env l e = env_more F S l.2 e
+    later_env l e = env_more F S set' l.2 e
 
     go_on : {v : W} {m m' : M Comp} → Sim T (CompV K) v m m' → (k : Comp) → k ≡ normal → Sim T (CompV K) v (next k m) m'
     unfolding next
@@ -205,4 +205,4 @@ module _ (F : Facts) (S : Tables) (set' : List (Path × ℕ)) where
 
     pub idle_goes_of_chunk : {s : Stmt} {ss ss' : Stmts} → Idle X (at None 0) [] s → FollowsChunk K X n ss ss' → FollowsChunk K X n (more_stmts s ss) ss'
     unfolding ex_chunk
-    idle_goes_of_chunk {s = s} h k = record { by = λ v l q. L.rel_left T tt (silent_tables F S set' _ (h.by v l _ _ (Rattle.cc_tied.proofs.InjectTie.env_top F S (record { keeps = λ f e. e })))) (λ v2 l2 x e. go_on X (at None 0) (k.by v2 (later T l l2) q) x e) }
+    idle_goes_of_chunk {s = s} h k = record { by = λ v l q. L.rel_left T tt (silent_tables F S set' _ (h.by v l _ _ (Rattle.cc_tied.proofs.InjectTie.env_top F S set' (record { keeps = λ f e. e })))) (λ v2 l2 x e. go_on X (at None 0) (k.by v2 (later T l l2) q) x e) }

@@ -23,7 +23,7 @@ use Rattle.cc_tied.proofs.Sim.{Tie, World, ResT, Sim, fine, after_t, sim_ret, si
 use Rattle.cc_tied.proofs.InjectTable.{set_both}
 use Rattle.cc_tied.proofs.InjectPlaces.{places_set}
 use Rattle.cc_tied.proofs.InjectWorld.{Label, Tabs, Vals, val_more, UpT, an_up, FrameT, KnownT}
-use Rattle.cc_tied.proofs.InjectTie.{ReadI, reads_global, reads_place, WriteI, writes_global, writes_place, EnvI, env_at, with_set, TiedI, inject}
+use Rattle.cc_tied.proofs.InjectTie.{ReadI, reads_global, reads_inlined, reads_place, WriteI, writes_global, writes_place, EnvI, env_at, with_set, TiedI, inject}
 use Rattle.cc_tied.proofs.InjectRules.{unless_none, none_unless}
 use Rattle.cc_tied.proofs.InjectObjects.{is_some_same}
 use Rattle.cc_tied.proofs.InjectTypes.{of_opt_type_same, variable_type_same, is_settled_same}
@@ -117,15 +117,19 @@ module _ (F : Facts) (S : Tables) (set' : List (Path × ℕ)) where
   unfolding global_kind
   kind_same n = refl
 
-  env_up : {w : Tabs} {o : Option ℕ} {c : ℕ} {g h : Env} → EnvI F S w (Rattle.cc_tied.proofs.InjectTie.at o c) g h → UpT F S w (innermost o c) g.at h.at
+  env_up : {w : Tabs} {o : Option ℕ} {c : ℕ} {g h : Env} → EnvI F S set' w (Rattle.cc_tied.proofs.InjectTie.at o c) g h → UpT F S w (innermost o c) g.at h.at
   env_up (env_at u t d) = u
 
-  pub read_var_t : {w : W} (i i' : Spot) {c : Rattle.cc_tied.proofs.InjectTie.Ctx} {g h : Env} {r r' : Ref} → EnvI F S w.w c g h → ReadI F S c r r' → Sim T (λ v. Vals v.w) w (read_var checked i g r) (read_var checked i' h r')
-  unfolding read_var
-  read_var_t {w = w} i i' e (reads_global {n = n} d) s t ti le le' =
+  reads_global_t : {w : W} (i i' : Spot) (n : ℕ) → (F.Unread n → ⊥) → {s t : State} → Tied w.w s t → s.budget ≤ w.l → t.budget ≤ w.r → ResT T (λ v. Vals v.w) w (read_global checked i n (global_kind s.tables n) s) (read_global checked i' n (global_kind t.tables n) t)
+  reads_global_t {w = w} i i' n d {s = s} {t = t} ti le le' =
       subst (λ z. ResT T (λ v. Vals v.w) w (read_global checked i n z s) (read_global checked i' n (global_kind t.tables n) t)) (sym (ap (λ z. global_kind z n) ti.tables))
       (subst (λ z. ResT T (λ v. Vals v.w) w (read_global checked i n (global_kind S n) s) (read_global checked i' n z t)) (kind_same n ∙ sym (ap (λ z. global_kind z n) ti.tables'))
       (global_t i i' n (global_kind S n) d s t ti le le'))
+
+  pub read_var_t : {w : W} (i i' : Spot) {c : Rattle.cc_tied.proofs.InjectTie.Ctx} {g h : Env} {r r' : Ref} → EnvI F S set' w.w c g h → ReadI F S c r r' → Sim T (λ v. Vals v.w) w (read_var checked i g r) (read_var checked i' h r')
+  unfolding read_var
+  read_var_t i i' e (reads_global {n = n} d) s t ti le le' = reads_global_t i i' n d ti le le'
+  read_var_t i i' e (reads_inlined {n = n} d) s t ti le le' = reads_global_t i i' n d ti le le'
   read_var_t i i' e (reads_place {n = n} a d) s t ti le le' = read_at_t i i' (frames_at ti (ups ti a (env_up e))) n d s t ti le le'
 
   -- ---- variables that are written
@@ -194,7 +198,7 @@ module _ (F : Facts) (S : Tables) (set' : List (Path × ℕ)) where
   unfolding set_global
   global_budget n x u = refl
 
-  pub write_var_t : {w : W} (i i' : Spot) {c : Rattle.cc_tied.proofs.InjectTie.Ctx} {g h : Env} {r r' : Ref} {u v : Val} → EnvI F S w.w c g h → WriteI F S c r r' → Vals w.w u v → Sim T Done w (write_var checked i g r u) (write_var checked i' h r' v)
+  pub write_var_t : {w : W} (i i' : Spot) {c : Rattle.cc_tied.proofs.InjectTie.Ctx} {g h : Env} {r r' : Ref} {u v : Val} → EnvI F S set' w.w c g h → WriteI F S c r r' → Vals w.w u v → Sim T Done w (write_var checked i g r u) (write_var checked i' h r' v)
   unfolding write_var
   write_var_t i i' {u = u} {v = v} e (writes_global {n = n} d) k s t ti le le' = keep_at i i' (global n) k (set_global n u) (set_global n v) ti le le' (global_budget n u) (global_budget n v) (global_tied ti n d k)
   write_var_t i i' {g = g} {h = h} e (writes_place {u = m} {n = n} a d) k s t ti le le' =

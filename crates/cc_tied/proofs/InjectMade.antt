@@ -241,11 +241,11 @@ module _ (F : Facts) (S : Tables) (set' : List (Path × ℕ)) where
   unfolding owns
   owns_by f = refl
 
-  pub function_made_t : {w : W} {c : Rattle.cc_tied.proofs.InjectTie.Ctx} {g h : Env} {f f' : ℕ} (i i' : ℕ) → StandI F c f f' → EnvI F S w.w c g h → Sim T (λ v. MadeT v.w f) w (make_function f i g) (make_function f' i' h)
+  pub function_made_t : {w : W} {c : Rattle.cc_tied.proofs.InjectTie.Ctx} {g h : Env} {f f' : ℕ} (i i' : ℕ) → StandI F c f f' → EnvI F S set' w.w c g h → Sim T (λ v. MadeT v.w f) w (make_function f i g) (make_function f' i' h)
   unfolding make_function
   function_made_t {w = w} {g = g} {h = h} i i' (stands_at {f = f} r p q) (env_at u t d) = sim_tables T _ _ (function_by (has_own_name (slice_get S.heads f)) f i i' r (owns_by f) (subst (λ z. UpT F S w.w z g.at h.at) (around_is f p q) u))
 
-  pub function_t : {w : W} {c : Rattle.cc_tied.proofs.InjectTie.Ctx} {g h : Env} {f f' : ℕ} (i i' : ℕ) → StandI F c f f' → EnvI F S w.w c g h → Sim T (λ v. Vals v.w) w (make_function f i g) (make_function f' i' h)
+  pub function_t : {w : W} {c : Rattle.cc_tied.proofs.InjectTie.Ctx} {g h : Env} {f f' : ℕ} (i i' : ℕ) → StandI F c f f' → EnvI F S set' w.w c g h → Sim T (λ v. Vals v.w) w (make_function f i g) (make_function f' i' h)
   function_t {f = f} i i' s e = sim_as T {R = λ v. MadeT v.w f} (λ v l x y q. q.vals) (function_made_t i i' s e)
 
   -- ---- instances

@@ -7,4 +7,5 @@ pub mod FoldExample
 pub mod Facts
 pub mod Injection
 pub mod Pure
+pub mod Inlined
 pub mod PlainFacts
