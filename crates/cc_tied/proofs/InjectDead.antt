@@ -80,7 +80,7 @@ module _ (F : Facts) (S : Tables) (set' : List (Path × ℕ)) where
   left_keeps : {w : W} (i : Spot) (x : Variable) (u : Val) (f : State → State) → ((s t : State) → Tied w.w s t → Tied w.w (f s) t) → ((s : State) → (f s).budget ≡ s.budget) → Quiet w (keep checked i x u f)
   unfolding keep changing ret
   left_keeps {w = w} i x u f h b =
-      on (silent_judged F S set' i (keeps x u) _ (record { by = λ s t ti le le'. let e = b s in L.alone_ok w (now T w) tt tt (h s t ti) (omega arith) le' })) (λ v l _.
+      on (silent_judged F S set' i (keeps x u) _ (record { by = λ s t ti le le'. let e = b s in L.alone_ok refl w (now T w) tt tt (h s t ti) (omega arith) le' })) (λ v l _.
       silent_tables F S set' _ (left_receives F S set' (variable_type S x) u))
 
   left_writes_kind : {w : W} (i : Spot) (l : Level) {a b : Option ℕ} → UpT F S w.w (Some l) a b → (n : ℕ) → DeadAt F l n → (FixedAt F l n → ⊥) → (u : Val) → Quiet w (write_by_kind checked i (frame_kind l) a n u)

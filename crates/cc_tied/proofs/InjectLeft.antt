@@ -114,7 +114,7 @@ module _ (F : Facts) (S : Tables) (set' : List (Path × ℕ)) where
   silent_then h f = L.silent_bind T tt {Q = Any} h (λ v l a q. f v l a)
 
   alone_as : {A : Type 0} {P Q : W → A → Type 0} {w : W} {t : State} {r : Res A} → ((v : W) → Later T w v → (a : A) → P v a → Q v a) → Alone P w t r → Alone Q w t r
-  alone_as f (L.alone_ok v l st q ti le le') = L.alone_ok v l st (f v l _ q) ti le le'
+  alone_as f (L.alone_ok d v l st q ti le le') = L.alone_ok d v l st (f v l _ q) ti le le'
   alone_as f L.alone_broken = L.alone_broken
 
   pub silent_as : {A : Type 0} {P Q : W → A → Type 0} {w : W} {m : M A} → ((v : W) → Later T w v → (a : A) → P v a → Q v a) → Silent P w m → Silent Q w m
@@ -127,7 +127,7 @@ module _ (F : Facts) (S : Tables) (set' : List (Path × ℕ)) where
   -- a part that leaves the state
   pub still : {A : Type 0} {Q : W → A → Type 0} {w : W} {s t : State} (a : A) → Q w a → Tied w.w s t → Rattle.std.proofs.Common.◌≤◌ s.budget w.l → Rattle.std.proofs.Common.◌≤◌ t.budget w.r → Alone Q w t (ret a s)
   unfolding ret
-  still {w = w} a q ti le le' = L.alone_ok w (now T w) tt q ti le le'
+  still {w = w} a q ti le le' = L.alone_ok refl w (now T w) tt q ti le le'
 
   pub silent_stop : {A : Type 0} {Q : W → A → Type 0} {w : W} (r : ℕ) (i : Spot) → Silent {A = A} Q w (stop (broken r i))
   unfolding stop
@@ -174,7 +174,7 @@ module _ (F : Facts) (S : Tables) (set' : List (Path × ℕ)) where
 
   pub left_adds : {w : W} (x : Obj) → x.code ≡ None → Silent (λ v y. Spare v.w y) w (add_obj x)
   unfolding add_obj ret
-  left_adds {w = w} x c = record { by = λ s t ti le le'. L.alone_ok (record { l = w.l; r = w.r; w = with_spare w.w (length s.objs) }) (omega arith, omega arith, record { ext = ext_spare w.w (length s.objs); still = refl }) tt (spare here) (spare_added x c ti) le le' }
+  left_adds {w = w} x c = record { by = λ s t ti le le'. L.alone_ok refl (record { l = w.l; r = w.r; w = with_spare w.w (length s.objs) }) (omega arith, omega arith, record { ext = ext_spare w.w (length s.objs); still = refl }) tt (spare here) (spare_added x c ti) le le' }
 
   pub left_object : {w : W} → Silent (λ v y. Spare v.w y) w make_object
   unfolding make_object
@@ -205,8 +205,8 @@ module _ (F : Facts) (S : Tables) (set' : List (Path × ℕ)) where
 
   left_function_by : {w : W} (b : Bool) (f i : ℕ) (u : Option ℕ) → Silent Any w (add_function_by b f i u)
   unfolding add_function_by add_function push_frame ret ◌>>=◌ after said
-  left_function_by {w = w} false f i u = record { by = λ s t ti le le'. L.alone_ok w (now T w) tt tt (function_left (record { function = f; up = u; site = i }) s.frames ti ti.frames) le le' }
-  left_function_by {w = w} true f i u = record { by = λ s t ti le le'. L.alone_ok w (now T w) tt tt (function_left (record { function = f; up = Some (length s.frames); site = i }) (s.frames ++ (record { kind = of_own_name; up = u; values = Some (obj (suc (length s.objs))) ∷ [] }) ∷ []) ti (add_left ti.frames _)) le le' }
+  left_function_by {w = w} false f i u = record { by = λ s t ti le le'. L.alone_ok refl w (now T w) tt tt (function_left (record { function = f; up = u; site = i }) s.frames ti ti.frames) le le' }
+  left_function_by {w = w} true f i u = record { by = λ s t ti le le'. L.alone_ok refl w (now T w) tt tt (function_left (record { function = f; up = Some (length s.frames); site = i }) (s.frames ++ (record { kind = of_own_name; up = u; values = Some (obj (suc (length s.objs))) ∷ [] }) ∷ []) ti (add_left ti.frames _)) le le' }
 
   pub left_function : {w : W} (f i : ℕ) (g : Env) → Silent Any w (make_function f i g)
   unfolding make_function
@@ -252,7 +252,7 @@ module _ (F : Facts) (S : Tables) (set' : List (Path × ℕ)) where
   left_enters None v = silent_any tt
   left_enters (Some e) (prim p) = silent_any tt
   left_enters (Some e) (out n) = silent_any tt
-  left_enters {w = w} (Some e) (obj n) = record { by = λ s t ti le le'. L.alone_ok w (now T w) tt tt (any_changes n (entered_in e) (entered_left e) (entered_code e) (entered_owner e) ti) le le' }
+  left_enters {w = w} (Some e) (obj n) = record { by = λ s t ti le le'. L.alone_ok refl w (now T w) tt tt (any_changes n (entered_in e) (entered_left e) (entered_code e) (entered_owner e) ti) le le' }
 
   pub left_receives : {w : W} (t : Option TypeSet) (v : Val) → Silent Any w (receive t v)
   unfolding receive
@@ -293,7 +293,7 @@ module _ (F : Facts) (S : Tables) (set' : List (Path × ℕ)) where
   pub left_writes : {w : W} (i : Spot) {m : ℕ} → Spare w.w (obj m) → (a : Access) (k : Kind) (v : Val) (d : Bool) → Silent Any w (write_slot checked i m a k v d)
   unfolding write_slot changing ret
   left_writes {w = w} i (spare {m = m} q) a k v d =
-      silent_then (silent_judged i (writes (obj m) a v d) _ (record { by = λ s t ti le le'. L.alone_ok w (now T w) tt tt (spare_put m (name_of s.tables a) (kind_for s.tables (name_of s.tables a) k) v q ti) le le' })) (λ u l _.
+      silent_then (silent_judged i (writes (obj m) a v d) _ (record { by = λ s t ti le le'. L.alone_ok refl w (now T w) tt tt (spare_put m (name_of s.tables a) (kind_for s.tables (name_of s.tables a) k) v q ti) le le' })) (λ u l _.
       record { by = λ s t ti le le'. (left_receives_all (fields_reached s.tables s.objs m a) v).by s t ti le le' })
 
   -- ---- frames that the left alone makes
@@ -311,4 +311,4 @@ module _ (F : Facts) (S : Tables) (set' : List (Path × ℕ)) where
 
   pub left_pushes : {w : W} (k : FrameKind) (u : Option ℕ) (vs : List (Option Val)) → Silent (λ v n. In (record { place = n; entry = record { kind = k; up = u; values = vs } }) v.w.alone) w (push_frame k u vs)
   unfolding push_frame ret
-  left_pushes {w = w} k u vs = record { by = λ s t ti le le'. let a : Frame = record { kind = k; up = u; values = vs } in L.alone_ok (record { l = w.l; r = w.r; w = with_alone w.w (length s.frames) a }) (omega arith, omega arith, record { ext = ext_alone w.w (length s.frames) a; still = refl }) tt here (frame_left a ti) le le' }
+  left_pushes {w = w} k u vs = record { by = λ s t ti le le'. let a : Frame = record { kind = k; up = u; values = vs } in L.alone_ok refl (record { l = w.l; r = w.r; w = with_alone w.w (length s.frames) a }) (omega arith, omega arith, record { ext = ext_alone w.w (length s.frames) a; still = refl }) tt here (frame_left a ti) le le' }

@@ -65,7 +65,7 @@ module _ (F : Facts) (S : Tables) (set' : List (Path × ℕ)) where
 
   quiet_reading : {A : Type 0} {w : W} (f : State → A) → Quiet w (reading f)
   unfolding reading ret
-  quiet_reading {w = w} f = record { by = λ s t ti le le'. L.alone_ok w (now T w) tt tt ti le le' }
+  quiet_reading {w = w} f = record { by = λ s t ti le le'. L.alone_ok refl w (now T w) tt tt ti le le' }
 
   -- ---- variables
 
@@ -163,7 +163,7 @@ module _ (F : Facts) (S : Tables) (set' : List (Path × ℕ)) where
   keeps_path : {w : W} (i : Spot) (p : Option (ℕ × ℕ)) (v : Val) → Quiet w (keep_path checked i p v)
   unfolding keep_path keep changing ret
   keeps_path i None v = quiet tt
-  keeps_path {w = w} i (Some p) v = on (silent_judged F S set' i (keeps (flat p.0 p.1) v) _ (record { by = λ s t ti le le'. L.alone_ok w (now T w) tt tt ti le le' })) (λ u l _. silent_tables F S set' _ (left_receives F S set' (variable_type S (flat p.0 p.1)) v))
+  keeps_path {w = w} i (Some p) v = on (silent_judged F S set' i (keeps (flat p.0 p.1) v) _ (record { by = λ s t ti le le'. L.alone_ok refl w (now T w) tt tt ti le le' })) (λ u l _. silent_tables F S set' _ (left_receives F S set' (variable_type S (flat p.0 p.1)) v))
 
   puts_on : {w : W} (i : Spot) {o : Val} → Spare F S set' w.w o → (a : Access) (v : Val) → Quiet w (put_on checked i o a (kind_by a) v false)
   unfolding put_on
