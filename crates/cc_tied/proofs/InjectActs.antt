@@ -134,7 +134,7 @@ module _ (F : Facts) (S : Tables) (set' : List (Path × ℕ)) where
   with_obj w p = record w { objs = p ∷ w.objs }
 
   pub ext_obj : (w : Tabs) (p : Pair (Option Code)) → Ext w (with_obj w p)
-  ext_obj w p = record { objs = λ q h. there h; frames = λ q h. h; spare = λ q h. h; alone = λ q h. h }
+  ext_obj w p = record { objs = λ q h. there h; frames = λ q h. h; spare = λ q h. h; alone = λ q h. h; begun = λ c h. h }
 
   -- both add an object
   pub add_tied : {w : Tabs} {s t : State} (x y : Obj) → Tied w s t → ObjT F S w x.code x y → Tied (with_obj w (record { label = x.code; left = length s.objs; right = length t.objs })) (record s { objs = s.objs ++ x ∷ [] }) (record t { objs = t.objs ++ y ∷ [] })
@@ -149,6 +149,7 @@ module _ (F : Facts) (S : Tables) (set' : List (Path × ℕ)) where
         globals = places_more (val_more e) ti.globals;
         known = λ g k d. known_more e (ti.known g k d);
         loaded = ti.loaded;
+        begun = ti.begun;
         failed = ti.failed;
         constructed = ti.constructed;
         handles = list_as (λ a b o. mates_more e o) ti.handles;
@@ -160,12 +161,12 @@ module _ (F : Facts) (S : Tables) (set' : List (Path × ℕ)) where
   unfolding add_obj ret
   add_t {w = w} x y h s t ti le le' =
       let q : Pair (Option Code) = record { label = x.code; left = length s.objs; right = length t.objs } in
-      ok_t refl (record { l = w.l; r = w.r; w = with_obj w.w q }) (omega arith, omega arith, ext_obj w.w q) tt (obj_t (x.code, here)) (add_tied x y ti h) le le'
+      ok_t refl (record { l = w.l; r = w.r; w = with_obj w.w q }) (omega arith, omega arith, record { ext = ext_obj w.w q; still = refl }) tt (obj_t (x.code, here)) (add_tied x y ti h) le le'
 
   -- ---- tied objects change
 
   pub with_objs : {w : Tabs} {s t : State} (os ps : List Obj) → Tied w s t → Table (ObjT F S w) (λ y a. a.code ≡ None) w.objs w.spare os ps → AllOwned w.objs os → Tied w (record s { objs = os }) (record t { objs = ps })
-  with_objs os ps ti h o = record { tables = ti.tables; tables' = ti.tables'; objs = h; owned = o; frames = ti.frames; globals = ti.globals; known = ti.known; loaded = ti.loaded; failed = ti.failed; constructed = ti.constructed; handles = ti.handles; replies = ti.replies; budget = ti.budget }
+  with_objs os ps ti h o = record { tables = ti.tables; tables' = ti.tables'; objs = h; owned = o; frames = ti.frames; globals = ti.globals; known = ti.known; loaded = ti.loaded; begun = ti.begun; failed = ti.failed; constructed = ti.constructed; handles = ti.handles; replies = ti.replies; budget = ti.budget }
 
   -- both change an object
   pub change_both : {w : Tabs} {s t : State} → Tied w s t → {m n : ℕ} → Mates w m n → (f g : Obj → Obj) → ((x : Option Code) (a b : Obj) → ObjT F S w x a b → ObjT F S w x (f a) (g b)) → Tied w (change m f s) (change n g t)
@@ -212,10 +213,10 @@ module _ (F : Facts) (S : Tables) (set' : List (Path × ℕ)) where
   pub receive_all_t : {w : W} (ts : List TypeSet) {a b : Val} → Vals w.w a b → Sim T Done w (receive_all ts a) (receive_all ts b)
   unfolding receive_all
   receive_all_t [] h = sim_ret T tt tt tt
-  receive_all_t (t ∷ ts) h = sim_bind T {R = Done} (receive_t (Some t) h) (λ v l _ _ _. receive_all_t ts (val_more l.2 _ _ h))
+  receive_all_t (t ∷ ts) h = sim_bind T {R = Done} (receive_t (Some t) h) (λ v l _ _ _. receive_all_t ts (val_more l.2.ext _ _ h))
 
   pub receive_each_t : {w : W} (ts : List (Option TypeSet)) {vs us : List Val} → ListT (Vals w.w) vs us → Sim T Done w (receive_each ts vs) (receive_each ts us)
   unfolding receive_each
   receive_each_t [] h = sim_ret T tt tt tt
   receive_each_t (t ∷ ts) nil_t = sim_ret T tt tt tt
-  receive_each_t (t ∷ ts) (cons_t h k) = sim_bind T {R = Done} (receive_t t h) (λ v l _ _ _. receive_each_t ts (list_as (val_more l.2) k))
+  receive_each_t (t ∷ ts) (cons_t h k) = sim_bind T {R = Done} (receive_t t h) (λ v l _ _ _. receive_each_t ts (list_as (val_more l.2.ext) k))

@@ -23,7 +23,7 @@ use Rattle.cc_tied.proofs.Sim.{Tie, World, ResT, ok_t, Sim, fine, sim_as, sim_bi
 use Rattle.cc_tied.proofs.InjectTable.{table_more, add_both, add_left, add_right}
 use Rattle.cc_tied.proofs.InjectPlaces.{places_more, places_of_list, fitted_tied}
 use Rattle.cc_tied.proofs.InjectWorld.{Label, Tabs, Ext, mates_more, Vals, val_more, opt_more, UpT, an_up, Codes, obj_more, FrameT, frame_more, known_more}
-use Rattle.cc_tied.proofs.InjectTie.{Ctx, at, in_catch, KeyI, EnvI, env_at, env_nowhere, with_set, TiedI, inject}
+use Rattle.cc_tied.proofs.InjectTie.{declares_nothing, Ctx, at, in_catch, KeyI, EnvI, env_at, env_inlined, env_nowhere, with_set, TiedI, inject}
 use Rattle.cc_tied.proofs.InjectRules.{least_none, none_least, unless_none, none_unless, and_true, true_and}
 use Rattle.cc_tied.proofs.InjectObjects.{class_at, found_is_value, look_up_tied}
 use Rattle.cc_tied.proofs.InjectTypes.{function_doc_same, doc_at_same, of_opt_type_same}
@@ -53,7 +53,7 @@ module _ (F : Facts) (S : Tables) (set' : List (Path × ℕ)) where
   with_frame w p = record w { frames = p ∷ w.frames }
 
   pub ext_frame : (w : Tabs) (p : Pair Label) → Ext w (with_frame w p)
-  ext_frame w p = record { objs = λ q h. h; frames = λ q h. there h; spare = λ q h. h; alone = λ q h. h }
+  ext_frame w p = record { objs = λ q h. h; frames = λ q h. there h; spare = λ q h. h; alone = λ q h. h; begun = λ c h. h }
 
   pub frame_added : {w : Tabs} {s t : State} (x : Label) (a b : Frame) → Tied w s t → FrameT F S w x a b → Tied (with_frame w (record { label = x; left = length s.frames; right = length t.frames })) (record s { frames = s.frames ++ a ∷ [] }) (record t { frames = t.frames ++ b ∷ [] })
   frame_added {w = w} {s = s} {t = t} x a b ti h =
@@ -66,6 +66,7 @@ module _ (F : Facts) (S : Tables) (set' : List (Path × ℕ)) where
         globals = places_more (val_more e) ti.globals;
         known = λ g k d. known_more e (ti.known g k d);
         loaded = ti.loaded;
+        begun = ti.begun;
         failed = ti.failed;
         constructed = ti.constructed;
         handles = list_as (λ m n o. mates_more e o) ti.handles;
@@ -82,7 +83,7 @@ module _ (F : Facts) (S : Tables) (set' : List (Path × ℕ)) where
   unfolding push_frame ret marks
   push_t {w = w} x k u u' vs us h s t ti le le' =
       let p : Pair Label = record { label = x; left = length s.frames; right = length t.frames } in
-      ok_t refl (record { l = w.l; r = w.r; w = with_frame w.w p }) (omega arith, omega arith, ext_frame w.w p) tt (record { pair = here; later = ext_frame w.w p }) (frame_added x (record { kind = k; up = u; values = vs }) (record { kind = k; up = u'; values = us }) ti h) le le'
+      ok_t refl (record { l = w.l; r = w.r; w = with_frame w.w p }) (omega arith, omega arith, record { ext = ext_frame w.w p; still = refl }) tt (record { pair = here; later = ext_frame w.w p }) (frame_added x (record { kind = k; up = u; values = vs }) (record { kind = k; up = u'; values = us }) ti h) le le'
 
   -- frames of which nothing is kept
   push_apart : {w : W} (k : FrameKind) (u u' : Option ℕ) (vs us : List (Option Val)) → Sim T (λ v m n. Unit {0}) w (push_frame k u vs) (push_frame k u' us)
@@ -101,8 +102,9 @@ module _ (F : Facts) (S : Tables) (set' : List (Path × ℕ)) where
   unfolding catch_label innermost
   catch_up o c u u' x h = an_up _ refl h
 
-  pub catch_t : {w : W} {c : Ctx} {g h : Env} {x y : Val} → EnvI F S w.w c g h → Vals w.w x y → Sim T (λ v m n. EnvI F S v.w (in_catch c) (record g { at = Some m }) (record h { at = Some n })) w (push_frame of_catch g.at (Some x ∷ [])) (push_frame of_catch h.at (Some y ∷ []))
+  pub catch_t : {w : W} {c : Ctx} {g h : Env} {x y : Val} → EnvI F S set' w.w c g h → Vals w.w x y → Sim T (λ v m n. EnvI F S set' v.w (in_catch c) (record g { at = Some m }) (record h { at = Some n })) w (push_frame of_catch g.at (Some x ∷ [])) (push_frame of_catch h.at (Some y ∷ []))
   catch_t {x = x} {y = y} (env_at {o = o} {c = c} {g = g} {h = h} u th d) v = sim_as T (λ z l m n q. env_at (catch_up o c g.at h.at x q.pair) (opt_more q.later th) d) (push_t (catch_label o c g.at h.at x) of_catch g.at h.at (Some x ∷ []) (Some y ∷ []) (catch_frame o c u v))
+  catch_t {x = x} {y = y} (env_inlined {g = g} {h = h} e d q a) v = sim_as T (λ z l m n k. env_nowhere (record { keeps = declares_nothing d })) (push_apart of_catch g.at h.at (Some x ∷ []) (Some y ∷ []))
   catch_t {x = x} {y = y} (env_nowhere {g = g} {h = h} d) v = sim_as T (λ z l m n q. env_nowhere d) (push_apart of_catch g.at h.at (Some x ∷ []) (Some y ∷ []))
 
   -- the frame of a call
@@ -120,13 +122,13 @@ module _ (F : Facts) (S : Tables) (set' : List (Path × ℕ)) where
   unfolding call_label innermost
   call_up f u u' vs h = an_up _ refl h
 
-  frame_one : {w : W} (f i i' : ℕ) {u u' : Option ℕ} {th th' : Option Val} {vs us : List Val} → UpT F S w.w (outward F S (called f)) u u' → OptT (Vals w.w) th th' → ListT (Vals w.w) vs us → Sim T (λ v m n. EnvI F S v.w (at (Some f) 0) (record { at = Some m; this = th; declares = [] }) (record { at = Some n; this = th'; declares = [] })) w (call_frame checked (record { function = f; up = u; site = i }) vs) (call_frame checked (record { function = f; up = u'; site = i' }) us)
+  frame_one : {w : W} (f i i' : ℕ) {u u' : Option ℕ} {th th' : Option Val} {vs us : List Val} → UpT F S w.w (outward F S (called f)) u u' → OptT (Vals w.w) th th' → ListT (Vals w.w) vs us → Sim T (λ v m n. EnvI F S set' v.w (at (Some f) 0) (record { at = Some m; this = th; declares = [] }) (record { at = Some n; this = th'; declares = [] })) w (call_frame checked (record { function = f; up = u; site = i }) vs) (call_frame checked (record { function = f; up = u'; site = i' }) us)
   unfolding call_frame places_in
   frame_one {w = w} f i i' {u = u} {u' = u'} {vs = vs} {us = us} h th k =
       sim_tables T _ _ (sim_as T (λ v l m n q. env_at (call_up f u u' vs q.pair) (opt_more q.later th) (record { keeps = λ z e. e })) (push_t (call_label f u u' vs) (of_call f) u u' (places_in f vs) (places_in f us) (call_places f h k)))
 
-  pub frame_t : {w : W} {a b : Code} {th th' : Option Val} {vs us : List Val} → Codes F S w.w a b → OptT (Vals w.w) th th' → ListT (Vals w.w) vs us → Sim T (λ v m n. EnvI F S v.w (at (Some a.function) 0) (record { at = Some m; this = th; declares = [] }) (record { at = Some n; this = th'; declares = [] })) w (call_frame checked a vs) (call_frame checked b us)
-  frame_t {w = w} {a = a} {b = b} {th = th} {th' = th'} {vs = vs} {us = us} c h k = subst (λ z. Sim T (λ v m n. EnvI F S v.w (at (Some a.function) 0) (record { at = Some m; this = th; declares = [] }) (record { at = Some n; this = th'; declares = [] })) w (call_frame checked a vs) (call_frame checked (record { function = z; up = b.up; site = b.site }) us)) c.function.same (frame_one a.function a.site b.site c.up h k)
+  pub frame_t : {w : W} {a b : Code} {th th' : Option Val} {vs us : List Val} → Codes F S w.w a b → OptT (Vals w.w) th th' → ListT (Vals w.w) vs us → Sim T (λ v m n. EnvI F S set' v.w (at (Some a.function) 0) (record { at = Some m; this = th; declares = [] }) (record { at = Some n; this = th'; declares = [] })) w (call_frame checked a vs) (call_frame checked b us)
+  frame_t {w = w} {a = a} {b = b} {th = th} {th' = th'} {vs = vs} {us = us} c h k = subst (λ z. Sim T (λ v m n. EnvI F S set' v.w (at (Some a.function) 0) (record { at = Some m; this = th; declares = [] }) (record { at = Some n; this = th'; declares = [] })) w (call_frame checked a vs) (call_frame checked (record { function = z; up = b.up; site = b.site }) us)) c.function.same (frame_one a.function a.site b.site c.up h k)
 
   -- ---- flat paths and casts
 
@@ -156,7 +158,7 @@ module _ (F : Facts) (S : Tables) (set' : List (Path × ℕ)) where
 
   pub cast_t : {w : W} (i i' : Spot) (d : ℕ) {x y : Val} → Vals w.w x y → Sim T Done w (cast_to checked i d x) (cast_to checked i' d y)
   unfolding cast_to least_broken
-  cast_t i i' d {x = x} {y = y} v = sim_bind T {R = Done} (judged_i F S set' i i' (casts d x) (casts d y) skip skip (λ s t ti e. cast_none ti d v e) (sim_ret T tt tt tt)) (λ z l _ _ _. cast_received d (val_more l.2 _ _ v))
+  cast_t i i' d {x = x} {y = y} v = sim_bind T {R = Done} (judged_i F S set' i i' (casts d x) (casts d y) skip skip (λ s t ti e. cast_none ti d v e) (sim_ret T tt tt tt)) (λ z l _ _ _. cast_received d (val_more l.2.ext _ _ v))
 
   -- ---- calls
 

@@ -80,7 +80,7 @@ module _ (F : Facts) (S : Tables) (set' : List (Path × ℕ)) where
   left_keeps : {w : W} (i : Spot) (x : Variable) (u : Val) (f : State → State) → ((s t : State) → Tied w.w s t → Tied w.w (f s) t) → ((s : State) → (f s).budget ≡ s.budget) → Quiet w (keep checked i x u f)
   unfolding keep changing ret
   left_keeps {w = w} i x u f h b =
-      on (silent_judged F S set' i (keeps x u) _ (record { by = λ s t ti le le'. let e = b s in L.alone_ok w (now T w) tt tt (h s t ti) (omega arith) le' })) (λ v l _.
+      on (silent_judged F S set' i (keeps x u) _ (record { by = λ s t ti le le'. let e = b s in L.alone_ok refl w (now T w) tt tt (h s t ti) (omega arith) le' })) (λ v l _.
       silent_tables F S set' _ (left_receives F S set' (variable_type S x) u))
 
   left_writes_kind : {w : W} (i : Spot) (l : Level) {a b : Option ℕ} → UpT F S w.w (Some l) a b → (n : ℕ) → DeadAt F l n → (FixedAt F l n → ⊥) → (u : Val) → Quiet w (write_by_kind checked i (frame_kind l) a n u)
@@ -94,23 +94,23 @@ module _ (F : Facts) (S : Tables) (set' : List (Path × ℕ)) where
   left_writes_place {w = w} i {l = l} (frame_there x {a = p} e h) {a = a} up n d f u =
       subst (λ z. Quiet w (write_by_kind checked i z a n u)) (sym (h.kind ∙ ap frame_kind e)) (left_writes_kind i l up n d f u)
 
-  env_up : {w : Tabs} {o : Option ℕ} {c : ℕ} {g h : Env} → EnvI F S w (at o c) g h → UpT F S w (innermost o c) g.at h.at
+  env_up : {w : Tabs} {o : Option ℕ} {c : ℕ} {g h : Env} → EnvI F S set' w (at o c) g h → UpT F S w (innermost o c) g.at h.at
   env_up (env_at u t d) = u
 
   -- a write to a place that is never read
-  pub left_writes_dead : {w : W} (i : Spot) {o : Option ℕ} {c m : ℕ} {l : Level} {g h : Env} → EnvI F S w.w (at o c) g h → Above F S (innermost o c) m l → (n : ℕ) → DeadAt F l n → (FixedAt F l n → ⊥) → (u : Val) → Quiet w (write_var checked i g (Ref.Frame m n) u)
+  pub left_writes_dead : {w : W} (i : Spot) {o : Option ℕ} {c m : ℕ} {l : Level} {g h : Env} → EnvI F S set' w.w (at o c) g h → Above F S (innermost o c) m l → (n : ℕ) → DeadAt F l n → (FixedAt F l n → ⊥) → (u : Val) → Quiet w (write_var checked i g (Ref.Frame m n) u)
   unfolding write_var
   left_writes_dead i {m = m} {g = g} e a n d f u = record { by = λ s t ti le le'. let up = G.ups F S set' ti a (env_up e) in (left_writes_place i (G.frames_at F S set' ti up) up n d f u).by s t ti le le' }
 
   -- ---- globals that the right never reads
 
-  known_left : {w : Tabs} {s t : State} → Tied w s t → (n : ℕ) (u : Val) → ((h : Held) → F.Known n h → ⊥) → (g : ℕ) (h : Held) → F.Known g h → (n ≡ g) ⊎ (n ≢ g) → KnownT w h (flat_option (slice_get (slice_set s.globals n (Some u)) g))
+  known_left : {w : Tabs} {s t : State} → Tied w s t → (n : ℕ) (u : Val) → ((h : Held) → F.Known n h → ⊥) → (g : ℕ) (h : Held) → F.Known g h → (n ≡ g) ⊎ (n ≢ g) → KnownT w w.still g h (flat_option (slice_get (slice_set s.globals n (Some u)) g))
   known_left ti n u d g h k (inl e) = absurd (d h (subst (λ z. F.Known z h) (sym e) k))
-  known_left {w = w} {s = s} ti n u d g h k (inr e) = subst (λ z. KnownT w h (flat_option z)) (sym (get_set_other s.globals n g (Some u) e)) (ti.known g h k)
+  known_left {w = w} {s = s} ti n u d g h k (inr e) = subst (λ z. KnownT w w.still g h (flat_option z)) (sym (get_set_other s.globals n g (Some u) e)) (ti.known g h k)
 
   global_left : {w : Tabs} {s t : State} → Tied w s t → (n : ℕ) → F.Unread n → ((h : Held) → F.Known n h → ⊥) → (u : Val) → Tied w (set_global n u s) t
   unfolding set_global
-  global_left ti n r d u = record { tables = ti.tables; tables' = ti.tables'; objs = ti.objs; owned = ti.owned; frames = ti.frames; globals = places_left ti.globals n u r; known = λ g h k. known_left ti n u d g h k (place_cases n g); loaded = ti.loaded; failed = ti.failed; constructed = ti.constructed; handles = ti.handles; replies = ti.replies; budget = ti.budget }
+  global_left ti n r d u = record { tables = ti.tables; tables' = ti.tables'; objs = ti.objs; owned = ti.owned; frames = ti.frames; globals = places_left ti.globals n u r; known = λ g h k. known_left ti n u d g h k (place_cases n g); loaded = ti.loaded; begun = ti.begun; failed = ti.failed; constructed = ti.constructed; handles = ti.handles; replies = ti.replies; budget = ti.budget }
 
   pub left_writes_unread : {w : W} (i : Spot) (g : Env) (n : ℕ) → F.Unread n → ((h : Held) → F.Known n h → ⊥) → (u : Val) → Quiet w (write_var checked i g (Ref.Global n) u)
   unfolding write_var
@@ -121,7 +121,7 @@ module _ (F : Facts) (S : Tables) (set' : List (Path × ℕ)) where
     gone_place : {o : Option ℕ} {c m n : ℕ} {l : Level} → Above F S (innermost o c) m l → DeadAt F l n → (FixedAt F l n → ⊥) → Gone (at o c) (Ref.Frame m n)
     gone_global : {c : Ctx} {n : ℕ} → F.Unread n → ((h : Held) → F.Known n h → ⊥) → Gone c (Ref.Global n)
 
-  pub left_sets : {w : W} (i : Spot) {c : Ctx} {g h : Env} {r : Ref} → EnvI F S w.w c g h → Gone c r → (u : Val) → Quiet w (write_var checked i g r u)
+  pub left_sets : {w : W} (i : Spot) {c : Ctx} {g h : Env} {r : Ref} → EnvI F S set' w.w c g h → Gone c r → (u : Val) → Quiet w (write_var checked i g r u)
   left_sets i e (gone_place {n = n} a d f) u = left_writes_dead i e a n d f u
   left_sets i {g = g} e (gone_global {n = n} r d) u = left_writes_unread i g n r d u
 
@@ -135,10 +135,10 @@ module _ (F : Facts) (S : Tables) (set' : List (Path × ℕ)) where
     open X use {B, B', w}
 
     abbrev Env2 : W → Env → Env → Type 0
-    Env2 v g g' = EnvI F S v.w c g g'
+    Env2 v g g' = EnvI F S set' v.w c g g'
 
     later_env : {u v : W} {g g' : Env} → Later T u v → Env2 u g g' → Env2 v g g'
-    later_env l e = env_more F S l.2 e
+    later_env l e = env_more F S set' l.2 e
 
     go_on : {v : W} {m m' : M Comp} → Sim T (CompV K) v m m' → (k : Comp) → k ≡ normal → Sim T (CompV K) v (next k m) m'
     unfolding next
@@ -205,4 +205,4 @@ module _ (F : Facts) (S : Tables) (set' : List (Path × ℕ)) where
 
     pub idle_goes_of_chunk : {s : Stmt} {ss ss' : Stmts} → Idle X (at None 0) [] s → FollowsChunk K X n ss ss' → FollowsChunk K X n (more_stmts s ss) ss'
     unfolding ex_chunk
-    idle_goes_of_chunk {s = s} h k = record { by = λ v l q. L.rel_left T tt (silent_tables F S set' _ (h.by v l _ _ (Rattle.cc_tied.proofs.InjectTie.env_top F S (record { keeps = λ f e. e })))) (λ v2 l2 x e. go_on X (at None 0) (k.by v2 (later T l l2) q) x e) }
+    idle_goes_of_chunk {s = s} h k = record { by = λ v l q. L.rel_left T tt (silent_tables F S set' _ (h.by v l _ _ (Rattle.cc_tied.proofs.InjectTie.env_top F S set' (record { keeps = λ f e. e })))) (λ v2 l2 x e. go_on X (at None 0) (k.by v2 (later T l l2) q) x e) }

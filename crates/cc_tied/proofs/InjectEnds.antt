@@ -11,13 +11,13 @@ use Rattle.cc_meaning.specs.Shapes.{tables_of}
 use Rattle.cc_meaning.specs.Script.{graph_of, start, checked}
 use Rattle.cc_meaning.specs.Same.{Same}
 use Rattle.cc_tied.specs.Tied.{OptT, none_t, nil_t}
-use Rattle.cc_tied.specs.Facts.{Facts}
+use Rattle.cc_tied.specs.Facts.{Held, holds_function, holds_literal, Facts}
 use Rattle.cc_tied.proofs.Sim.{Tie}
 use Rattle.cc_tied.proofs.Runs.{RunsT, IsExact, run_tied}
 use Rattle.cc_tied.proofs.EqualModes.{SameEnd, same_end}
-use Rattle.cc_tied.proofs.InjectTable.{none_tied}
+use Rattle.cc_tied.proofs.InjectTable.{none_in, none_tied}
 use Rattle.cc_tied.proofs.InjectPlaces.{Places}
-use Rattle.cc_tied.proofs.InjectWorld.{Tabs, KnownT, unset_k, Vals}
+use Rattle.cc_tied.proofs.InjectWorld.{Tabs, no_function, KnownT, function_k, unset_k, Vals}
 use Rattle.cc_tied.proofs.InjectTie.{with_set, TiedI, inject}
 use Rattle.cc_tied.proofs.InjectUpkeep.{upkeep, inject_kit}
 
@@ -26,7 +26,7 @@ pub record SameButSet (P Q : Program) : Type 0 where
   pub tables : tables_of Q ≡ with_set (tables_of P) (tables_of Q).set
 
 abbrev pub no_tabs : Tabs
-no_tabs = record { objs = []; frames = []; spare = []; alone = [] }
+no_tabs = record { objs = []; frames = []; spare = []; alone = []; still = []; begun = [] }
 
 -- ---- what isn't set
 
@@ -67,8 +67,13 @@ module _ (F : Facts) (P Q : Program) (same : SameButSet P Q) where
   none_set : Places (Vals no_tabs) F.Unread (map no_value P.globals) (map no_value Q.globals)
   none_set = record { count = ap (λ gs. length (map no_value gs)) same_globals; each = λ n d. unset_tied (unset P.globals n) (unset Q.globals n) }
 
-  not_known : (g : ℕ) (h : _) → KnownT no_tabs h (flat_option (slice_get (map no_value P.globals) g))
-  not_known g h = rw (unset P.globals g) unset_k
+  not_known : (g : ℕ) (h : Held) → KnownT no_tabs [] g h (flat_option (slice_get (map no_value P.globals) g))
+  unfolding flat_option
+  not_known g h = rw (unset P.globals g) (nothing h)
+    where
+      nothing : (h : Held) → KnownT no_tabs [] g h None
+      nothing (holds_function f) = function_k no_function refl
+      nothing (holds_literal p) = unset_k
 
   pub starts : (rs : List Reply) (n : ℕ) → TiedI F (tables_of P) (tables_of Q).set no_tabs (start checked P rs n) (start checked Q rs n)
   unfolding start
@@ -81,6 +86,7 @@ module _ (F : Facts) (P Q : Program) (same : SameButSet P Q) where
     globals = none_set;
     known = λ g h k. not_known g h;
     loaded = refl;
+    begun = λ c h. absurd (none_in h);
     failed = refl;
     constructed = λ c h. h;
     handles = nil_t;
@@ -88,7 +94,7 @@ module _ (F : Facts) (P Q : Program) (same : SameButSet P Q) where
     budget = refl;
   }
 
-  exact : IsExact pair_tie
+  pub exact : IsExact pair_tie
   exact = record { never_short = λ h. h; never_ahead = λ h. h; one_end = λ e. one e }
     where
       one : {e e' : Rattle.cc_meaning.specs.Monad.End} → SameEnd e e' → Rattle.cc_meaning.specs.Same.IsBroken (Rattle.cc_meaning.specs.Script.stopped e) ⊎ (e ≡ e')

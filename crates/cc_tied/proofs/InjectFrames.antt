@@ -23,7 +23,7 @@ use Rattle.cc_tied.proofs.Sim.{Tie, World, ResT, Sim, fine, after_t, sim_ret, si
 use Rattle.cc_tied.proofs.InjectTable.{set_both}
 use Rattle.cc_tied.proofs.InjectPlaces.{places_set}
 use Rattle.cc_tied.proofs.InjectWorld.{Label, Tabs, Vals, val_more, UpT, an_up, FrameT, KnownT}
-use Rattle.cc_tied.proofs.InjectTie.{ReadI, reads_global, reads_place, WriteI, writes_global, writes_place, EnvI, env_at, with_set, TiedI, inject}
+use Rattle.cc_tied.proofs.InjectTie.{ReadI, reads_global, reads_inlined, reads_place, WriteI, writes_global, writes_place, EnvI, env_at, with_set, TiedI, inject}
 use Rattle.cc_tied.proofs.InjectRules.{unless_none, none_unless}
 use Rattle.cc_tied.proofs.InjectObjects.{is_some_same}
 use Rattle.cc_tied.proofs.InjectTypes.{of_opt_type_same, variable_type_same, is_settled_same}
@@ -117,15 +117,19 @@ module _ (F : Facts) (S : Tables) (set' : List (Path × ℕ)) where
   unfolding global_kind
   kind_same n = refl
 
-  env_up : {w : Tabs} {o : Option ℕ} {c : ℕ} {g h : Env} → EnvI F S w (Rattle.cc_tied.proofs.InjectTie.at o c) g h → UpT F S w (innermost o c) g.at h.at
+  env_up : {w : Tabs} {o : Option ℕ} {c : ℕ} {g h : Env} → EnvI F S set' w (Rattle.cc_tied.proofs.InjectTie.at o c) g h → UpT F S w (innermost o c) g.at h.at
   env_up (env_at u t d) = u
 
-  pub read_var_t : {w : W} (i i' : Spot) {c : Rattle.cc_tied.proofs.InjectTie.Ctx} {g h : Env} {r r' : Ref} → EnvI F S w.w c g h → ReadI F S c r r' → Sim T (λ v. Vals v.w) w (read_var checked i g r) (read_var checked i' h r')
-  unfolding read_var
-  read_var_t {w = w} i i' e (reads_global {n = n} d) s t ti le le' =
+  reads_global_t : {w : W} (i i' : Spot) (n : ℕ) → (F.Unread n → ⊥) → {s t : State} → Tied w.w s t → s.budget ≤ w.l → t.budget ≤ w.r → ResT T (λ v. Vals v.w) w (read_global checked i n (global_kind s.tables n) s) (read_global checked i' n (global_kind t.tables n) t)
+  reads_global_t {w = w} i i' n d {s = s} {t = t} ti le le' =
       subst (λ z. ResT T (λ v. Vals v.w) w (read_global checked i n z s) (read_global checked i' n (global_kind t.tables n) t)) (sym (ap (λ z. global_kind z n) ti.tables))
       (subst (λ z. ResT T (λ v. Vals v.w) w (read_global checked i n (global_kind S n) s) (read_global checked i' n z t)) (kind_same n ∙ sym (ap (λ z. global_kind z n) ti.tables'))
       (global_t i i' n (global_kind S n) d s t ti le le'))
+
+  pub read_var_t : {w : W} (i i' : Spot) {c : Rattle.cc_tied.proofs.InjectTie.Ctx} {g h : Env} {r r' : Ref} → EnvI F S set' w.w c g h → ReadI F S c r r' → Sim T (λ v. Vals v.w) w (read_var checked i g r) (read_var checked i' h r')
+  unfolding read_var
+  read_var_t i i' e (reads_global {n = n} d) s t ti le le' = reads_global_t i i' n d ti le le'
+  read_var_t i i' e (reads_inlined {n = n} d) s t ti le le' = reads_global_t i i' n d ti le le'
   read_var_t i i' e (reads_place {n = n} a d) s t ti le le' = read_at_t i i' (frames_at ti (ups ti a (env_up e))) n d s t ti le le'
 
   -- ---- variables that are written
@@ -138,7 +142,7 @@ module _ (F : Facts) (S : Tables) (set' : List (Path × ℕ)) where
       stays m q (inr e) = get_set_other a.values n m (Some u) e ∙ h.fixed m q
 
   pub with_frames : {w : Tabs} {s t : State} (fs gs : List Frame) → Tied w s t → Table (FrameT F S w) (λ y a. a ≡ y) w.frames w.alone fs gs → Tied w (record s { frames = fs }) (record t { frames = gs })
-  with_frames fs gs ti h = record { tables = ti.tables; tables' = ti.tables'; objs = ti.objs; owned = ti.owned; frames = h; globals = ti.globals; known = ti.known; loaded = ti.loaded; failed = ti.failed; constructed = ti.constructed; handles = ti.handles; replies = ti.replies; budget = ti.budget }
+  with_frames fs gs ti h = record { tables = ti.tables; tables' = ti.tables'; objs = ti.objs; owned = ti.owned; frames = h; globals = ti.globals; known = ti.known; loaded = ti.loaded; begun = ti.begun; failed = ti.failed; constructed = ti.constructed; handles = ti.handles; replies = ti.replies; budget = ti.budget }
 
   frames_set : {w : Tabs} {s t : State} → Tied w s t → (x : Label) {m k : ℕ} → In (record { label = x; left = m; right = k }) w.frames → (n : ℕ) → (FixedAt F x.level n → ⊥) → {u v : Val} → Vals w u v → (a b : Option Frame) → slice_get s.frames m ≡ a → slice_get t.frames k ≡ b → Both (FrameT F S w x) a b → Table (FrameT F S w) (λ y a. a ≡ y) w.frames w.alone (frames_with s.frames m n u a) (frames_with t.frames k n v b)
   unfolding frames_with
@@ -148,12 +152,12 @@ module _ (F : Facts) (S : Tables) (set' : List (Path × ℕ)) where
   unfolding set_place
   place_tied ti (an_up x e q) n d v = with_frames _ _ ti (frames_set ti x q n (subst (λ z. FixedAt F z n → ⊥) (sym e) d) v _ _ refl refl (ti.frames.tied _ q))
 
-  keep_none : {w : Tabs} {s t : State} → Tied w s t → (x : Variable) {u v : Val} → Vals w u v → keep_rule S s x u ≡ None → keep_rule R t x v ≡ None
+  pub keep_none : {w : Tabs} {s t : State} → Tied w s t → (x : Variable) {u v : Val} → Vals w u v → keep_rule S s x u ≡ None → keep_rule R t x v ≡ None
   unfolding keep_rule
   keep_none {w = w} {s = s} {t = t} ti x {u = u} {v = v} h e =
       none_unless 6 (ap (λ z. of_opt_type R t.objs z v) (sym (variable_type_same S set' x)) ∙ sym (of_opt_type_same S set' F w s.objs t.objs (at_of F S set' ti) (variable_type S x) h) ∙ unless_none _ 6 e)
 
-  received_t : {w : W} (x : Variable) {u v : Val} → Vals w.w u v → Sim T Done w (with_tables (λ T. receive (variable_type T x) u)) (with_tables (λ T. receive (variable_type T x) v))
+  pub received_t : {w : W} (x : Variable) {u v : Val} → Vals w.w u v → Sim T Done w (with_tables (λ T. receive (variable_type T x) u)) (with_tables (λ T. receive (variable_type T x) v))
   received_t {w = w} x {u = u} {v = v} h = sim_tables T _ _ (subst (λ z. Sim T Done w (receive (variable_type S x) u) (receive z v)) (variable_type_same S set' x) (receive_t F S set' (variable_type S x) h))
 
   -- a variable receives a value, in two states
@@ -161,7 +165,7 @@ module _ (F : Facts) (S : Tables) (set' : List (Path × ℕ)) where
   unfolding keep changing ret ◌>>=◌ least_broken
   keep_at i i' x {u = u} {v = v} h f g {s = s} {t = t} ti le le' b c k =
       let d = b s in let e = c t in
-      after_t T {R = Done} (λ z l _ _ _. received_t x (val_more l.2 _ _ h))
+      after_t T {R = Done} (λ z l _ _ _. received_t x (val_more l.2.ext _ _ h))
       (judged_in F S set' i i' (keeps x u) (keeps x v) (changing f) (changing g) ti (λ q. (keep_none ti x h q, fine T tt tt tt k (omega arith) (omega arith))))
 
   pub place_budget : (at : Option ℕ) (n : ℕ) (x : Val) (u : State) → (set_place at n x u).budget ≡ u.budget
@@ -182,19 +186,19 @@ module _ (F : Facts) (S : Tables) (set' : List (Path × ℕ)) where
       (subst (λ z. ResT T Done w (write_by_kind checked i (frame_kind x.level) a n u s) (write_by_kind checked i' z b n v t)) (sym h.kind')
       (write_kind_at i i' x.level a b n k ti le le' j))
 
-  known_set : {w : Tabs} {s t : State} → Tied w s t → (n : ℕ) (u : Val) → ((h : Held) → F.Known n h → ⊥) → (g : ℕ) (h : Held) → F.Known g h → (n ≡ g) ⊎ (n ≢ g) → KnownT w h (flat_option (slice_get (slice_set s.globals n (Some u)) g))
+  known_set : {w : Tabs} {s t : State} → Tied w s t → (n : ℕ) (u : Val) → ((h : Held) → F.Known n h → ⊥) → (g : ℕ) (h : Held) → F.Known g h → (n ≡ g) ⊎ (n ≢ g) → KnownT w w.still g h (flat_option (slice_get (slice_set s.globals n (Some u)) g))
   known_set ti n u d g h k (inl e) = absurd (d h (subst (λ z. F.Known z h) (sym e) k))
-  known_set {w = w} {s = s} ti n u d g h k (inr e) = subst (λ z. KnownT w h (flat_option z)) (sym (get_set_other s.globals n g (Some u) e)) (ti.known g h k)
+  known_set {w = w} {s = s} ti n u d g h k (inr e) = subst (λ z. KnownT w w.still g h (flat_option z)) (sym (get_set_other s.globals n g (Some u) e)) (ti.known g h k)
 
   pub global_tied : {w : Tabs} {s t : State} → Tied w s t → (n : ℕ) → ((h : Held) → F.Known n h → ⊥) → {u v : Val} → Vals w u v → Tied w (set_global n u s) (set_global n v t)
   unfolding set_global
-  global_tied ti n d {u = u} v = record { tables = ti.tables; tables' = ti.tables'; objs = ti.objs; owned = ti.owned; frames = ti.frames; globals = places_set ti.globals n v; known = λ g h k. known_set ti n u d g h k (place_cases n g); loaded = ti.loaded; failed = ti.failed; constructed = ti.constructed; handles = ti.handles; replies = ti.replies; budget = ti.budget }
+  global_tied ti n d {u = u} v = record { tables = ti.tables; tables' = ti.tables'; objs = ti.objs; owned = ti.owned; frames = ti.frames; globals = places_set ti.globals n v; known = λ g h k. known_set ti n u d g h k (place_cases n g); loaded = ti.loaded; begun = ti.begun; failed = ti.failed; constructed = ti.constructed; handles = ti.handles; replies = ti.replies; budget = ti.budget }
 
   pub global_budget : (n : ℕ) (x : Val) (u : State) → (set_global n x u).budget ≡ u.budget
   unfolding set_global
   global_budget n x u = refl
 
-  pub write_var_t : {w : W} (i i' : Spot) {c : Rattle.cc_tied.proofs.InjectTie.Ctx} {g h : Env} {r r' : Ref} {u v : Val} → EnvI F S w.w c g h → WriteI F S c r r' → Vals w.w u v → Sim T Done w (write_var checked i g r u) (write_var checked i' h r' v)
+  pub write_var_t : {w : W} (i i' : Spot) {c : Rattle.cc_tied.proofs.InjectTie.Ctx} {g h : Env} {r r' : Ref} {u v : Val} → EnvI F S set' w.w c g h → WriteI F S c r r' → Vals w.w u v → Sim T Done w (write_var checked i g r u) (write_var checked i' h r' v)
   unfolding write_var
   write_var_t i i' {u = u} {v = v} e (writes_global {n = n} d) k s t ti le le' = keep_at i i' (global n) k (set_global n u) (set_global n v) ti le le' (global_budget n u) (global_budget n v) (global_tied ti n d k)
   write_var_t i i' {g = g} {h = h} e (writes_place {u = m} {n = n} a d) k s t ti le le' =

@@ -7,7 +7,7 @@ use Rattle.cc_ast.specs.declared.tables.Element.{Element}
 use Rattle.cc_meaning.specs.Values.{Val, prim, obj, out, Spot}
 use Rattle.cc_meaning.specs.State.{Kind, Code, Obj, bare, FrameKind, of_own_name, Frame, Env, Path, State, Tables}
 use Rattle.cc_meaning.specs.Monad.{M, Res, broken, ret, stop, ◌>>=◌, after, said, with_tables, pick}
-use Rattle.cc_meaning.specs.Store.{Access, name_of, kind_for, find_slot, change, changed_at, put_own, put_by, put_in_array}
+use Rattle.cc_meaning.specs.Store.{flat_option, Access, name_of, kind_for, find_slot, change, changed_at, put_own, put_by, put_in_array}
 use Rattle.cc_meaning.specs.Names.{index_value, name_prototype}
 use Rattle.cc_meaning.specs.Typed.{entered, entered_in}
 use Rattle.cc_meaning.specs.SlotRules.{prototype_of_function, fields_reached}
@@ -23,7 +23,7 @@ use Rattle.cc_tied.proofs.Sim.{Tie, World, Later, now}
 use Rattle.cc_tied.proofs.Left as L
 use Rattle.cc_tied.proofs.InjectTable.{fresh_left, table_more, add_left, add_lone, set_lone, set_any}
 use Rattle.cc_tied.proofs.InjectPlaces.{places_more}
-use Rattle.cc_tied.proofs.InjectWorld.{Tabs, Ext, Mate, mates_more, val_more, ObjT, obj_more, FrameT, frame_more, known_more}
+use Rattle.cc_tied.proofs.InjectWorld.{Tabs, Ext, ext_same, KnownT, Mate, mates_more, val_more, ObjT, obj_more, FrameT, frame_more, known_more}
 use Rattle.cc_tied.proofs.InjectTie.{Owned, TiedI, inject}
 use Rattle.cc_tied.proofs.InjectTypes.{entered_old}
 use Rattle.cc_tied.proofs.InjectActs.{get_beside, one_longer, set_length, AllOwned, with_objs}
@@ -114,7 +114,7 @@ module _ (F : Facts) (S : Tables) (set' : List (Path × ℕ)) where
   silent_then h f = L.silent_bind T tt {Q = Any} h (λ v l a q. f v l a)
 
   alone_as : {A : Type 0} {P Q : W → A → Type 0} {w : W} {t : State} {r : Res A} → ((v : W) → Later T w v → (a : A) → P v a → Q v a) → Alone P w t r → Alone Q w t r
-  alone_as f (L.alone_ok v l st q ti le le') = L.alone_ok v l st (f v l _ q) ti le le'
+  alone_as f (L.alone_ok d v l st q ti le le') = L.alone_ok d v l st (f v l _ q) ti le le'
   alone_as f L.alone_broken = L.alone_broken
 
   pub silent_as : {A : Type 0} {P Q : W → A → Type 0} {w : W} {m : M A} → ((v : W) → Later T w v → (a : A) → P v a → Q v a) → Silent P w m → Silent Q w m
@@ -127,7 +127,7 @@ module _ (F : Facts) (S : Tables) (set' : List (Path × ℕ)) where
   -- a part that leaves the state
   pub still : {A : Type 0} {Q : W → A → Type 0} {w : W} {s t : State} (a : A) → Q w a → Tied w.w s t → Rattle.std.proofs.Common.◌≤◌ s.budget w.l → Rattle.std.proofs.Common.◌≤◌ t.budget w.r → Alone Q w t (ret a s)
   unfolding ret
-  still {w = w} a q ti le le' = L.alone_ok w (now T w) tt q ti le le'
+  still {w = w} a q ti le le' = L.alone_ok refl w (now T w) tt q ti le le'
 
   pub silent_stop : {A : Type 0} {Q : W → A → Type 0} {w : W} (r : ℕ) (i : Spot) → Silent {A = A} Q w (stop (broken r i))
   unfolding stop
@@ -146,19 +146,20 @@ module _ (F : Facts) (S : Tables) (set' : List (Path × ℕ)) where
   with_spare w n = record w { spare = record { place = n; entry = tt } ∷ w.spare }
 
   ext_spare : (w : Tabs) (n : ℕ) → Ext w (with_spare w n)
-  ext_spare w n = record { objs = λ q h. h; frames = λ q h. h; spare = λ q h. there h; alone = λ q h. h }
+  ext_spare w n = record { objs = λ q h. h; frames = λ q h. h; spare = λ q h. there h; alone = λ q h. h; begun = λ c h. h }
 
   -- the same state in a world with more of the left alone
-  in_more : {v w : Tabs} {s t : State} → Ext v w → v.objs ≡ w.objs → Tied v s t → (os : List Obj) (fs : List Frame) → Table (ObjT F S w) (λ y a. a.code ≡ None) w.objs w.spare os t.objs → AllOwned w.objs os → Table (FrameT F S w) (λ y a. a ≡ y) w.frames w.alone fs t.frames → Tied w (record s { objs = os; frames = fs }) t
-  in_more e d ti os fs objs owned frames = record {
+  in_more : {v w : Tabs} {s t : State} → Ext v w → v.still ≡ w.still → v.begun ≡ w.begun → Tied v s t → (os : List Obj) (fs : List Frame) → Table (ObjT F S w) (λ y a. a.code ≡ None) w.objs w.spare os t.objs → AllOwned w.objs os → Table (FrameT F S w) (λ y a. a ≡ y) w.frames w.alone fs t.frames → Tied w (record s { objs = os; frames = fs }) t
+  in_more {w = w} {s = s} e d b ti os fs objs owned frames = record {
     tables = ti.tables;
     tables' = ti.tables';
     objs = objs;
     owned = owned;
     frames = frames;
     globals = places_more (val_more e) ti.globals;
-    known = λ g h k. known_more e (ti.known g h k);
+    known = λ g h k. subst (λ z. KnownT w z g h (flat_option (slice_get s.globals g))) d (known_more e (ti.known g h k));
     loaded = ti.loaded;
+    begun = λ c q. ti.begun c (subst (λ z. In c z) (sym b) q);
     failed = ti.failed;
     constructed = ti.constructed;
     handles = list_as (λ m n o. mates_more e o) ti.handles;
@@ -169,11 +170,11 @@ module _ (F : Facts) (S : Tables) (set' : List (Path × ℕ)) where
   spare_added : {w : Tabs} {s t : State} (x : Obj) → x.code ≡ None → Tied w s t → Tied (with_spare w (length s.objs)) (record s { objs = s.objs ++ x ∷ [] }) t
   spare_added {w = w} {s = s} x c ti =
       let e = ext_spare w (length s.objs) in
-      in_more e refl ti (s.objs ++ x ∷ []) s.frames (add_lone (table_more ti.objs (obj_more F S e)) tt x c) (owned_left w.objs s.objs x (no_code_lonely w.objs s.objs x c) ti.owned) (table_more ti.frames (frame_more F S e))
+      in_more e refl refl ti (s.objs ++ x ∷ []) s.frames (add_lone (table_more ti.objs (obj_more F S e)) tt x c) (owned_left w.objs s.objs x (no_code_lonely w.objs s.objs x c) ti.owned) (table_more ti.frames (frame_more F S e))
 
   pub left_adds : {w : W} (x : Obj) → x.code ≡ None → Silent (λ v y. Spare v.w y) w (add_obj x)
   unfolding add_obj ret
-  left_adds {w = w} x c = record { by = λ s t ti le le'. L.alone_ok (record { l = w.l; r = w.r; w = with_spare w.w (length s.objs) }) (omega arith, omega arith, ext_spare w.w (length s.objs)) tt (spare here) (spare_added x c ti) le le' }
+  left_adds {w = w} x c = record { by = λ s t ti le le'. L.alone_ok refl (record { l = w.l; r = w.r; w = with_spare w.w (length s.objs) }) (omega arith, omega arith, record { ext = ext_spare w.w (length s.objs); still = refl }) tt (spare here) (spare_added x c ti) le le' }
 
   pub left_object : {w : W} → Silent (λ v y. Spare v.w y) w make_object
   unfolding make_object
@@ -200,12 +201,12 @@ module _ (F : Facts) (S : Tables) (set' : List (Path × ℕ)) where
       )
 
   function_left : {w : Tabs} {s t : State} (c : Code) (fs : List Frame) → Tied w s t → Table (FrameT F S w) (λ y a. a ≡ y) w.frames w.alone fs t.frames → Tied w (record s { objs = s.objs ++ bare ∷ function_object c (length s.objs) ∷ []; frames = fs }) t
-  function_left {w = w} {s = s} c fs ti h = let k = left_two ti c in in_more (Rattle.cc_tied.proofs.InjectWorld.ext_same w) refl ti (s.objs ++ bare ∷ function_object c (length s.objs) ∷ []) fs k.0 k.1 h
+  function_left {w = w} {s = s} c fs ti h = let k = left_two ti c in in_more (ext_same w) refl refl ti (s.objs ++ bare ∷ function_object c (length s.objs) ∷ []) fs k.0 k.1 h
 
   left_function_by : {w : W} (b : Bool) (f i : ℕ) (u : Option ℕ) → Silent Any w (add_function_by b f i u)
   unfolding add_function_by add_function push_frame ret ◌>>=◌ after said
-  left_function_by {w = w} false f i u = record { by = λ s t ti le le'. L.alone_ok w (now T w) tt tt (function_left (record { function = f; up = u; site = i }) s.frames ti ti.frames) le le' }
-  left_function_by {w = w} true f i u = record { by = λ s t ti le le'. L.alone_ok w (now T w) tt tt (function_left (record { function = f; up = Some (length s.frames); site = i }) (s.frames ++ (record { kind = of_own_name; up = u; values = Some (obj (suc (length s.objs))) ∷ [] }) ∷ []) ti (add_left ti.frames _)) le le' }
+  left_function_by {w = w} false f i u = record { by = λ s t ti le le'. L.alone_ok refl w (now T w) tt tt (function_left (record { function = f; up = u; site = i }) s.frames ti ti.frames) le le' }
+  left_function_by {w = w} true f i u = record { by = λ s t ti le le'. L.alone_ok refl w (now T w) tt tt (function_left (record { function = f; up = Some (length s.frames); site = i }) (s.frames ++ (record { kind = of_own_name; up = u; values = Some (obj (suc (length s.objs))) ∷ [] }) ∷ []) ti (add_left ti.frames _)) le le' }
 
   pub left_function : {w : W} (f i : ℕ) (g : Env) → Silent Any w (make_function f i g)
   unfolding make_function
@@ -251,7 +252,7 @@ module _ (F : Facts) (S : Tables) (set' : List (Path × ℕ)) where
   left_enters None v = silent_any tt
   left_enters (Some e) (prim p) = silent_any tt
   left_enters (Some e) (out n) = silent_any tt
-  left_enters {w = w} (Some e) (obj n) = record { by = λ s t ti le le'. L.alone_ok w (now T w) tt tt (any_changes n (entered_in e) (entered_left e) (entered_code e) (entered_owner e) ti) le le' }
+  left_enters {w = w} (Some e) (obj n) = record { by = λ s t ti le le'. L.alone_ok refl w (now T w) tt tt (any_changes n (entered_in e) (entered_left e) (entered_code e) (entered_owner e) ti) le le' }
 
   pub left_receives : {w : W} (t : Option TypeSet) (v : Val) → Silent Any w (receive t v)
   unfolding receive
@@ -292,7 +293,7 @@ module _ (F : Facts) (S : Tables) (set' : List (Path × ℕ)) where
   pub left_writes : {w : W} (i : Spot) {m : ℕ} → Spare w.w (obj m) → (a : Access) (k : Kind) (v : Val) (d : Bool) → Silent Any w (write_slot checked i m a k v d)
   unfolding write_slot changing ret
   left_writes {w = w} i (spare {m = m} q) a k v d =
-      silent_then (silent_judged i (writes (obj m) a v d) _ (record { by = λ s t ti le le'. L.alone_ok w (now T w) tt tt (spare_put m (name_of s.tables a) (kind_for s.tables (name_of s.tables a) k) v q ti) le le' })) (λ u l _.
+      silent_then (silent_judged i (writes (obj m) a v d) _ (record { by = λ s t ti le le'. L.alone_ok refl w (now T w) tt tt (spare_put m (name_of s.tables a) (kind_for s.tables (name_of s.tables a) k) v q ti) le le' })) (λ u l _.
       record { by = λ s t ti le le'. (left_receives_all (fields_reached s.tables s.objs m a) v).by s t ti le le' })
 
   -- ---- frames that the left alone makes
@@ -301,13 +302,13 @@ module _ (F : Facts) (S : Tables) (set' : List (Path × ℕ)) where
   with_alone w n a = record w { alone = record { place = n; entry = a } ∷ w.alone }
 
   ext_alone : (w : Tabs) (n : ℕ) (a : Frame) → Ext w (with_alone w n a)
-  ext_alone w n a = record { objs = λ q h. h; frames = λ q h. h; spare = λ q h. h; alone = λ q h. there h }
+  ext_alone w n a = record { objs = λ q h. h; frames = λ q h. h; spare = λ q h. h; alone = λ q h. there h; begun = λ c h. h }
 
   frame_left : {w : Tabs} {s t : State} (a : Frame) → Tied w s t → Tied (with_alone w (length s.frames) a) (record s { frames = s.frames ++ a ∷ [] }) t
   frame_left {w = w} {s = s} a ti =
       let e = ext_alone w (length s.frames) a in
-      in_more e refl ti s.objs (s.frames ++ a ∷ []) (table_more ti.objs (obj_more F S e)) ti.owned (add_lone (table_more ti.frames (frame_more F S e)) a a refl)
+      in_more e refl refl ti s.objs (s.frames ++ a ∷ []) (table_more ti.objs (obj_more F S e)) ti.owned (add_lone (table_more ti.frames (frame_more F S e)) a a refl)
 
   pub left_pushes : {w : W} (k : FrameKind) (u : Option ℕ) (vs : List (Option Val)) → Silent (λ v n. In (record { place = n; entry = record { kind = k; up = u; values = vs } }) v.w.alone) w (push_frame k u vs)
   unfolding push_frame ret
-  left_pushes {w = w} k u vs = record { by = λ s t ti le le'. let a : Frame = record { kind = k; up = u; values = vs } in L.alone_ok (record { l = w.l; r = w.r; w = with_alone w.w (length s.frames) a }) (omega arith, omega arith, ext_alone w.w (length s.frames) a) tt here (frame_left a ti) le le' }
+  left_pushes {w = w} k u vs = record { by = λ s t ti le le'. let a : Frame = record { kind = k; up = u; values = vs } in L.alone_ok refl (record { l = w.l; r = w.r; w = with_alone w.w (length s.frames) a }) (omega arith, omega arith, record { ext = ext_alone w.w (length s.frames) a; still = refl }) tt here (frame_left a ti) le le' }

@@ -14,10 +14,10 @@ use Rattle.cc_tied.specs.Tied.{ListT, nil_t, cons_t, OptT, none_t, some_t, ValT,
 use Rattle.cc_tied.specs.Facts.{Level, called, named, Facts, innermost, around_function, outward, DeadAt}
 use Rattle.cc_tied.specs.Injection.{Pair, Table}
 use Rattle.cc_tied.proofs.Parts.{list_as}
-use Rattle.cc_tied.proofs.Sim.{Tie, World, ok_t, Sim, sim_tables}
+use Rattle.cc_tied.proofs.Sim.{Tie, World, ok_t, Sim, sim_as, sim_tables}
 use Rattle.cc_tied.proofs.InjectTable.{table_more, add_both}
 use Rattle.cc_tied.proofs.InjectPlaces.{places_more, places_of_list}
-use Rattle.cc_tied.proofs.InjectWorld.{Label, Tabs, Ext, Mates, mates_more, Vals, val_more, same_kind, UpT, an_up, up_more, Codes, ObjT, obj_more, FrameT, frame_more, known_more}
+use Rattle.cc_tied.proofs.InjectWorld.{FunctionAt, a_function, Label, Tabs, Ext, Mates, mates_more, Vals, val_more, same_kind, UpT, an_up, up_more, Codes, ObjT, obj_more, FrameT, frame_more, known_more}
 use Rattle.cc_tied.proofs.InjectTie.{StandI, stands_at, EnvI, env_at, with_set, TiedI, inject}
 use Rattle.cc_tied.proofs.InjectObjects.{chain_of_tied, prototype_tied}
 use Rattle.cc_tied.proofs.InjectActs.{one_longer, owned_new, at_of, add_t}
@@ -31,7 +31,7 @@ prototype_object_tied (some_t (obj_t o)) = some_t o
 
 -- ---- classes of which an object was made
 
-any_front : (f : ℕ → Bool) (xs ys : List ℕ) → list_any f xs ≡ true → list_any f (xs ++ ys) ≡ true
+pub any_front : (f : ℕ → Bool) (xs ys : List ℕ) → list_any f xs ≡ true → list_any f (xs ++ ys) ≡ true
 any_front f [] ys e = absurd (cc)
 any_front f (x ∷ xs) ys e = by_test (f x) e (λ d. any_front f xs ys d)
   where
@@ -97,6 +97,11 @@ noted_both (Some e) cs ds f c h = by_cases (noted_cases e ds c h)
     by_cases (inl k) = noted_old (Some e) cs c (f c k)
     by_cases (inr k) = subst (λ z. Among z (note_constructed (Some e) cs)) (eqb-true e c k) (noted_new e cs)
 
+-- two objects of this function
+pub record MadeT (w : Tabs) (f : ℕ) (x y : Val) : Type 0 where
+  pub vals : Vals w x y
+  pub made : FunctionAt w f (Some x)
+
 module _ (F : Facts) (S : Tables) (set' : List (Path × ℕ)) where
   abbrev R : Tables
   R = with_set S set'
@@ -154,6 +159,7 @@ module _ (F : Facts) (S : Tables) (set' : List (Path × ℕ)) where
       globals = places_more (val_more e) ti.globals;
       known = λ g h d. known_more e (ti.known g h d);
       loaded = ti.loaded;
+      begun = ti.begun;
       failed = ti.failed;
       constructed = ti.constructed;
       handles = list_as (λ a b o. mates_more e o) ti.handles;
@@ -174,12 +180,18 @@ module _ (F : Facts) (S : Tables) (set' : List (Path × ℕ)) where
         (subst (λ z. Vals V (obj (length (s.objs ++ bare ∷ []))) (obj z)) (one_longer t.objs bare)
         (obj_t (Some c, here)))
 
-  plain_function_t : {w : W} (f i i' : ℕ) {u u' : Option ℕ} → F.Reached f → UpT F S w.w (outward F S (called f)) u u' → Sim T (λ v. Vals v.w) w (add_function f i u) (add_function f i' u')
+    pub function_made : MadeT V c.function (obj (suc (length s.objs))) (obj (suc (length t.objs)))
+    function_made = record {
+      vals = function_vals;
+      made = subst (λ z. FunctionAt V c.function (Some (obj z))) (one_longer s.objs bare) (a_function {n = length (t.objs ++ bare ∷ [])} refl here);
+    }
+
+  plain_function_t : {w : W} (f i i' : ℕ) {u u' : Option ℕ} → F.Reached f → UpT F S w.w (outward F S (called f)) u u' → Sim T (λ v. MadeT v.w f) w (add_function f i u) (add_function f i' u')
   unfolding add_function ret
   plain_function_t {w = w} f i i' {u = u} {u' = u'} r up s t ti le le' =
       let c : Code = record { function = f; up = u; site = i } in let c' : Code = record { function = f; up = u'; site = i' } in
-      let e : Ext w.w (made_world w.w c s t w.w.frames) = record { objs = λ q h. there (there h); frames = λ q h. h; spare = λ q h. h; alone = λ q h. h } in
-      ok_t refl (record { l = w.l; r = w.r; w = made_world w.w c s t w.w.frames }) (omega arith, omega arith, e) tt (function_vals ti c c' w.w.frames s.frames t.frames)
+      let e : Ext w.w (made_world w.w c s t w.w.frames) = record { objs = λ q h. there (there h); frames = λ q h. h; spare = λ q h. h; alone = λ q h. h; begun = λ c h. h } in
+      ok_t refl (record { l = w.l; r = w.r; w = made_world w.w c s t w.w.frames }) (omega arith, omega arith, record { ext = e; still = refl }) tt (function_made ti c c' w.w.frames s.frames t.frames)
       (function_tied ti c c' w.w.frames s.frames t.frames e (record { function = record { same = refl; reached = r }; up = up_more F S e up; site = tt }) (table_more ti.frames (frame_more F S e))) le le'
 
   own_label : (f : ℕ) (u u' : Option ℕ) → State → Label
@@ -200,15 +212,15 @@ module _ (F : Facts) (S : Tables) (set' : List (Path × ℕ)) where
   unfolding own_label own_frame Rattle.cc_tied.specs.Facts.frame_kind
   own_frame_tied f s t up v = record { kind = refl; kind' = refl; up = refl; up' = refl; around = own_around f up; places = places_of_list (cons_t (some_t v) nil_t); fixed = λ n d. refl }
 
-  named_function_t : {w : W} (f i i' : ℕ) {u u' : Option ℕ} → F.Reached f → owns S f ≡ true → UpT F S w.w (around_function F f) u u' → Sim T (λ v. Vals v.w) w (add_function_by true f i u) (add_function_by true f i' u')
+  named_function_t : {w : W} (f i i' : ℕ) {u u' : Option ℕ} → F.Reached f → owns S f ≡ true → UpT F S w.w (around_function F f) u u' → Sim T (λ v. MadeT v.w f) w (add_function_by true f i u) (add_function_by true f i' u')
   unfolding add_function_by add_function push_frame ret ◌>>=◌ after said own_label own_frame
   named_function_t {w = w} f i i' {u = u} {u' = u'} r o up s t ti le le' =
       let c : Code = record { function = f; up = Some (length s.frames); site = i } in let c' : Code = record { function = f; up = Some (length t.frames); site = i' } in
       let q : Pair Label = record { label = own_label f u u' s; left = length s.frames; right = length t.frames } in
       let v : Tabs = made_world w.w c s t (q ∷ w.w.frames) in
-      let e : Ext w.w v = record { objs = λ q h. there (there h); frames = λ q h. there h; spare = λ q h. h; alone = λ q h. h } in
+      let e : Ext w.w v = record { objs = λ q h. there (there h); frames = λ q h. there h; spare = λ q h. h; alone = λ q h. h; begun = λ c h. h } in
       let k : UpT F S v (outward F S (called f)) (Some (length s.frames)) (Some (length t.frames)) = subst (λ z. UpT F S v z (Some (length s.frames)) (Some (length t.frames))) (sym (own_up f o)) (an_up (own_label f u u' s) refl here) in
-      ok_t refl (record { l = w.l; r = w.r; w = v }) (omega arith, omega arith, e) tt (function_vals ti c c' (q ∷ w.w.frames) s.frames t.frames)
+      ok_t refl (record { l = w.l; r = w.r; w = v }) (omega arith, omega arith, record { ext = e; still = refl }) tt (function_made ti c c' (q ∷ w.w.frames) s.frames t.frames)
       (function_tied ti c c' (q ∷ w.w.frames) (s.frames ++ own_frame s u ∷ []) (t.frames ++ own_frame t u' ∷ []) e (record { function = record { same = refl; reached = r }; up = k; site = tt })
       (add_both (table_more ti.frames (frame_more F S e)) (own_label f u u' s) (own_frame s u) (own_frame t u') (own_frame_tied f s t (up_more F S e up) (function_vals ti c c' (q ∷ w.w.frames) s.frames t.frames)))) le le'
 
@@ -216,7 +228,7 @@ module _ (F : Facts) (S : Tables) (set' : List (Path × ℕ)) where
   unfolding outward
   plain_up f e = rw e refl
 
-  function_by : {w : W} (b : Bool) (f i i' : ℕ) {u u' : Option ℕ} → F.Reached f → owns S f ≡ b → UpT F S w.w (around_function F f) u u' → Sim T (λ v. Vals v.w) w (add_function_by b f i u) (add_function_by b f i' u')
+  function_by : {w : W} (b : Bool) (f i i' : ℕ) {u u' : Option ℕ} → F.Reached f → owns S f ≡ b → UpT F S w.w (around_function F f) u u' → Sim T (λ v. MadeT v.w f) w (add_function_by b f i u) (add_function_by b f i' u')
   unfolding add_function_by
   function_by {w = w} false f i i' {u = u} {u' = u'} r e up s t ti le le' = plain_function_t f i i' r (subst (λ z. UpT F S w.w z u u') (sym (plain_up f e)) up) s t ti le le'
   function_by true f i i' r e up s t ti le le' = named_function_t f i i' r e up s t ti le le'
@@ -229,9 +241,12 @@ module _ (F : Facts) (S : Tables) (set' : List (Path × ℕ)) where
   unfolding owns
   owns_by f = refl
 
-  pub function_t : {w : W} {c : Rattle.cc_tied.proofs.InjectTie.Ctx} {g h : Env} {f f' : ℕ} (i i' : ℕ) → StandI F c f f' → EnvI F S w.w c g h → Sim T (λ v. Vals v.w) w (make_function f i g) (make_function f' i' h)
+  pub function_made_t : {w : W} {c : Rattle.cc_tied.proofs.InjectTie.Ctx} {g h : Env} {f f' : ℕ} (i i' : ℕ) → StandI F c f f' → EnvI F S set' w.w c g h → Sim T (λ v. MadeT v.w f) w (make_function f i g) (make_function f' i' h)
   unfolding make_function
-  function_t {w = w} {g = g} {h = h} i i' (stands_at {f = f} r p q) (env_at u t d) = sim_tables T _ _ (function_by (has_own_name (slice_get S.heads f)) f i i' r (owns_by f) (subst (λ z. UpT F S w.w z g.at h.at) (around_is f p q) u))
+  function_made_t {w = w} {g = g} {h = h} i i' (stands_at {f = f} r p q) (env_at u t d) = sim_tables T _ _ (function_by (has_own_name (slice_get S.heads f)) f i i' r (owns_by f) (subst (λ z. UpT F S w.w z g.at h.at) (around_is f p q) u))
+
+  pub function_t : {w : W} {c : Rattle.cc_tied.proofs.InjectTie.Ctx} {g h : Env} {f f' : ℕ} (i i' : ℕ) → StandI F c f f' → EnvI F S set' w.w c g h → Sim T (λ v. Vals v.w) w (make_function f i g) (make_function f' i' h)
+  function_t {f = f} i i' s e = sim_as T {R = λ v. MadeT v.w f} (λ v l x y q. q.vals) (function_made_t i i' s e)
 
   -- ---- instances
 
@@ -254,7 +269,7 @@ module _ (F : Facts) (S : Tables) (set' : List (Path × ℕ)) where
   class_in_states ti f = ap (λ z. class_of_function z f) ti.tables ∙ class_same f ∙ sym (ap (λ z. class_of_function z f) ti.tables')
 
   with_constructed : {w : Tabs} {s t : State} (o p : Option ℕ) → o ≡ p → Tied w s t → Tied w (record s { constructed = note_constructed o s.constructed }) (record t { constructed = note_constructed p t.constructed })
-  with_constructed {s = s} {t = t} o p e ti = record { tables = ti.tables; tables' = ti.tables'; objs = ti.objs; owned = ti.owned; frames = ti.frames; globals = ti.globals; known = ti.known; loaded = ti.loaded; failed = ti.failed; constructed = λ c h. noted_both o s.constructed t.constructed ti.constructed c (subst (λ z. Among c (note_constructed z t.constructed)) (sym e) h); handles = ti.handles; replies = ti.replies; budget = ti.budget }
+  with_constructed {s = s} {t = t} o p e ti = record { tables = ti.tables; tables' = ti.tables'; objs = ti.objs; owned = ti.owned; frames = ti.frames; globals = ti.globals; known = ti.known; loaded = ti.loaded; begun = ti.begun; failed = ti.failed; constructed = λ c h. noted_both o s.constructed t.constructed ti.constructed c (subst (λ z. Among c (note_constructed z t.constructed)) (sym e) h); handles = ti.handles; replies = ti.replies; budget = ti.budget }
 
   instance_one : {w : W} {m n : ℕ} → Mates w.w m n → (f : ℕ) → Sim T (λ v. Vals v.w) w (make_instance m f) (make_instance n f)
   unfolding make_instance

@@ -1,5 +1,5 @@
 -- Pure expressions, which the left run alone evaluates, keep the injection.
-use Rattle.std.proofs.Common.{ℕ, Bool, true, false, List, [], ◌∷◌, Option, Some, None, is_some}
+use Rattle.std.proofs.Common.{refl, ℕ, Bool, true, false, List, [], ◌∷◌, Option, Some, None, is_some}
 use Rattle.cc_ast.specs.Syntax.{Prim, Expr, Exprs, Fields}
 use Rattle.cc_ast.specs.declared.operator.BinOp.{BinOp}
 use Rattle.cc_ast.specs.declared.operator.BinOp.TheVariants.{Instance, Has}
@@ -65,7 +65,7 @@ module _ (F : Facts) (S : Tables) (set' : List (Path × ℕ)) where
 
   quiet_reading : {A : Type 0} {w : W} (f : State → A) → Quiet w (reading f)
   unfolding reading ret
-  quiet_reading {w = w} f = record { by = λ s t ti le le'. L.alone_ok w (now T w) tt tt ti le le' }
+  quiet_reading {w = w} f = record { by = λ s t ti le le'. L.alone_ok refl w (now T w) tt tt ti le le' }
 
   -- ---- variables
 
@@ -163,7 +163,7 @@ module _ (F : Facts) (S : Tables) (set' : List (Path × ℕ)) where
   keeps_path : {w : W} (i : Spot) (p : Option (ℕ × ℕ)) (v : Val) → Quiet w (keep_path checked i p v)
   unfolding keep_path keep changing ret
   keeps_path i None v = quiet tt
-  keeps_path {w = w} i (Some p) v = on (silent_judged F S set' i (keeps (flat p.0 p.1) v) _ (record { by = λ s t ti le le'. L.alone_ok w (now T w) tt tt ti le le' })) (λ u l _. silent_tables F S set' _ (left_receives F S set' (variable_type S (flat p.0 p.1)) v))
+  keeps_path {w = w} i (Some p) v = on (silent_judged F S set' i (keeps (flat p.0 p.1) v) _ (record { by = λ s t ti le le'. L.alone_ok refl w (now T w) tt tt ti le le' })) (λ u l _. silent_tables F S set' _ (left_receives F S set' (variable_type S (flat p.0 p.1)) v))
 
   puts_on : {w : W} (i : Spot) {o : Val} → Spare F S set' w.w o → (a : Access) (v : Val) → Quiet w (put_on checked i o a (kind_by a) v false)
   unfolding put_on
@@ -204,7 +204,7 @@ module _ (F : Facts) (S : Tables) (set' : List (Path × ℕ)) where
 
       left_fields : {fs : Fields} → HasPureFields fs → (p : Option Path) (w : W) (o : Val) → Spare F S set' w.w o → Quiet w (ev_fields checked B g p o fs)
       left_fields no_pure_fields p w o q = quiet tt
-      left_fields (more_pure_fields {k = n} {e = e} h k) p w o q = on (left_value B (left_pure h (path_of_key p n) w)) (λ v l x. on (puts_key (site_of e) (spare_more F S set' l.2 q) (literal_key n) (path_of_key p n) x) (λ v2 l2 _. left_fields k p v2 o (spare_more F S set' l2.2 (spare_more F S set' l.2 q))))
+      left_fields (more_pure_fields {k = n} {e = e} h k) p w o q = on (left_value B (left_pure h (path_of_key p n) w)) (λ v l x. on (puts_key (site_of e) (spare_more F S set' l.2.ext q) (literal_key n) (path_of_key p n) x) (λ v2 l2 _. left_fields k p v2 o (spare_more F S set' l2.2.ext (spare_more F S set' l.2.ext q))))
 
     -- the value of a pure expression
     pub left_pure_value : {e : Expr} → IsPure e → (p : Option Path) (w : W) → Quiet w (value checked B (ev checked B g p e))

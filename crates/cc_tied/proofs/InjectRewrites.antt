@@ -18,7 +18,7 @@ use Rattle.cc_tied.proofs.Turns.{below_of, IsChunk}
 use Rattle.cc_tied.proofs.Rewriting.{StepRules}
 use Rattle.cc_tied.proofs.RewritingBodies.{Rules}
 use Rattle.cc_tied.proofs.Subsets.{Pass, Rewrites, ScopeRules, PassT, PassChunksT, pass_program, pass_chunks}
-use Rattle.cc_tied.proofs.InjectTie.{Ctx, DeclaresI}
+use Rattle.cc_tied.proofs.InjectTie.{Ctx, DeclaresI, BindI, binds_known}
 use Rattle.cc_tied.proofs.InjectEnds.{SameButSet, same_by_inject}
 use Rattle.cc_tied.proofs.InjectPass.{pass_kit, same_tables, fine_function, fine_chunk}
 
@@ -48,6 +48,9 @@ module _ (P Q : Program) (W : WellMade P) (none : HasNoPaths P) (same : SameButS
   unfolding is_chunk graph_of
   is_chunk_of c h = in_range P.chunks c h.deps h.found
 
+  not_bound : {c : Ctx} {r : Ref} {f : ℕ} → BindI (plain_facts P) K.tables c r f → ⊥
+  not_bound (binds_known k u) = k
+
   module _ (pass : PlainPass) (chosen : Rewrites built A P Q) where
     rules : (f : ℕ) (X : Below K) → ScopeRules K P Q built A (λ f c. Unit {0}) Each f X
     rules f X = record { steps = pass.steps f X; cuts = pass.cuts f X }
@@ -65,7 +68,7 @@ module _ (P Q : Program) (W : WellMade P) (none : HasNoPaths P) (same : SameButS
     chunks = record {
       fine = λ c h. fine_chunk P W (tables_of Q).set Each (λ c ls s. tt) c (is_chunk_of c h);
       here = λ c h. tt;
-      written = λ c h r f b. b;
+      written = λ c h r f b. not_bound b;
       declares = λ c h s k. pass.declares s;
       rules = λ c d d' h w le le' all tied. rules c (below_of K P Q d d' w tied);
     }

@@ -95,7 +95,7 @@ module _ (F : Facts) (S : Tables) (set' : List (Path × ℕ)) where
   unfolding read_slot least_broken
   read_slot_t i i' {m = m} {n = n} o {a = a} {b = b} k =
       sim_bind T {R = λ v. Vals v.w} (judged_i F S set' i i' (reads (obj m) a) (reads (obj n) b) _ _ (λ s t ti h. read_none ti (obj_t o) k h) (found_t o k)) (λ v2 l2 x y h.
-      sim_bind T {R = Done} (fields_t (Rattle.cc_tied.proofs.InjectWorld.mates_more l2.2 o) k h) (λ v3 l3 _ _ _. sim_ret T x y (val_more l3.2 _ _ h)))
+      sim_bind T {R = Done} (fields_t (Rattle.cc_tied.proofs.InjectWorld.mates_more l2.2.ext o) k h) (λ v3 l3 _ _ _. sim_ret T x y (val_more l3.2.ext _ _ h)))
 
   -- ---- built-in methods
 

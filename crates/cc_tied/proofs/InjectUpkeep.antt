@@ -29,12 +29,13 @@ use Rattle.cc_tied.proofs.InjectTie.{KeyI, same_key, with_set, TiedI, with_budge
 use Rattle.cc_tied.proofs.InjectRules.{name_same, any_dotted}
 use Rattle.cc_tied.proofs.InjectObjects.{code_at_tied, chain_of_tied, slots_on_tied}
 use Rattle.cc_tied.proofs.InjectActs.{judged_in, judged_i, stopped_left, at_of}
-use Rattle.cc_tied.proofs.InjectMade.{object_t, array_t, function_t, instance_t}
+use Rattle.cc_tied.proofs.InjectMade.{any_front, object_t, array_t, function_t, instance_t}
 use Rattle.cc_tied.proofs.InjectStore.{read_none, read_slot_t, method_same, method_read_t}
 use Rattle.cc_tied.proofs.InjectWrites.{out_none, write_slot_t, write_t}
 use Rattle.cc_tied.proofs.InjectAsked.{remove_t, probe_t, walk_t, instance_of_t, typeof_t}
 use Rattle.cc_tied.proofs.InjectUses.{use_t}
 use Rattle.cc_tied.proofs.InjectFrames.{read_var_t, write_var_t}
+use Rattle.cc_tied.proofs.InjectKnown.{set_known_t}
 use Rattle.cc_tied.proofs.InjectCalls.{catch_t, frame_t, take_path_t, keep_path_t, cast_t, enter_t, leave_t}
 
 module _ (F : Facts) (S : Tables) (set' : List (Path × ℕ)) where
@@ -98,7 +99,7 @@ module _ (F : Facts) (S : Tables) (set' : List (Path × ℕ)) where
   shown_t : {w : W} (o : Option ℕ) {m n : ℕ} → Mates w.w m n → Sim T (λ v a b. a ≡ b) w (shown o m) (shown o n)
   unfolding shown ret
   shown_t (Some h) o s t ti le le' = fine T _ _ refl ti le le'
-  shown_t None o s t ti le le' = fine T _ _ (ap handle (tied_length ti.handles)) (record { tables = ti.tables; tables' = ti.tables'; objs = ti.objs; owned = ti.owned; frames = ti.frames; globals = ti.globals; known = ti.known; loaded = ti.loaded; failed = ti.failed; constructed = ti.constructed; handles = list_on ti.handles (cons_t o nil_t); replies = ti.replies; budget = ti.budget }) le le'
+  shown_t None o s t ti le le' = fine T _ _ (ap handle (tied_length ti.handles)) (record { tables = ti.tables; tables' = ti.tables'; objs = ti.objs; owned = ti.owned; frames = ti.frames; globals = ti.globals; known = ti.known; loaded = ti.loaded; begun = ti.begun; failed = ti.failed; constructed = ti.constructed; handles = list_on ti.handles (cons_t o nil_t); replies = ti.replies; budget = ti.budget }) le le'
 
   show_t : {w : W} {a b : Val} → Vals w.w a b → Sim T (λ v a b. a ≡ b) w (show a) (show b)
   unfolding show ret
@@ -113,9 +114,12 @@ module _ (F : Facts) (S : Tables) (set' : List (Path × ℕ)) where
       ∙ ap (λ z. list_any (λ d. list_any (λ f. nat_eq f d) z) (deps_of (slice_get S.chunks c))) ti.failed
       ∙ sym (ap (λ z. list_any (λ d. list_any (λ f. nat_eq f d) t.failed) (deps_of (slice_get z.chunks c))) ti.tables')
 
+  still_loaded : (s : State) (c d : ℕ) → list_any (λ k. nat_eq k d) s.loaded ≡ true → list_any (λ k. nat_eq k d) (s.loaded ++ c ∷ []) ≡ true
+  still_loaded s c d e = any_front (λ k. nat_eq k d) s.loaded (c ∷ []) e
+
   load_t : {w : W} (c : ℕ) → Sim T Done w (changing (note_load c)) (changing (note_load c))
   unfolding changing note_load ret
-  load_t c s t ti le le' = fine T tt tt tt (record { tables = ti.tables; tables' = ti.tables'; objs = ti.objs; owned = ti.owned; frames = ti.frames; globals = ti.globals; known = ti.known; loaded = ap (λ z. z ++ c ∷ []) ti.loaded; failed = ti.failed; constructed = ti.constructed; handles = ti.handles; replies = ti.replies; budget = ti.budget }) le le'
+  load_t c s t ti le le' = fine T tt tt tt (record { tables = ti.tables; tables' = ti.tables'; objs = ti.objs; owned = ti.owned; frames = ti.frames; globals = ti.globals; known = ti.known; loaded = ap (λ z. z ++ c ∷ []) ti.loaded; begun = λ d q. still_loaded s c d (ti.begun d q); failed = ti.failed; constructed = ti.constructed; handles = ti.handles; replies = ti.replies; budget = ti.budget }) le le'
 
   host_none : {w : Tabs} {s t : State} → Tied w s t → (given : Bool) (b b' c c' : Bool) → b ≡ b' → c ≡ c' → rule_unless (given && b && not c) 13 ≡ None → rule_unless (given && b' && not c') 13 ≡ None
   host_none ti given b b' c c' e d h = rw (← e, ← d) h
@@ -125,7 +129,7 @@ module _ (F : Facts) (S : Tables) (set' : List (Path × ℕ)) where
   loading_t i i' c s t ti le le' = judged_in F S set' i i' (hosts true None None (dependency_failed s c)) (hosts true None None (dependency_failed t c)) (changing (note_load c)) (changing (note_load c)) ti (λ e. (host_none ti true true true (dependency_failed s c) (dependency_failed t c) refl (failed_same ti c) e, load_t c s t ti le le'))
 
   failed_t : {w : Tabs} {s t : State} (c : ℕ) → Tied w s t → Tied w (record s { failed = s.failed ++ c ∷ [] }) (record t { failed = t.failed ++ c ∷ [] })
-  failed_t c ti = record { tables = ti.tables; tables' = ti.tables'; objs = ti.objs; owned = ti.owned; frames = ti.frames; globals = ti.globals; known = ti.known; loaded = ti.loaded; failed = ap (λ z. z ++ c ∷ []) ti.failed; constructed = ti.constructed; handles = ti.handles; replies = ti.replies; budget = ti.budget }
+  failed_t c ti = record { tables = ti.tables; tables' = ti.tables'; objs = ti.objs; owned = ti.owned; frames = ti.frames; globals = ti.globals; known = ti.known; loaded = ti.loaded; begun = ti.begun; failed = ap (λ z. z ++ c ∷ []) ti.failed; constructed = ti.constructed; handles = ti.handles; replies = ti.replies; budget = ti.budget }
 
   names_same : {w : Tabs} {s t : State} → Tied w s t → {m n : ℕ} → Mates w m n → (c : List ℕ) → names_well S s (Some (obj m)) (Some c) ≡ names_well R t (Some (obj n)) (Some c)
   unfolding names_well is_kept
@@ -171,7 +175,7 @@ module _ (F : Facts) (S : Tables) (set' : List (Path × ℕ)) where
     up_out_write = λ x y d d' i k f. out_write_t _ _ _ x y d d' k (f (name_same S set' k));
     up_read_var = λ i e r. read_var_t F S set' _ _ e r;
     up_write_var = λ i e r x. write_var_t F S set' _ _ e r x;
-    up_set_var = λ i e h. absurd h;
+    up_set_var = λ i e h. set_known_t F S set' _ _ e h;
     up_catch = λ e x. catch_t F S set' e x;
     up_frame = λ c t vs. frame_t F S set' c t vs;
     up_take_path = λ {w} {p} {p'} {x} {y} {a} {b} {i} {i'} s q v k. subst (λ z. Sim T Done w (take_path checked i (Some p) x a) (take_path checked i' (Some z) y b)) q (take_path_t F S set' i i' p v k);

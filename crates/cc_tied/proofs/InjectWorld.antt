@@ -5,6 +5,7 @@ use Rattle.cc_ast.specs.Syntax.{Prim}
 use Rattle.cc_ast.specs.declared.tables.Element.{Element}
 use Rattle.cc_meaning.specs.Values.{Val, prim, obj}
 use Rattle.cc_meaning.specs.Names.{is_index}
+use Rattle.cc_meaning.specs.Store.{flat_option}
 use Rattle.cc_meaning.specs.State.{Kind, dotted_kind, quoted_kind, keyed_kind, Slot, Code, Obj, Frame, Tables}
 use Rattle.cc_meaning.specs.Alike.{In}
 use Rattle.cc_tied.specs.Tied.{ListT, OptT, ValT, prim_t, out_t, obj_t, CodeT}
@@ -21,12 +22,15 @@ pub record Label : Type 0 where
   pub first : List (Option Val)
 
 -- Objects are labelled with the left one's code. Of the left run alone there are objects that aren't
--- functions, and frames, which stay as they are.
+-- functions, and frames, which stay as they are. Known globals hold what `still` says, until functions
+-- are bound to them anew; and chunks of which `begun` says so are loaded.
 pub record Tabs : Type 0 where
   pub objs : List (Pair (Option Code))
   pub frames : List (Pair Label)
   pub spare : List (Lone (Unit {0}))
   pub alone : List (Lone Frame)
+  pub still : List (Option Val)
+  pub begun : List ℕ
 
 -- what is tied stays tied
 pub record Ext (v w : Tabs) : Type 0 where
@@ -34,12 +38,13 @@ pub record Ext (v w : Tabs) : Type 0 where
   pub frames : (p : Pair Label) → In p v.frames → In p w.frames
   pub spare : (p : Lone (Unit {0})) → In p v.spare → In p w.spare
   pub alone : (p : Lone Frame) → In p v.alone → In p w.alone
+  pub begun : (c : ℕ) → In c v.begun → In c w.begun
 
 pub ext_same : (w : Tabs) → Ext w w
-ext_same w = record { objs = λ p h. h; frames = λ p h. h; spare = λ p h. h; alone = λ p h. h }
+ext_same w = record { objs = λ p h. h; frames = λ p h. h; spare = λ p h. h; alone = λ p h. h; begun = λ c h. h }
 
 pub ext_on : {u v w : Tabs} → Ext u v → Ext v w → Ext u w
-ext_on l k = record { objs = λ p h. k.objs p (l.objs p h); frames = λ p h. k.frames p (l.frames p h); spare = λ p h. k.spare p (l.spare p h); alone = λ p h. k.alone p (l.alone p h) }
+ext_on l k = record { objs = λ p h. k.objs p (l.objs p h); frames = λ p h. k.frames p (l.frames p h); spare = λ p h. k.spare p (l.spare p h); alone = λ p h. k.alone p (l.alone p h); begun = λ c h. k.begun c (l.begun c h) }
 
 -- ---- values
 
@@ -85,15 +90,24 @@ pub record SlotT (O : ℕ → ℕ → Type 0) (a b : Slot) : Type 0 where
 
 -- ---- globals
 
--- a global that is set by its declaration alone
-pub data KnownT (w : Tabs) : Held → Option Val → Type 0 where
-  unset_k : {h : Held} → KnownT w h None
-  function_k : {c : Code} {f m n : ℕ} → c.function ≡ f → c.up ≡ None → In (record { label = Some c; left = m; right = n }) w.objs → KnownT w (holds_function f) (Some (obj m))
-  literal_k : {p : Prim} → KnownT w (holds_literal p) (Some (prim p))
+-- nothing, or an object of this function
+pub data FunctionAt (w : Tabs) (f : ℕ) : Option Val → Type 0 where
+  no_function : FunctionAt w f None
+  a_function : {c : Code} {m n : ℕ} → c.function ≡ f → In (record { label = Some c; left = m; right = n }) w.objs → FunctionAt w f (Some (obj m))
 
-pub known_more : {v w : Tabs} → Ext v w → {h : Held} {o : Option Val} → KnownT v h o → KnownT w h o
+pub function_more : {v w : Tabs} → Ext v w → {f : ℕ} {o : Option Val} → FunctionAt v f o → FunctionAt w f o
+function_more l no_function = no_function
+function_more l (a_function e h) = a_function e (l.objs _ h)
+
+-- a global that is set by its declaration alone; a function that it holds stays
+pub data KnownT (w : Tabs) (still : List (Option Val)) (g : ℕ) : Held → Option Val → Type 0 where
+  function_k : {f : ℕ} {o : Option Val} → FunctionAt w f o → o ≡ flat_option (slice_get still g) → KnownT w still g (holds_function f) o
+  unset_k : {p : Prim} → KnownT w still g (holds_literal p) None
+  literal_k : {p : Prim} → KnownT w still g (holds_literal p) (Some (prim p))
+
+pub known_more : {v w : Tabs} → Ext v w → {x : List (Option Val)} {g : ℕ} {h : Held} {o : Option Val} → KnownT v x g h o → KnownT w x g h o
+known_more l (function_k h e) = function_k (function_more l h) e
 known_more l unset_k = unset_k
-known_more l (function_k e d h) = function_k e d (l.objs _ h)
 known_more l literal_k = literal_k
 
 -- ---- frames and objects

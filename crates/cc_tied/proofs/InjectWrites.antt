@@ -291,7 +291,7 @@ module _ (F : Facts) (S : Tables) (set' : List (Path × ℕ)) where
   unfolding write_slot least_broken
   write_slot_t i i' {m = m} {n = n} o {a = a} {b = b} q h {x = x} {y = y} v d d' j =
       sim_bind T {R = Done} (judged_i F S set' i i' (writes (obj m) a x d) (writes (obj n) b y d') _ _ (λ s t ti e. write_none ti (obj_t o) q v d d' j e) (put_t o q h v)) (λ v2 l2 _ _ _.
-      fields_t F S set' (mates_more l2.2 o) q (val_more l2.2 _ _ v))
+      fields_t F S set' (mates_more l2.2.ext o) q (val_more l2.2.ext _ _ v))
 
   is_code_same : {w : Tabs} {c d : Option Code} → OptT (Codes F S w) c d → (f : ℕ) → is_code_of c f ≡ is_code_of d f
   unfolding is_code_of

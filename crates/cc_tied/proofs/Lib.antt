@@ -13,6 +13,7 @@ pub mod Turns
 pub mod Sim
 pub mod Upkeep
 pub mod Runs
+pub mod Whole
 pub mod Reaching
 pub mod Valued
 pub mod Nodes
@@ -57,10 +58,13 @@ pub mod InjectAsked
 pub mod InjectBuilt
 pub mod InjectUses
 pub mod InjectFrames
+pub mod InjectKnown
+pub mod InjectBinds
 pub mod InjectCalls
 pub mod InjectUpkeep
 pub mod InjectDead
 pub mod InjectEnds
+pub mod InjectRuns
 pub mod FineParts
 pub mod InjectFacts
 pub mod InjectPass

@@ -7,5 +7,6 @@ pub mod FoldExample
 pub mod Facts
 pub mod Injection
 pub mod Pure
+pub mod Inlined
 pub mod PlainFacts
 pub mod Mixed
