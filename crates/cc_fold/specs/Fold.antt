@@ -124,8 +124,8 @@ same_name d = d
 unfoldable pub same_stmt : Stmt → Stmts → Stmts
 same_stmt s ss = more_stmts s ss
 
--- The scope with its body rewritten, and everything else as it was. What it would be wrong to put where
--- an old node stands stays by the guard of the rewriting, which asks what is built in.
+-- The scope with its body rewritten, and everything else as it was. The guard of the rewriting, which
+-- asks what is built in, leaves an old node where the new one would do something else.
 unfoldable pub fold_scope : (built : Ref → Bool) → Scope → Scope
 unfolding re_stmts fold same_call same_declarator same_name same_stmt
 fold_scope built s = record s { body = re_stmts built fold same_call same_declarator same_name same_stmt s.body }

@@ -7,11 +7,10 @@ ghost use Rattle.cc_fold.specs.Walk.{fold_expr, fold_field, fold_target};
 
 use crate::built::Plan;
 use crate::choice::{fold_and, fold_cond, fold_or};
+use crate::copies::{copy_key, copy_units};
 use crate::operators::{fold_binary, fold_unary};
 use crate::place::{Place, operand_place};
-use cc_ast::copy::table::CopyOf;
 use cc_ast::tree::{Expr, Key, Target};
-use cc_ast::units::Units;
 use sqlite_items::{Boxed, Items};
 use std::alloc::{AllocError, Global};
 
@@ -186,19 +185,4 @@ fn fold_pairs(
         folded.push((key, e))?;
     }
     Ok(folded)
-}
-
-fn copy_key(alloc: Global, key: &Key) -> Result<Key, AllocError>
-    ensures { IfOk result (λ copy. copy ≡ key.now) }
-{
-    match key {
-        Key::Dotted(prop) => Ok(Key::Dotted(*prop)),
-        Key::Quoted(units) => Ok(Key::Quoted(copy_units(alloc, units)?)),
-    }
-}
-
-fn copy_units(alloc: Global, units: &Units) -> Result<Units, AllocError>
-    ensures { IfOk result (λ copy. copy ≡ units.now) }
-{
-    units.copy_of(alloc)
 }

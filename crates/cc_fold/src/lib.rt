@@ -10,6 +10,7 @@ ghost use Rattle.cc_fold.specs.Fold.{fold_scope};
 
 pub mod built;
 mod choice;
+mod copies;
 mod expression;
 mod literal;
 mod operators;

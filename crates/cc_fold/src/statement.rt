@@ -7,10 +7,9 @@ ghost use Rattle.cc_fold.specs.Built.{built_in};
 ghost use Rattle.cc_fold.specs.Walk.{fold_case, fold_init, fold_names, fold_option, fold_stmt, fold_value};
 
 use crate::built::Plan;
+use crate::copies::{copy_label, copy_units};
 use crate::parts::{fold_declarators, fold_init, fold_names, fold_option, fold_value};
-use cc_ast::copy::table::CopyOf;
 use cc_ast::tree::{Case, Expr, ForInit, ForTarget, Stmt};
-use cc_ast::units::Units;
 use sqlite_items::Items;
 use std::alloc::{AllocError, Global};
 
@@ -111,21 +110,6 @@ fn fold_case(alloc: Global, plan: &Plan, case: &Case) -> Result<Case, AllocError
     let test = fold_option(alloc, plan, &case.test)?;
     let body = fold_stmts(alloc, plan, &case.body)?;
     Ok(Case { test, body })
-}
-
-fn copy_label(alloc: Global, label: &Option<Units>) -> Result<Option<Units>, AllocError>
-    ensures { IfOk result (λ copy. copy ≡ label.now) }
-{
-    match label {
-        None => Ok(None),
-        Some(units) => Ok(Some(copy_units(alloc, units)?)),
-    }
-}
-
-fn copy_units(alloc: Global, units: &Units) -> Result<Units, AllocError>
-    ensures { IfOk result (λ copy. copy ≡ units.now) }
-{
-    units.copy_of(alloc)
 }
 
 #[tactic(auto, using(cc_ast::specs::StmtTerms::stmt_steps))]
