@@ -1,6 +1,6 @@
 -- The mark that closes a pair, by how many pairs are open within it.
 use Rattle.std.specs.Prelude.{◌≡◌, ◌≢◌, ℕ, zero, suc, List, [], ◌∷◌, ◌++◌, Bool, true, false, ◌==◌, Option, Some, None}
-use Rattle.std.proofs.Common.{refl, sym, ◌∙◌, ap, subst, arith, append_assoc, eqb, inl, inr}
+use Rattle.std.proofs.Common.{refl, sym, ◌∙◌, ap, subst, arith, append_assoc}
 use Rattle.std.proofs.lemmas.Bool.Decides.{nat_tests}
 use Rattle.cc_lexer.proofs.Runs.{same_front}
 use Rattle.cc_jsdoc.specs.Symbols.{Balanced, empty, other, pair, Closes}

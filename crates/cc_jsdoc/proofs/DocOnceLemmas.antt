@@ -1,5 +1,5 @@
 -- A comment says one thing.
-use Rattle.std.specs.Prelude.{◌≡◌, ℕ, List, [], ◌∷◌, ◌⊎◌, true, false, Option, Some, None, unwrap_or}
+use Rattle.std.specs.Prelude.{◌≡◌, ℕ, List, ◌∷◌, Option, Some, None, unwrap_or}
 use Rattle.std.specs.Option.{option_map}
 use Rattle.std.proofs.Common.{refl, sym, ◌∙◌, ap, subst, inl, inr}
 use Rattle.cc_text.specs.Utf16.{utf16}
@@ -11,10 +11,9 @@ use Rattle.cc_jsdoc.specs.declared.tag.TagName.{TagName}
 use Rattle.cc_jsdoc.specs.declared.tag.TagName.TheVariants as t
 use Rattle.cc_jsdoc.specs.declared.types.Name.{Name}
 use Rattle.cc_jsdoc.specs.declared.types.TypeExpr.{TypeExpr}
-use Rattle.cc_jsdoc.specs.Symbols.{Word, Mark, IsEnd, symbol}
-use Rattle.cc_jsdoc.specs.Types.{IsName, Means, derived, outside, IsNameAlone, alone, IsClassName, bare, marked, name_of}
-use Rattle.cc_jsdoc.specs.Continuing.{may_follow}
-use Rattle.cc_jsdoc.specs.Tags.{Braced, TypeOf, typed, untyped, unknown, number, ClassOf, class, no_class, NextName, next, ParamOf, param, no_param, ByType, ByClass, Gives, IsTag, AreTags, none, gives, passed, tag_name}
+use Rattle.cc_jsdoc.specs.Symbols.{Mark}
+use Rattle.cc_jsdoc.specs.Types.{Means, derived, outside, IsNameAlone, alone, IsClassName, bare, marked, name_of}
+use Rattle.cc_jsdoc.specs.Tags.{TypeOf, typed, untyped, unknown, number, ClassOf, class, no_class, NextName, next, ParamOf, param, no_param, ByType, ByClass, Gives, IsTag, AreTags, none, gives, passed}
 use Rattle.cc_jsdoc.specs.Docs.{doc_of, IsDocOf, told}
 use Rattle.cc_jsdoc.proofs.GivesLemmas.{braced_once}
 use Rattle.cc_jsdoc.proofs.NameLemmas.{begins, name_cases, NameCase}

@@ -1,5 +1,5 @@
 -- A type that begins with a word.
-use Rattle.std.specs.Prelude.{◌≡◌, ◌≢◌, ◌↔◌, ℕ, List, [], ◌∷◌, ◌++◌, ◌⊎◌, Bool, true, false, length, codes}
+use Rattle.std.specs.Prelude.{◌≡◌, ◌↔◌, ℕ, List, [], ◌∷◌, ◌++◌, ◌⊎◌, true, length, codes}
 use Rattle.std.proofs.Common.{refl, sym, ◌∙◌, ap, subst, arith, inl, inr}
 use Rattle.cc_jsdoc.specs.declared.reading.Open.{Open}
 use Rattle.cc_jsdoc.specs.declared.reading.Open.TheVariants as o
@@ -12,14 +12,14 @@ use Rattle.cc_jsdoc.specs.Continuing.{Completes, Awaits, may_follow, IsWholeName
 use Rattle.cc_jsdoc.proofs.ClosingLemmas.{closes_once}
 use Rattle.cc_jsdoc.proofs.NameLemmas.{begins, name_cases, NameCase}
 use Rattle.cc_jsdoc.proofs.SymbolLemmas.{word_once, mark_once, no_mark}
-use Rattle.cc_jsdoc.proofs.ViewLemmas.{View, v_name, v_all, v_any, v_nullable, v_not_null, v_variadic, v_union, v_function, v_returning, v_array, v_braced, viewed, unview, completes_follows}
+use Rattle.cc_jsdoc.proofs.ViewLemmas.{View, view_name, view_all, view_any, view_nullable, view_not_null, view_variadic, view_union, view_function, view_returning, view_array, view_braced, viewed, unview, completes_follows}
 
 -- what a word can begin
 pub data ByWord (os : List Open) (us ts : List Alternative) (text : List ℕ) : Type 0 where
-  w_name : {rest : List ℕ} {ws : List (List ℕ)} → IsName text ws rest → Completes os (us ++ of_name ws ∷ []) rest ts → ByWord os us ts text
-  w_function : {rest : List ℕ} → IsFunction text rest → Completes os (us ++ one.Simple simple.Function ∷ []) rest ts → ByWord os us ts text
-  w_returning : {a b : List ℕ} → IsFunction text a → Mark 58 a b → Awaits (o.Result (length us) ∷ os) us b ts → ByWord os us ts text
-  w_array : {a : List ℕ} → IsArray text a → Awaits (o.Element (length us) ∷ os) us a ts → ByWord os us ts text
+  word_name : {rest : List ℕ} {ws : List (List ℕ)} → IsName text ws rest → Completes os (us ++ of_name ws ∷ []) rest ts → ByWord os us ts text
+  word_function : {rest : List ℕ} → IsFunction text rest → Completes os (us ++ one.Simple simple.Function ∷ []) rest ts → ByWord os us ts text
+  word_returning : {a b : List ℕ} → IsFunction text a → Mark 58 a b → Awaits (o.Result (length us) ∷ os) us b ts → ByWord os us ts text
+  word_array : {a : List ℕ} → IsArray text a → Awaits (o.Element (length us) ∷ os) us a ts → ByWord os us ts text
 
 -- ---- functions and arrays
 
@@ -101,17 +101,17 @@ array_no_name {A} {text} {r} (with_dot {a = a} {b = b} k l m) n f = by (name_the
 
 module _ (os : List Open) (us ts : List Alternative) where
   pub by_word : {text w rest : List ℕ} → Word w text rest → View os us ts text → ByWord os us ts text
-  by_word m (v_name n k) = w_name n k
-  by_word m (v_function f k) = w_function f k
-  by_word m (v_returning f n k) = w_returning f n k
-  by_word m (v_array i k) = w_array i k
-  by_word {text} {w} {rest} m (v_all {rest = r} h k) = no_mark text w rest 42 r m h
-  by_word {text} {w} {rest} m (v_any {rest = r} h k) = no_mark text w rest 63 r m h
-  by_word {text} {w} {rest} m (v_nullable {a = a} h k) = no_mark text w rest 63 a m h
-  by_word {text} {w} {rest} m (v_not_null {a = a} h k) = no_mark text w rest 33 a m h
-  by_word {text} {w} {rest} m (v_variadic {a = a} h l n k) = no_mark text w rest 46 a m h
-  by_word {text} {w} {rest} m (v_union {a = a} h k) = no_mark text w rest 40 a m h
-  by_word {text} {w} {rest} m (v_braced {a = a} h l k) = no_mark text w rest 123 a m h
+  by_word m (view_name n k) = word_name n k
+  by_word m (view_function f k) = word_function f k
+  by_word m (view_returning f n k) = word_returning f n k
+  by_word m (view_array i k) = word_array i k
+  by_word {text} {w} {rest} m (view_all {rest = r} h k) = no_mark text w rest 42 r m h
+  by_word {text} {w} {rest} m (view_any {rest = r} h k) = no_mark text w rest 63 r m h
+  by_word {text} {w} {rest} m (view_nullable {a = a} h k) = no_mark text w rest 63 a m h
+  by_word {text} {w} {rest} m (view_not_null {a = a} h k) = no_mark text w rest 33 a m h
+  by_word {text} {w} {rest} m (view_variadic {a = a} h l n k) = no_mark text w rest 46 a m h
+  by_word {text} {w} {rest} m (view_union {a = a} h k) = no_mark text w rest 40 a m h
+  by_word {text} {w} {rest} m (view_braced {a = a} h l k) = no_mark text w rest 123 a m h
 
   module _ (w text rest : List ℕ) (m : Word w text rest) where
     worded : Awaits os us text ts → ByWord os us ts text
@@ -120,33 +120,33 @@ module _ (os : List Open) (us ts : List Alternative) where
     -- ---- functions
 
     from_function : (end : List ℕ) → IsFunction text end → ((b : List ℕ) → ¬ Mark 58 end b) → ByWord os us ts text → Completes os (us ++ one.Simple simple.Function ∷ []) end ts
-    from_function end f c (w_name n k) = function_no_name f n (completes_follows k)
-    from_function end f c (w_function g k) = subst (λ x. Completes os (us ++ one.Simple simple.Function ∷ []) x ts) (function_once g f) k
-    from_function end f c (w_returning {b = b} g n k) = absurd (c b (subst (λ x. Mark 58 x b) (function_once g f) n))
-    from_function end f c (w_array i k) = no_function_array f i
+    from_function end f c (word_name n k) = function_no_name f n (completes_follows k)
+    from_function end f c (word_function g k) = subst (λ x. Completes os (us ++ one.Simple simple.Function ∷ []) x ts) (function_once g f) k
+    from_function end f c (word_returning {b = b} g n k) = absurd (c b (subst (λ x. Mark 58 x b) (function_once g f) n))
+    from_function end f c (word_array i k) = no_function_array f i
 
     pub at_function : (end : List ℕ) → IsFunction text end → ((b : List ℕ) → ¬ Mark 58 end b) → Awaits os us text ts ↔ Completes os (us ++ one.Simple simple.Function ∷ []) end ts
-    at_function end f c = (λ h. from_function end f c (worded h), λ k. unview os us ts (v_function f k))
+    at_function end f c = (λ h. from_function end f c (worded h), λ k. unview os us ts (view_function f k))
 
     from_returning : (end b : List ℕ) → IsFunction text end → Mark 58 end b → ByWord os us ts text → Awaits (o.Result (length us) ∷ os) us b ts
-    from_returning end b f n (w_name l k) = function_no_name f l (completes_follows k)
-    from_returning end b f n (w_function {rest = r} g k) = let x = sym (completes_follows k) ∙ ap may_follow (subst (λ y. Mark 58 y b) (function_once f g) n) in absurd (cc)
-    from_returning end b f n (w_returning {b = d} g l k) =
+    from_returning end b f n (word_name l k) = function_no_name f l (completes_follows k)
+    from_returning end b f n (word_function {rest = r} g k) = let x = sym (completes_follows k) ∙ ap may_follow (subst (λ y. Mark 58 y b) (function_once f g) n) in absurd (cc)
+    from_returning end b f n (word_returning {b = d} g l k) =
         subst (λ x. Awaits (o.Result (length us) ∷ os) us x ts) (mark_once end 58 58 d b (subst (λ x. Mark 58 x d) (function_once g f) l) n).1 k
-    from_returning end b f n (w_array i k) = no_function_array f i
+    from_returning end b f n (word_array i k) = no_function_array f i
 
     pub at_returning : (end b : List ℕ) → IsFunction text end → Mark 58 end b → Awaits os us text ts ↔ Awaits (o.Result (length us) ∷ os) us b ts
-    at_returning end b f n = (λ h. from_returning end b f n (worded h), λ k. unview os us ts (v_returning f n k))
+    at_returning end b f n = (λ h. from_returning end b f n (worded h), λ k. unview os us ts (view_returning f n k))
 
     -- `function(` whose parenthesis isn't closed
     from_open : (a : List ℕ) → Mark 40 rest a → ((end : List ℕ) → ¬ IsFunction text end) → ((end : List ℕ) → ¬ IsArray text end) → ByWord os us ts text → ⊥
-    from_open a n f c (w_name l k) = by (name_then w rest m l (completes_follows k)) where
+    from_open a n f c (word_name l k) = by (name_then w rest m l (completes_follows k)) where
       by : (may_follow (symbol rest) ≡ true) ⊎ ((d : List ℕ) × (v : List ℕ) × (q : List ℕ) × Mark 46 rest d × Word v d q) → ⊥
       by (inl h) = let x = sym h ∙ ap may_follow n in cc
       by (inr (d, v, q, h, i)) = let x = (mark_once rest 40 46 a d n h).0 in omega arith
-    from_open a n f c (w_function {rest = r} g k) = f r g
-    from_open a n f c (w_returning {a = r} g l k) = f r g
-    from_open a n f c (w_array {a = r} i k) = c r i
+    from_open a n f c (word_function {rest = r} g k) = f r g
+    from_open a n f c (word_returning {a = r} g l k) = f r g
+    from_open a n f c (word_array {a = r} i k) = c r i
 
     pub at_open : (a : List ℕ) → Mark 40 rest a → ((end : List ℕ) → ¬ IsFunction text end) → ((end : List ℕ) → ¬ IsArray text end) → Awaits os us text ts ↔ ⊥
     at_open a n f c = (λ h. from_open a n f c (worded h), λ k. absurd k)
@@ -154,30 +154,30 @@ module _ (os : List Open) (us ts : List Alternative) where
     -- ---- arrays
 
     from_array : (end : List ℕ) → IsArray text end → ByWord os us ts text → Awaits (o.Element (length us) ∷ os) us end ts
-    from_array end i (w_name n k) = array_no_name i n (completes_follows k)
-    from_array end i (w_function f k) = no_function_array f i
-    from_array end i (w_returning f n k) = no_function_array f i
-    from_array end i (w_array j k) = subst (λ x. Awaits (o.Element (length us) ∷ os) us x ts) (array_once j i) k
+    from_array end i (word_name n k) = array_no_name i n (completes_follows k)
+    from_array end i (word_function f k) = no_function_array f i
+    from_array end i (word_returning f n k) = no_function_array f i
+    from_array end i (word_array j k) = subst (λ x. Awaits (o.Element (length us) ∷ os) us x ts) (array_once j i) k
 
     pub at_array : (end : List ℕ) → IsArray text end → Awaits os us text ts ↔ Awaits (o.Element (length us) ∷ os) us end ts
-    at_array end i = (λ h. from_array end i (worded h), λ k. unview os us ts (v_array i k))
+    at_array end i = (λ h. from_array end i (worded h), λ k. unview os us ts (view_array i k))
 
     -- ---- names
 
     from_name : (ws : List (List ℕ)) (end : List ℕ) → IsWholeName text ws end → ((r : List ℕ) → ¬ IsFunction text r) → ((r : List ℕ) → ¬ IsArray text r) → ByWord os us ts text
         → Completes os (us ++ of_name ws ∷ []) end ts
     unfolding NameCase
-    from_name ws end n f i (w_name {rest = r} {ws = vs} l k) = by (name_cases end n.no_more l n.name refl) where
+    from_name ws end n f i (word_name {rest = r} {ws = vs} l k) = by (name_cases end n.no_more l n.name refl) where
       by : NameCase vs r ws end → Completes os (us ++ of_name ws ∷ []) end ts
       by (inl e) = subst (λ x. Completes os (us ++ of_name x ∷ []) end ts) e.0 (subst (λ x. Completes os (us ++ of_name vs ∷ []) x ts) e.1 k)
       by (inr d) = let x = sym (completes_follows k) ∙ ap may_follow d.1 in absurd (cc)
-    from_name ws end n f i (w_function {rest = r} g k) = absurd (f r g)
-    from_name ws end n f i (w_returning {a = r} g l k) = absurd (f r g)
-    from_name ws end n f i (w_array {a = r} j k) = absurd (i r j)
+    from_name ws end n f i (word_function {rest = r} g k) = absurd (f r g)
+    from_name ws end n f i (word_returning {a = r} g l k) = absurd (f r g)
+    from_name ws end n f i (word_array {a = r} j k) = absurd (i r j)
 
     pub at_name : (ws : List (List ℕ)) (end : List ℕ) → IsWholeName text ws end → ((r : List ℕ) → ¬ IsFunction text r) → ((r : List ℕ) → ¬ IsArray text r)
         → Awaits os us text ts ↔ Completes os (us ++ of_name ws ∷ []) end ts
-    at_name ws end n f i = (λ h. from_name ws end n f i (worded h), λ k. unview os us ts (v_name n.name k))
+    at_name ws end n f i = (λ h. from_name ws end n f i (worded h), λ k. unview os us ts (view_name n.name k))
 
     -- a word is a name
     pub no_name_at : ((ws : List (List ℕ)) (end : List ℕ) → ¬ IsName text ws end) → Awaits os us text ts ↔ ⊥

@@ -1,6 +1,6 @@
 -- What a tag gives, by its parts.
-use Rattle.std.specs.Prelude.{◌≡◌, ℕ, List, [], ◌∷◌, true, false, Option, Some, None, MatchOption, Result, Ok, Err, IfOk}
-use Rattle.std.proofs.Common.{refl, sym, ◌∙◌, ap, subst, arith}
+use Rattle.std.specs.Prelude.{◌≡◌, ℕ, List, Option, Some, None, MatchOption, Result, Ok, Err, IfOk}
+use Rattle.std.proofs.Common.{sym, subst, arith}
 use Rattle.cc_jsdoc.specs.declared.types.Name.{Name}
 use Rattle.cc_jsdoc.specs.Symbols.{Mark, Closes}
 use Rattle.cc_jsdoc.specs.Types.{IsClassName, name_of}

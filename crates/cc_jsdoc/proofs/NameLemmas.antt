@@ -1,8 +1,7 @@
 -- Names with dots, word by word.
-use Rattle.std.specs.Prelude.{◌≡◌, ℕ, List, [], ◌∷◌, ◌++◌, ◌⊎◌, map, Option, Some, None, Result, Ok, Err, MatchOption, IfOk}
+use Rattle.std.specs.Prelude.{◌≡◌, ℕ, List, [], ◌∷◌, ◌++◌, ◌⊎◌, Option, Some, None, Result, Ok, Err, MatchOption, IfOk}
 use Rattle.std.proofs.Common.{refl, sym, ◌∙◌, ap, subst, inl, inr}
-use Rattle.cc_text.specs.Utf16.{utf16}
-use Rattle.cc_jsdoc.specs.Symbols.{Word, Mark, IsEnd, symbol}
+use Rattle.cc_jsdoc.specs.Symbols.{Word, Mark, IsEnd}
 use Rattle.cc_jsdoc.specs.declared.types.Name.{Name}
 use Rattle.cc_jsdoc.specs.Types.{name_of, IsName, last, dotted, IsNameAlone, alone, IsClassName, bare, marked}
 use Rattle.cc_jsdoc.specs.Continuing.{IsWholeName}

@@ -1,19 +1,19 @@
 -- A text is one type.
-use Rattle.std.specs.Prelude.{◌≡◌, ◌↔◌, ℕ, zero, suc, ◌+◌, ◌*◌, ◌<◌, List, [], ◌∷◌, ◌++◌, ◌⊎◌, Bool, true, false, ◌==◌, Option, Some, None, length, take, drop}
-use Rattle.std.proofs.Common.{refl, sym, ◌∙◌, ap, subst, arith, inl, inr}
+use Rattle.std.specs.Prelude.{◌≡◌, ℕ, zero, suc, ◌+◌, ◌*◌, ◌<◌, List, [], ◌∷◌, Bool, true, false, ◌==◌, Option, Some, None, length}
+use Rattle.std.proofs.Common.{refl, sym, ◌∙◌, ap, subst, arith}
 use Rattle.std.proofs.lemmas.Bool.Decides.{nat_tests}
 use Rattle.cc_jsdoc.specs.declared.reading.Open.{Open}
 use Rattle.cc_jsdoc.specs.declared.reading.Open.TheVariants as o
 use Rattle.cc_jsdoc.specs.declared.types.Alternative.{Alternative}
-use Rattle.cc_jsdoc.specs.Symbols.{Symbol, word, mark, symbol, Word, Mark, IsEnd}
-use Rattle.cc_jsdoc.specs.Types.{IsName, IsFunction, IsArray, IsExpression}
+use Rattle.cc_jsdoc.specs.Symbols.{Symbol, word, mark, symbol, Word, Mark}
+use Rattle.cc_jsdoc.specs.Types.{IsExpression}
 use Rattle.cc_jsdoc.specs.Continuing.{Completes, ended, optional, union_ends, union_goes_on, element_ends, variadic_ends, result_ends, Awaits, awaits, may_follow, IsWholeName}
-use Rattle.cc_jsdoc.proofs.FunctionLemmas.{ByWord, w_name, w_function, w_returning, w_array, by_word, at_name, at_function, at_returning, at_array, function_no_name, array_no_name}
+use Rattle.cc_jsdoc.proofs.FunctionLemmas.{ByWord, word_name, word_function, word_returning, word_array, by_word, at_name, at_function, at_returning, at_array, function_no_name, array_no_name}
 use Rattle.cc_jsdoc.proofs.GoOnLemmas.{at_equals, at_next_part, at_union_end, at_element, at_variadic_end, at_result_end, at_end, whole_is}
 use Rattle.cc_jsdoc.proofs.LengthLemmas.{shorter_mark, shorter_closed, shorter_name, shorter_function, shorter_array}
-use Rattle.cc_jsdoc.proofs.MarkLemmas.{ByMark, m_all, m_any, m_nullable, m_not_null, m_variadic, m_union, m_braced, by_mark, at_all, at_any, at_nullable, at_not_null, at_variadic, at_union, at_braced}
+use Rattle.cc_jsdoc.proofs.MarkLemmas.{ByMark, mark_all, mark_any, mark_nullable, mark_not_null, mark_variadic, mark_union, mark_braced, by_mark, at_all, at_any, at_nullable, at_not_null, at_variadic, at_union, at_braced}
 use Rattle.cc_jsdoc.proofs.SymbolLemmas.{mark_once, no_mark}
-use Rattle.cc_jsdoc.proofs.ViewLemmas.{View, viewed, completes_follows, type_begins, none_at_end}
+use Rattle.cc_jsdoc.proofs.ViewLemmas.{viewed, completes_follows, type_begins, none_at_end}
 
 -- the whole types that two readings of the same text give
 abbrev Once : ℕ → Type 0
@@ -29,28 +29,28 @@ module _ (n : ℕ) (done : Once n) (due : OnceDue n) (os : List Open) (us ts vs 
   -- ---- a type is due
 
   due_mark : (c : ℕ) (rest : List ℕ) → Mark c text rest → ByMark os us ts c rest → Awaits os us text vs → ts ≡ vs
-  due_mark c rest m (m_all e k) w = let l = shorter_mark text m in done os _ ts vs rest (omega arith) k ((at_all os us vs c text rest m e).0 w)
-  due_mark c rest m (m_any e k) w = let l = shorter_mark text m in done os _ ts vs rest (omega arith) k ((at_any os us vs c text rest m e (completes_follows k)).0 w)
-  due_mark c rest m (m_nullable e (awaits t k)) w = let l = shorter_mark text m in due os us ts vs rest (omega arith) (awaits t k) ((at_nullable os us vs c text rest m e (type_begins t)).0 w)
-  due_mark c rest m (m_not_null e k) w = let l = shorter_mark text m in due os us ts vs rest (omega arith) k ((at_not_null os us vs c text rest m e).0 w)
-  due_mark c rest m (m_variadic {b = b} {d = d} e p q k) w =
+  due_mark c rest m (mark_all e k) w = let l = shorter_mark text m in done os _ ts vs rest (omega arith) k ((at_all os us vs c text rest m e).0 w)
+  due_mark c rest m (mark_any e k) w = let l = shorter_mark text m in done os _ ts vs rest (omega arith) k ((at_any os us vs c text rest m e (completes_follows k)).0 w)
+  due_mark c rest m (mark_nullable e (awaits t k)) w = let l = shorter_mark text m in due os us ts vs rest (omega arith) (awaits t k) ((at_nullable os us vs c text rest m e (type_begins t)).0 w)
+  due_mark c rest m (mark_not_null e k) w = let l = shorter_mark text m in due os us ts vs rest (omega arith) k ((at_not_null os us vs c text rest m e).0 w)
+  due_mark c rest m (mark_variadic {b = b} {d = d} e p q k) w =
       let l = shorter_mark text m in let i = shorter_mark rest p in let j = shorter_mark b q in
       due (o.Variadic (length us) ∷ os) us ts vs d (omega arith) k ((at_variadic os us vs c text rest m b d e p q).0 w)
-  due_mark c rest m (m_union e k) w = let l = shorter_mark text m in due (o.Union ∷ os) us ts vs rest (omega arith) k ((at_union os us vs c text rest m e).0 w)
-  due_mark c rest m (m_braced {inside = i} {end = end} e p k) w =
+  due_mark c rest m (mark_union e k) w = let l = shorter_mark text m in due (o.Union ∷ os) us ts vs rest (omega arith) k ((at_union os us vs c text rest m e).0 w)
+  due_mark c rest m (mark_braced {inside = i} {end = end} e p k) w =
       let l = shorter_mark text m in let j = shorter_closed p in done os _ ts vs end (omega arith) k ((at_braced os us vs c text rest m i end e p).0 w)
 
   due_word : (w rest : List ℕ) → Word w text rest → ByWord os us ts text → Awaits os us text vs → ts ≡ vs
-  due_word w rest m (w_name {rest = end} {ws = ws} p k) x =
+  due_word w rest m (word_name {rest = end} {ws = ws} p k) x =
       let l = shorter_name p in
       let f = completes_follows k in
       let all : IsWholeName text ws end = record { name = p; no_more = λ v a b q _. follows_not end a 46 q refl f } in
       done os _ ts vs end (omega arith) k ((at_name os us vs w text rest m ws end all (λ r g. function_no_name g p f) (λ r g. array_no_name g p f)).0 x)
-  due_word w rest m (w_function {rest = end} p k) x =
+  due_word w rest m (word_function {rest = end} p k) x =
       let l = shorter_function p in done os _ ts vs end (omega arith) k ((at_function os us vs w text rest m end p (λ b q. follows_not end b 58 q refl (completes_follows k))).0 x)
-  due_word w rest m (w_returning {a = end} {b = b} p q k) x =
+  due_word w rest m (word_returning {a = end} {b = b} p q k) x =
       let l = shorter_function p in let i = shorter_mark end q in due (o.Result (length us) ∷ os) us ts vs b (omega arith) k ((at_returning os us vs w text rest m end b p q).0 x)
-  due_word w rest m (w_array {a = end} p k) x =
+  due_word w rest m (word_array {a = end} p k) x =
       let l = shorter_array p in due (o.Element (length us) ∷ os) us ts vs end (omega arith) k ((at_array os us vs w text rest m end p).0 x)
 
   due_by : (s : Option (Symbol × List ℕ)) → symbol text ≡ s → Awaits os us text ts → Awaits os us text vs → ts ≡ vs

@@ -1,11 +1,9 @@
 -- The own texts of tags, one after the other.
-use Rattle.std.specs.Prelude.{◌≡◌, ℕ, suc, List, [], ◌∷◌, ◌++◌, Bool, true, false, ◌&&◌, ◌==◌, if◌then◌else◌, Option, Some, None, MatchOption, drop, length}
+use Rattle.std.specs.Prelude.{◌≡◌, ℕ, suc, List, [], ◌∷◌, ◌++◌, Bool, true, false, ◌&&◌, if◌then◌else◌, Option, Some, None, MatchOption, drop, length}
 use Rattle.std.specs.Borrow.{Bor}
 use Rattle.std.specs.Str.{chars}
-use Rattle.std.specs.Char.{is_ascii_alphabetic}
 use Rattle.std.proofs.Common.{refl, sym, ◌∙◌, ap, subst, append_assoc}
 use Rattle.std.proofs.lemmas.List.{append-nil}
-use Rattle.cc_text.specs.Characters.{first_is}
 use Rattle.cc_lexer.proofs.Runs.{same_front}
 use Rattle.cc_jsdoc.specs.declared.tag.Tag.{Tag}
 use Rattle.cc_jsdoc.specs.Classes.{is_blank}

@@ -1,6 +1,6 @@
 -- What a step leaves, by what it did to what is read.
 use Rattle.std.specs.Prelude.{◌≡◌, ◌↔◌, ℕ, List, [], ◌∷◌, ◌++◌, reverse, Option, Some, None, MatchOption, Result, Ok, Err, IfOk, OnOk}
-use Rattle.std.proofs.Common.{refl, sym, ◌∙◌, ap, subst}
+use Rattle.std.proofs.Common.{sym, ◌∙◌, ap, subst}
 use Rattle.std.proofs.lemmas.List.{reverse-append}
 use Rattle.cc_jsdoc.specs.declared.reading.Open.{Open}
 use Rattle.cc_jsdoc.specs.declared.reading.Step.{Step}

@@ -1,5 +1,5 @@
 -- Tags by the words that name them.
-use Rattle.std.specs.Prelude.{◌≡◌, ℕ, List, true, false, codes}
+use Rattle.std.specs.Prelude.{◌≡◌, ℕ, List, false, codes}
 use Rattle.std.specs.Str.{bytes_eq}
 use Rattle.std.proofs.Common.{refl}
 use Rattle.cc_jsdoc.specs.declared.tag.TagName.TheVariants as t

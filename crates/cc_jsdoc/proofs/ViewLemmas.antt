@@ -1,5 +1,5 @@
 -- Where a type is due, by what it begins with.
-use Rattle.std.specs.Prelude.{◌≡◌, ◌↔◌, ℕ, ◌+◌, List, [], ◌∷◌, ◌++◌, Bool, true, false, take, drop, length}
+use Rattle.std.specs.Prelude.{◌≡◌, ◌↔◌, ℕ, List, [], ◌∷◌, ◌++◌, true, false, take, drop, length}
 use Rattle.std.proofs.Common.{refl, sym, ◌∙◌, ap, subst, append_assoc}
 use Rattle.cc_jsdoc.specs.declared.reading.Open.{Open}
 use Rattle.cc_jsdoc.specs.declared.reading.Open.TheVariants as o
@@ -106,56 +106,56 @@ element_out {rest = r} t (element_ends {a = b} m k) = record { before = r; rest 
 -- ---- what a type begins with
 
 pub data View (os : List Open) (us ts : List Alternative) : List ℕ → Type 0 where
-  v_name : {text rest : List ℕ} {ws : List (List ℕ)} → IsName text ws rest → Completes os (us ++ of_name ws ∷ []) rest ts → View os us ts text
-  v_all : {text rest : List ℕ} → Mark 42 text rest → Completes os (us ++ one.Unknown ∷ []) rest ts → View os us ts text
-  v_any : {text rest : List ℕ} → Mark 63 text rest → Completes os (us ++ one.Unknown ∷ []) rest ts → View os us ts text
-  v_nullable : {text a : List ℕ} → Mark 63 text a → Awaits os us a ts → View os us ts text
-  v_not_null : {text a : List ℕ} → Mark 33 text a → Awaits os us a ts → View os us ts text
-  v_variadic : {text a b d : List ℕ} → Mark 46 text a → Mark 46 a b → Mark 46 b d → Awaits (o.Variadic (length us) ∷ os) us d ts → View os us ts text
-  v_union : {text a : List ℕ} → Mark 40 text a → Awaits (o.Union ∷ os) us a ts → View os us ts text
-  v_function : {text rest : List ℕ} → IsFunction text rest → Completes os (us ++ one.Simple simple.Function ∷ []) rest ts → View os us ts text
-  v_returning : {text a b : List ℕ} → IsFunction text a → Mark 58 a b → Awaits (o.Result (length us) ∷ os) us b ts → View os us ts text
-  v_array : {text a : List ℕ} → IsArray text a → Awaits (o.Element (length us) ∷ os) us a ts → View os us ts text
-  v_braced : {text a inside rest : List ℕ} → Mark 123 text a → Closes 123 125 a inside rest → Completes os (us ++ one.Unknown ∷ []) rest ts → View os us ts text
+  view_name : {text rest : List ℕ} {ws : List (List ℕ)} → IsName text ws rest → Completes os (us ++ of_name ws ∷ []) rest ts → View os us ts text
+  view_all : {text rest : List ℕ} → Mark 42 text rest → Completes os (us ++ one.Unknown ∷ []) rest ts → View os us ts text
+  view_any : {text rest : List ℕ} → Mark 63 text rest → Completes os (us ++ one.Unknown ∷ []) rest ts → View os us ts text
+  view_nullable : {text a : List ℕ} → Mark 63 text a → Awaits os us a ts → View os us ts text
+  view_not_null : {text a : List ℕ} → Mark 33 text a → Awaits os us a ts → View os us ts text
+  view_variadic : {text a b d : List ℕ} → Mark 46 text a → Mark 46 a b → Mark 46 b d → Awaits (o.Variadic (length us) ∷ os) us d ts → View os us ts text
+  view_union : {text a : List ℕ} → Mark 40 text a → Awaits (o.Union ∷ os) us a ts → View os us ts text
+  view_function : {text rest : List ℕ} → IsFunction text rest → Completes os (us ++ one.Simple simple.Function ∷ []) rest ts → View os us ts text
+  view_returning : {text a b : List ℕ} → IsFunction text a → Mark 58 a b → Awaits (o.Result (length us) ∷ os) us b ts → View os us ts text
+  view_array : {text a : List ℕ} → IsArray text a → Awaits (o.Element (length us) ∷ os) us a ts → View os us ts text
+  view_braced : {text a inside rest : List ℕ} → Mark 123 text a → Closes 123 125 a inside rest → Completes os (us ++ one.Unknown ∷ []) rest ts → View os us ts text
 
 module _ (os : List Open) (us ts : List Alternative) where
   pub view : {text rest : List ℕ} {vs : List Alternative} → IsType text vs rest → Completes os (us ++ vs) rest ts → View os us ts text
-  view (name n) k = v_name n k
-  view (all m) k = v_all m k
-  view (any m) k = v_any m k
-  view (nullable m t) k = v_nullable m (awaits t k)
-  view (not_null m t) k = v_not_null m (awaits t k)
+  view (name n) k = view_name n k
+  view (all m) k = view_all m k
+  view (any m) k = view_any m k
+  view (nullable m t) k = view_nullable m (awaits t k)
+  view (not_null m t) k = view_not_null m (awaits t k)
   view (optional t m) k = view t (c.optional m k)
-  view (variadic {rest = r} {ts = vs} m n l t) k = v_variadic m n l (awaits t (variadic_ends (subst (λ x. Completes os (x ++ one.Unknown ∷ []) r ts) (sym (take_all us vs)) k)))
-  view (union m u) k = v_union m (union_awaits os us ts u k)
-  view (function f) k = v_function f k
-  view (returning {rest = r} {ts = vs} f m t) k = v_returning f m (awaits t (result_ends (subst (λ x. Completes os (x ++ one.Simple simple.Function ∷ []) r ts) (sym (take_all us vs)) k)))
+  view (variadic {rest = r} {ts = vs} m n l t) k = view_variadic m n l (awaits t (variadic_ends (subst (λ x. Completes os (x ++ one.Unknown ∷ []) r ts) (sym (take_all us vs)) k)))
+  view (union m u) k = view_union m (union_awaits os us ts u k)
+  view (function f) k = view_function f k
+  view (returning {rest = r} {ts = vs} f m t) k = view_returning f m (awaits t (result_ends (subst (λ x. Completes os (x ++ one.Simple simple.Function ∷ []) r ts) (sym (take_all us vs)) k)))
   view (array {rest = r} {ts = vs} i t m) k =
-      v_array i (awaits t (element_ends m (subst (λ x. Completes os (x ++ array_of (drop (length us) (us ++ vs)) ∷ []) r ts) (sym (take_all us vs)) (subst (λ x. Completes os (us ++ array_of x ∷ []) r ts) (sym (drop_all us vs)) k))))
-  view (braced m l) k = v_braced m l k
+      view_array i (awaits t (element_ends m (subst (λ x. Completes os (x ++ array_of (drop (length us) (us ++ vs)) ∷ []) r ts) (sym (take_all us vs)) (subst (λ x. Completes os (us ++ array_of x ∷ []) r ts) (sym (drop_all us vs)) k))))
+  view (braced m l) k = view_braced m l k
 
   pub viewed : {text : List ℕ} → Awaits os us text ts → View os us ts text
   viewed (awaits t k) = view t k
 
   pub unview : {text : List ℕ} → View os us ts text → Awaits os us text ts
-  unview (v_name n k) = awaits (name n) k
-  unview (v_all m k) = awaits (all m) k
-  unview (v_any m k) = awaits (any m) k
-  unview (v_nullable m (awaits t k)) = awaits (nullable m t) k
-  unview (v_not_null m (awaits t k)) = awaits (not_null m t) k
-  unview (v_variadic m n l (awaits {vs = vs} t k)) =
+  unview (view_name n k) = awaits (name n) k
+  unview (view_all m k) = awaits (all m) k
+  unview (view_any m k) = awaits (any m) k
+  unview (view_nullable m (awaits t k)) = awaits (nullable m t) k
+  unview (view_not_null m (awaits t k)) = awaits (not_null m t) k
+  unview (view_variadic m n l (awaits {vs = vs} t k)) =
       let x = variadic_out t k in
       awaits (variadic m n l x.type) (subst (λ y. Completes os (y ++ one.Unknown ∷ []) x.rest ts) (take_all us vs) x.completes)
-  unview (v_union m (awaits t k)) = let x = union_out os us ts t refl k in awaits (union m x.union) x.completes
-  unview (v_function f k) = awaits (function f) k
-  unview (v_returning f m (awaits {vs = vs} t k)) =
+  unview (view_union m (awaits t k)) = let x = union_out os us ts t refl k in awaits (union m x.union) x.completes
+  unview (view_function f k) = awaits (function f) k
+  unview (view_returning f m (awaits {vs = vs} t k)) =
       let x = result_out t k in
       awaits (returning f m x.type) (subst (λ y. Completes os (y ++ one.Simple simple.Function ∷ []) x.rest ts) (take_all us vs) x.completes)
-  unview (v_array i (awaits {vs = vs} t k)) =
+  unview (view_array i (awaits {vs = vs} t k)) =
       let x = element_out t k in
       awaits (array i x.type x.mark)
       (subst (λ y. Completes os (us ++ array_of y ∷ []) x.rest ts) (drop_all us vs) (subst (λ y. Completes os (y ++ array_of (drop (length us) (us ++ vs)) ∷ []) x.rest ts) (take_all us vs) x.completes))
-  unview (v_braced m l k) = awaits (braced m l) k
+  unview (view_braced m l k) = awaits (braced m l) k
 
 -- no type begins at the end of a text
 pub none_at_end : (os : List Open) (us ts : List Alternative) (text : List ℕ) → IsEnd text → Awaits os us text ts ↔ ⊥

@@ -1,5 +1,5 @@
 -- Words by their bytes and by their characters, and what names mean.
-use Rattle.std.specs.Prelude.{◌≡◌, ℕ, zero, suc, ◌<◌, ◌≤◌, List, [], ◌∷◌, Bool, true, false, ◌&&◌, nat_lt, map, length, codes, encode_utf8_all}
+use Rattle.std.specs.Prelude.{◌≡◌, ℕ, zero, suc, ◌<◌, ◌≤◌, List, [], ◌∷◌, Bool, true, false, ◌&&◌, nat_lt, length, codes, encode_utf8_all}
 use Rattle.std.specs.List.{list_all}
 use Rattle.std.specs.Str.{chars, IsUtf8, IsAscii, bytes_eq}
 use Rattle.std.proofs.Common.{refl, sym, ◌∙◌, ap, arith, lit<}
@@ -7,7 +7,6 @@ use Rattle.std.proofs.lemmas.Bool.{false_from_ne_true}
 use Rattle.std.proofs.lemmas.Bool.Decides.{nat_tests}
 use Rattle.std.proofs.lemmas.Slice.Eq.{bytes_eq-Decides}
 use Rattle.std.proofs.lemmas.Str.{encodes-chars, chars-IsAscii, encodes-IsAscii}
-use Rattle.cc_text.specs.Utf16.{utf16}
 use Rattle.cc_jsdoc.specs.declared.types.Name.{Name}
 use Rattle.cc_jsdoc.specs.declared.types.Alternative.{Alternative}
 use Rattle.cc_jsdoc.specs.declared.types.Alternative.TheVariants as one

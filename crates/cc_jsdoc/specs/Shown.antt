@@ -1,5 +1,4 @@
 -- What the values of the code show.
-use Rattle.std.specs.Prelude.{ℕ, List}
 use Rattle.std.specs.Str.{chars, IsUtf8}
 use Rattle.cc_jsdoc.specs.declared.symbol.Symbol as code
 use Rattle.cc_jsdoc.specs.declared.symbol.Symbol.TheVariants as symbol

@@ -1,6 +1,6 @@
 -- The grammar of types (Closure Compiler, "Annotating JavaScript"). `IsType text ts rest` says that the text begins with a
 -- type whose alternatives are ts, and goes on with the rest.
-use Rattle.std.specs.Prelude.{◌≡◌, ℕ, List, [], ◌∷◌, ◌++◌, Bool, true, false, if◌then◌else◌, map, codes}
+use Rattle.std.specs.Prelude.{ℕ, List, [], ◌∷◌, ◌++◌, Bool, true, false, if◌then◌else◌, map, codes}
 use Rattle.std.specs.List.{list_any}
 use Rattle.std.specs.Str.{bytes_eq}
 use Rattle.cc_text.specs.Utf16.{utf16}

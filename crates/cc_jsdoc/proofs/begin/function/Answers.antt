@@ -1,5 +1,4 @@
-use Rattle.std.proofs.Common.{◌≡◌, ◌++◌, ◌∷◌, [], ◌∙◌, ap, subst, refl, reverse, length, arith}
-use Rattle.std.specs.Prelude.{codes}
+use Rattle.std.proofs.Common.{◌≡◌, ◌++◌, ◌∷◌, [], ◌∙◌, ap, reverse, length, arith}
 use Rattle.std.specs.Str.{chars}
 use Rattle.cc_jsdoc.specs.declared.reading.Open.TheVariants as o
 use Rattle.cc_jsdoc.specs.Types.{head}

@@ -1,4 +1,4 @@
-use Rattle.std.proofs.Common.{◌≡◌, ◌∙◌, ◌++◌, ◌∷◌, [], sym, ap, subst, reverse}
+use Rattle.std.proofs.Common.{◌≡◌, ◌∙◌, ◌++◌, ◌∷◌, [], sym, ap, reverse}
 use Rattle.std.specs.Str.{chars}
 use Rattle.cc_jsdoc.specs.declared.reading.Step.TheVariants as s
 use Rattle.cc_jsdoc.specs.Types.{name_of, of_name}

@@ -1,4 +1,4 @@
-use Rattle.std.proofs.Common.{◌≡◌, sym, ◌∙◌, ap, ◌∷◌, []}
+use Rattle.std.proofs.Common.{sym, ◌∙◌, ap, ◌∷◌, []}
 use Rattle.std.specs.Str.{chars}
 use Rattle.cc_jsdoc.specs.Texts.{lines}
 use Rattle.cc_jsdoc.proofs.TextLemmas.{lines-last, lines-more}

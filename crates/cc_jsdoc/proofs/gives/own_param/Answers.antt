@@ -1,4 +1,4 @@
-use Rattle.std.proofs.Common.{Some, sym, ap, subst}
+use Rattle.std.proofs.Common.{Some, sym, subst}
 use Rattle.std.specs.Str.{chars}
 use Rattle.cc_text.specs.Utf16.{utf16}
 use Rattle.cc_jsdoc.specs.Tags.{ParamOf, param, no_param}

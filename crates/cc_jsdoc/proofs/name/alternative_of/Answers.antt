@@ -1,4 +1,4 @@
-use Rattle.std.proofs.Common.{◌≡◌, [], ◌≤◌, length, refl, ⊎_elim, arith}
+use Rattle.std.proofs.Common.{refl, ⊎_elim, arith}
 use Rattle.std.specs.Prelude.{codes}
 use Rattle.std.specs.Str.{chars}
 use Rattle.cc_jsdoc.specs.Types.{of_word}

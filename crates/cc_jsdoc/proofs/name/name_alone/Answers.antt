@@ -1,4 +1,4 @@
-use Rattle.std.proofs.Common.{◌≡◌, None, Some, sym, ◌∙◌}
+use Rattle.std.proofs.Common.{sym, ◌∙◌}
 use Rattle.std.specs.Str.{chars}
 use Rattle.cc_jsdoc.specs.Types.{alone}
 use Rattle.cc_jsdoc.proofs.NameLemmas.{not_alone}

@@ -1,4 +1,4 @@
-use Rattle.std.proofs.Common.{◌≡◌, ◌∷◌, false, sym, ◌∙◌, ap, subst, Some, None}
+use Rattle.std.proofs.Common.{◌≡◌, ◌∷◌, false, ◌∙◌, ap, subst, Some, None}
 use Rattle.std.specs.Str.{chars}
 use Rattle.cc_jsdoc.specs.Tags.{own_texts, IsTag}
 use Rattle.cc_jsdoc.proofs.PieceLemmas.{left, cut, given_more, given_passed, given_all}
