@@ -4,3 +4,4 @@ pub mod Built
 pub mod Made
 pub mod Literals
 pub mod Places
+pub mod Law

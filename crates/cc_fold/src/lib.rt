@@ -12,6 +12,7 @@ pub mod built;
 mod choice;
 mod copies;
 mod expression;
+pub mod laws;
 mod literal;
 mod operators;
 mod parts;

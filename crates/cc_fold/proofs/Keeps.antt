@@ -1,0 +1,29 @@
+-- Whichever scopes of a well made program are folded, it does the same.
+use Rattle.std.proofs.Common.{◌≡◌, ℕ, Bool, false, Option, Some, None, is_some, refl, sym, ap, subst, ◌∙◌}
+use Rattle.cc_ast.specs.Syntax.{Stmts, more_stmts, Program}
+use Rattle.cc_ast.specs.declared.tree.Ref.{Ref}
+use Rattle.cc_meaning.specs.Shapes.{tables_of}
+use Rattle.cc_meaning.specs.Same.{Same}
+use Rattle.cc_tied.specs.Tied.{built_of}
+use Rattle.cc_tied.specs.PlainFacts.{plain_facts}
+use Rattle.cc_tied.specs.Mixed.{MixedScopes, IsMixed}
+use Rattle.cc_tied.proofs.KeptPaths.{Stays}
+use Rattle.cc_tied.proofs.MixedSame.{mixed_kit, same_by_scopes, whole_rewrite}
+use Rattle.cc_tied.proofs.InjectPass.{same_tables}
+use Rattle.cc_fold.specs.Built.{built_globals, built_in}
+use Rattle.cc_fold.specs.Fold.{fold, same_call, same_declarator, same_name, same_stmt}
+use Rattle.cc_fold.specs.Law.{folded_by, FoldingKeeps}
+use Rattle.cc_fold.proofs.BuiltLaw.{plan_lacks}
+use Rattle.cc_fold.proofs.Law.{fold_rules}
+use Rattle.cc_fold.proofs.Pass.{checked_adds}
+
+fold_stays : Stays fold same_call
+unfolding fold same_call
+fold_stays = record { var = λ i r. refl; fun = λ i f. refl; object = λ i fs. refl; member = λ i e p. refl; assign = λ i op u e. refl; call = λ i f es. refl }
+
+pub folding_keeps : FoldingKeeps
+unfolding same_declarator same_name same_stmt
+folding_keeps P Q W none m =
+    subst (λ z. Same P z) (sym m.others)
+    (same_by_scopes (built_in (built_globals P)) fold same_call fold_stays P W none (plan_lacks P) Q.scopes m.scopes
+    (λ X. fold_rules _ X (built_in (built_globals P)) (same_tables (plain_facts P) P _ none (built_in (built_globals P)) (plan_lacks P) X) (λ i j. tt) checked_adds _))
