@@ -10,3 +10,5 @@ pub mod WriteLemmas
 pub mod CallLemmas
 pub mod OperatorLemmas
 pub mod UseLemmas
+pub mod TextUseLemmas
+pub mod PlaceLemmas

@@ -144,8 +144,9 @@ pub(crate) fn enter_rule(
     )
 }
 
+/// Whether the value is primitive.
 #[tactic(auto, unfolding(cc_meaning::specs::Rules::is_prim))]
-fn is_prim(value: &Value) -> bool
+pub(crate) fn is_prim(value: &Value) -> bool
     ensures { result ≡ Rules.is_prim (value_of value.now) }
 {
     match value {

@@ -14,6 +14,7 @@ mod prototypes;
 mod reads;
 mod rules;
 mod slots;
+mod text_uses;
 mod types;
 mod uses;
 mod variables;
