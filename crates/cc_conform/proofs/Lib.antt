@@ -9,6 +9,12 @@ pub mod PrototypeLemmas
 pub mod WriteLemmas
 pub mod CallLemmas
 pub mod OperatorLemmas
-pub mod UseLemmas
-pub mod TextUseLemmas
+pub mod UseTexts
 pub mod PlaceLemmas
+pub mod PositionLemmas
+pub mod UnitLemmas
+pub mod OutcomeLemmas
+pub mod UseGlobals
+pub mod UseObjects
+pub mod UseArrays
+pub mod UseElements

@@ -144,9 +144,8 @@ pub(crate) fn enter_rule(
     )
 }
 
-/// Whether the value is primitive.
 #[tactic(auto, unfolding(cc_meaning::specs::Rules::is_prim))]
-pub(crate) fn is_prim(value: &Value) -> bool
+fn is_prim(value: &Value) -> bool
     ensures { result ≡ Rules.is_prim (value_of value.now) }
 {
     match value {

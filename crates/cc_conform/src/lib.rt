@@ -3,19 +3,25 @@
 #![tactic(auto)]
 
 pub mod act;
+mod array_uses;
+mod built_ins;
 mod calls;
 mod docs;
 mod fields;
+mod global_uses;
 mod host;
+pub mod judge;
 mod look_up;
 mod names;
+mod object_uses;
+mod operands;
 mod operators;
+mod places;
 mod prototypes;
 mod reads;
 mod rules;
 mod slots;
 mod text_uses;
 mod types;
-mod uses;
 mod variables;
 mod writes;

@@ -1,171 +1,125 @@
-// What uses of texts, of `Math` and of `String` break (ECMA-262 5.1, 15.5 and 15.8).
+// What uses of texts break (ECMA-262 5.1, 15.5.4).
 
-ghost use Rattle.std.specs.Prelude.{◌≡◌, [], ◌∷◌, Some, None, if◌then◌else◌, map};
+ghost use Rattle.std.specs.Prelude.{◌≡◌, ◌∷◌, List, [], map, ℕ};
+ghost use Rattle.cc_meaning.specs.Built.{outcome_of, rule_in};
 ghost use Rattle.cc_meaning.specs.Builtins as Builtins;
-ghost use Rattle.cc_meaning.specs.Builtins.{char_code_at, first_of_two, from_char_codes, math_abs, math_use, string_use, text_char_code_at, text_index_of, text_last_index_of, text_use};
 ghost use Rattle.cc_meaning.specs.Rules.{outcome_rule};
+ghost use Rattle.cc_meaning.specs.State.{State, Tables};
+ghost use Rattle.cc_meaning.specs.Store.{of_text};
 ghost use Rattle.cc_value.specs.Bridge.{value_of};
-ghost use Rattle.cc_conform.specs.Bridge.{math_use_of, text_use_of};
-ghost use Rattle.cc_conform.specs.Uses as Uses;
+ghost use Rattle.cc_conform.specs.Bridge.{text_use_of};
 
-use crate::act::{MathUse, TextUse};
-use crate::calls::is_prim;
-use crate::rules::{rule_if, rule_unless};
-use crate::uses::{GREATEST, alone, are_one_or_two, are_some, are_wholes, is_whole, place_rule};
+use crate::act::TextUse;
+use crate::operands::{are_wholes, has_one, has_one_or_two, only};
+use crate::places::{first_place_rule, last_place_rule};
+use crate::rules::rule_unless;
 use cc_value::value::Value;
 
-// The first place at which a part stands in a text.
-fn first_place(text: &[u16], part: &[u16]) -> Option<usize>
-    ensures { result ≡ Builtins.first_place 0 part.now text.now }
+fn char_at_rule(args: &[Value]) -> Option<u8>
+    ensures { (t : List ℕ) → result ≡ outcome_rule (Builtins.text_use Builtins.text_char_at t (map value_of args.now)) }
 {
-    for at in 0..text.len() {
-        if text[at..].starts_with(part) {
-            return Some(at);
-        }
-    }
-    if part.is_empty() {
-        Some(text.len())
-    } else {
-        None
-    }
+    rule_unless(are_wholes(args) & has_one(args), 2)
 }
 
-// The place where the part stands here, else the one before.
-fn later(is_here: bool, at: usize, before: Option<usize>) -> Option<usize>
-    ensures { result ≡ first_of_two (if is_here then Some at else None) before }
+// `slice` and `substring`, which take one place or two.
+fn part_rule(args: &[Value]) -> Option<u8>
+    ensures slice { (t : List ℕ) → result ≡ outcome_rule (Builtins.text_use Builtins.text_slice t (map value_of args.now)) }
+    ensures substring { (t : List ℕ) → result ≡ outcome_rule (Builtins.text_use Builtins.text_substring t (map value_of args.now)) }
 {
-    if is_here { Some(at) } else { before }
+    rule_unless(are_wholes(args) & has_one_or_two(args), 2)
 }
 
-// The last place.
-fn last_place(text: &[u16], part: &[u16]) -> Option<usize>
-    ensures { result ≡ Builtins.last_place 0 part.now text.now }
+fn code_at_rule(text: &[u16], place: i64) -> Option<u8>
+    ensures { result ≡ outcome_rule (Builtins.char_code_at text.now place) }
 {
-    let mut found = None;
-    for at in 0..text.len() {
-        found = later(text[at..].starts_with(part), at, found);
+    if place < 0 {
+        return Some(1);
     }
-    if part.is_empty() {
-        Some(text.len())
-    } else {
-        found
-    }
+    rule_unless((place as usize) < text.len(), 1)
 }
 
-// The unit at a place is a number, and there is none past the ends.
-fn unit_rule(text: &[u16], at: i64) -> Option<u8>
-    ensures { result ≡ outcome_rule (char_code_at text.now at) }
+fn code_of_rule(text: &[u16], place: &Value) -> Option<u8>
+    ensures { result ≡ outcome_rule (Builtins.text_use Builtins.text_char_code_at text.now (value_of place.now ∷ [])) }
 {
-    match usize::try_from(at) {
-        Ok(place) => rule_if(text.len() <= place, 1),
-        Err(_) => Some(1),
-    }
-}
-
-fn code_rule(text: &[u16], value: &Value) -> Option<u8>
-    ensures { result ≡ outcome_rule (text_use text_char_code_at text.now (value_of value.now ∷ [])) }
-{
-    match value {
-        Value::Whole(at) => unit_rule(text, *at),
+    match place {
+        Value::Whole(place) => code_at_rule(text, *place),
         _ => Some(2),
     }
 }
 
-fn first_rule(text: &[u16], value: &Value) -> Option<u8>
-    ensures { result ≡ outcome_rule (text_use text_index_of text.now (value_of value.now ∷ [])) }
+fn char_code_rule(text: &[u16], args: &[Value]) -> Option<u8>
+    ensures { result ≡ outcome_rule (Builtins.text_use Builtins.text_char_code_at text.now (map value_of args.now)) }
 {
-    match value {
-        Value::Text(part) => place_rule(first_place(text, part.list.as_slice())),
-        _ => Some(2),
-    }
-}
-
-fn last_rule(text: &[u16], value: &Value) -> Option<u8>
-    ensures { result ≡ outcome_rule (text_use text_last_index_of text.now (value_of value.now ∷ [])) }
-{
-    match value {
-        Value::Text(part) => place_rule(last_place(text, part.list.as_slice())),
-        _ => Some(2),
-    }
-}
-
-// A use of a text with one value.
-fn one_rule(used: TextUse, text: &[u16], value: &Value) -> Option<u8>
-    ensures { result ≡ outcome_rule (text_use (text_use_of used) text.now (value_of value.now ∷ [])) }
-{
-    match used {
-        TextUse::CharAt => rule_unless(is_whole(value), 2),
-        TextUse::CharCodeAt => code_rule(text, value),
-        TextUse::IndexOf => first_rule(text, value),
-        TextUse::LastIndexOf => last_rule(text, value),
-        TextUse::Slice => rule_unless(is_whole(value), 2),
-        TextUse::Substring => rule_unless(is_whole(value), 2),
-    }
-}
-
-// A use of a text with none or with several.
-fn others_rule(used: TextUse, text: &[u16], values: &[Value]) -> Option<u8>
-    requires { Uses.alone (map value_of values.now) ≡ None }
-    ensures { result ≡ outcome_rule (text_use (text_use_of used) text.now (map value_of values.now)) }
-{
-    let _text = text;
-    match used {
-        TextUse::CharAt => Some(2),
-        TextUse::CharCodeAt => Some(2),
-        TextUse::IndexOf => Some(2),
-        TextUse::LastIndexOf => Some(2),
-        TextUse::Slice => rule_unless(are_one_or_two(values), 2),
-        TextUse::Substring => rule_unless(are_one_or_two(values), 2),
-    }
-}
-
-/// What a use of a text breaks.
-pub(crate) fn text_rule(used: TextUse, text: &[u16], values: &[Value]) -> Option<u8>
-    ensures { result ≡ outcome_rule (text_use (text_use_of used) text.now (map value_of values.now)) }
-{
-    match alone(values) {
-        Some(value) => one_rule(used, text, value),
-        None => others_rule(used, text, values),
-    }
-}
-
-// The size of a number, which may be past the greatest.
-fn size_rule(value: &Value) -> Option<u8>
-    ensures { result ≡ outcome_rule (math_use math_abs (value_of value.now ∷ [])) }
-{
-    match value {
-        Value::Whole(z) => rule_if(GREATEST < z.unsigned_abs(), 1),
-        _ => Some(2),
-    }
-}
-
-/// What a use of `Math` breaks.
-pub(crate) fn math_rule(used: MathUse, values: &[Value]) -> Option<u8>
-    ensures { result ≡ outcome_rule (math_use (math_use_of used) (map value_of values.now)) }
-{
-    match used {
-        MathUse::Max => rule_unless(are_some(values), 2),
-        MathUse::Min => rule_unless(are_some(values), 2),
-        MathUse::Abs => match alone(values) {
-            Some(value) => size_rule(value),
-            None => Some(2),
-        },
-    }
-}
-
-/// What `String(v)` breaks.
-pub(crate) fn string_rule(values: &[Value]) -> Option<u8>
-    ensures { result ≡ outcome_rule (string_use (map value_of values.now)) }
-{
-    match alone(values) {
-        Some(value) => rule_unless(is_prim(value), 2),
+    match only(args) {
+        Some(place) => code_of_rule(text, place),
         None => Some(2),
     }
 }
 
-/// What `String.fromCharCode(..)` breaks.
-pub(crate) fn codes_rule(values: &[Value]) -> Option<u8>
-    ensures { result ≡ outcome_rule (from_char_codes (map value_of values.now)) }
+fn first_of_rule(text: &[u16], part: &Value) -> Option<u8>
+    ensures { result ≡ outcome_rule (Builtins.text_use Builtins.text_index_of text.now (value_of part.now ∷ [])) }
 {
-    rule_unless(are_wholes(values), 2)
+    match part {
+        Value::Text(part) => first_place_rule(part.list.as_slice(), text),
+        _ => Some(2),
+    }
+}
+
+fn index_rule(text: &[u16], args: &[Value]) -> Option<u8>
+    ensures { result ≡ outcome_rule (Builtins.text_use Builtins.text_index_of text.now (map value_of args.now)) }
+{
+    match only(args) {
+        Some(part) => first_of_rule(text, part),
+        None => Some(2),
+    }
+}
+
+fn last_of_rule(text: &[u16], part: &Value) -> Option<u8>
+    ensures { result ≡ outcome_rule (Builtins.text_use Builtins.text_last_index_of text.now (value_of part.now ∷ [])) }
+{
+    match part {
+        Value::Text(part) => last_place_rule(part.list.as_slice(), text),
+        _ => Some(2),
+    }
+}
+
+fn last_index_rule(text: &[u16], args: &[Value]) -> Option<u8>
+    ensures { result ≡ outcome_rule (Builtins.text_use Builtins.text_last_index_of text.now (map value_of args.now)) }
+{
+    match only(args) {
+        Some(part) => last_of_rule(text, part),
+        None => Some(2),
+    }
+}
+
+fn use_rule(kind: TextUse, text: &[u16], args: &[Value]) -> Option<u8>
+    ensures { result ≡ outcome_rule (Builtins.text_use (text_use_of kind) text.now (map value_of args.now)) }
+{
+    match kind {
+        TextUse::CharAt => char_at_rule(args),
+        TextUse::CharCodeAt => char_code_rule(text, args),
+        TextUse::IndexOf => index_rule(text, args),
+        TextUse::LastIndexOf => last_index_rule(text, args),
+        TextUse::Slice => part_rule(args),
+        TextUse::Substring => part_rule(args),
+    }
+}
+
+fn receiver_rule(kind: TextUse, receiver: &Value, args: &[Value]) -> Option<u8>
+    ensures { (T : Tables) (s : State) → result ≡ rule_in T s (outcome_of s (of_text (text_use_of kind)) (value_of receiver.now ∷ map value_of args.now)) }
+{
+    match receiver {
+        Value::Text(text) => use_rule(kind, text.list.as_slice(), args),
+        _ => Some(2),
+    }
+}
+
+/// The rule that a use of a text breaks, where the first operand is the text.
+pub(crate) fn text_rule(kind: TextUse, operands: &[Value]) -> Option<u8>
+    ensures { (T : Tables) (s : State) → result ≡ rule_in T s (outcome_of s (of_text (text_use_of kind)) (map value_of operands.now)) }
+{
+    match operands.split_first() {
+        Some((receiver, args)) => receiver_rule(kind, receiver, args),
+        None => Some(2),
+    }
 }

@@ -2,4 +2,5 @@
 //! and 11 to 14).
 #![tactic(auto)]
 
+pub mod laws;
 pub mod word;

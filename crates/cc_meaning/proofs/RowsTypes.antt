@@ -48,6 +48,11 @@ param_type_run : run checked param_type (record { turns = (load 0 ∷ []); repli
 unfolding opened
 param_type_run = refl
 
+-- the acts of a call are judged before its cost is taken, so this ends so too where nothing is left for the second call
+acts_before_cost_run : run checked param_type (record { turns = (load 0 ∷ []); replies = ((record { first = []; answer = gives undef }) ∷ []) }) 2 ≡ ((called (shown_out 0) undef ((shown_prim (whole (pos 1))) ∷ []) ∷ []), stopped (broken 6 (at_site 1062)))
+unfolding opened
+acts_before_cost_run = refl
+
 --     /** @return {number} */function f(){return 'x';}f();
 abbrev result_type : Program
 result_type = record {

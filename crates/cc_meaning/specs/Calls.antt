@@ -1,5 +1,5 @@
 -- References, calls, and what goes to the outside (ECMA-262 5.1, 8.7, 11.2 and 13.2).
-use Rattle.std.specs.Prelude.{ℕ, pos, Bool, true, false, nat_eq, List, [], ◌∷◌, ◌++◌, length, slice_get, Option, Some, None, is_some}
+use Rattle.std.specs.Prelude.{ℕ, pos, Bool, true, false, nat_eq, List, [], ◌∷◌, ◌++◌, ◌||◌, length, slice_get, Option, Some, None, is_some}
 use Rattle.cc_ast.specs.Syntax.{Prim, undefined, truth, whole, text}
 use Rattle.cc_ast.specs.declared.operator.UnOp.{UnOp}
 use Rattle.cc_ast.specs.declared.operator.UnOp.TheVariants.{Delete}
@@ -115,12 +115,12 @@ is_code_of None f = false
 is_code_of (Some c) f = nat_eq c.function f
 
 -- whether a write to this object is made by the declaration of its prototype
-unfoldable pub declares_on : State → Option ℕ → Val → Bool
+unfoldable pub declares_on : State → List ℕ → Val → Bool
 unfolding is_code_of code_at
-declares_on s (Some f) (obj n) = is_code_of (code_at s n) f
-declares_on s (Some f) (out m) = false
-declares_on s (Some f) (prim p) = false
-declares_on s None v = false
+declares_on s [] v = false
+declares_on s (f ∷ fs) (obj n) = is_code_of (code_at s n) f || declares_on s fs (obj n)
+declares_on s (f ∷ fs) (out m) = false
+declares_on s (f ∷ fs) (prim p) = false
 
 unfoldable pub views : State → List View → List Val
 unfolding viewed

@@ -320,5 +320,5 @@ module _ (J : Mode) where
   bodies P zero c t vs = stop spent
   bodies P (suc d) c t vs =
       call_frame c vs >>= λ n.
-      (let g : Env = record { at = Some n; this = t; declares = None } in
+      (let g : Env = record { at = Some n; this = t; declares = [] } in
       hoist g (body_of P c.function) >>= λ _. exs (bodies P d) g [] (body_of P c.function)) >>= λ k. ret (result c k)

@@ -62,7 +62,7 @@ IsFollowing P sc = IsTrue (follows (graph_of P) sc)
 -- ---- turns
 
 abbrev pub top : Env
-top = record { at = None; this = None; declares = None }
+top = record { at = None; this = None; declares = [] }
 
 unfoldable pub deps_of : Option ChunkInfo → List ℕ
 deps_of None = []

@@ -112,27 +112,27 @@ unfolding is_create is_prototype_alone
 creates T (call i f es) = is_create T f && is_prototype_alone T es
 creates T _ = false
 
-unfoldable pub set_by : Tables → Option Path → Option ℕ
+unfoldable pub set_by : Tables → Option Path → List ℕ
 unfolding set_to
-set_by T None = None
+set_by T None = []
 set_by T (Some w) = set_to T.set w
 
--- the function whose prototype this writes
-unfoldable pub prototype_target : Tables → Target → Option ℕ
+-- the functions whose prototype this may write
+unfoldable pub prototype_target : Tables → Target → List ℕ
 unfolding is_named set_by path_of
-prototype_target T (to_member i e p) = pick (is_named T p name_prototype) (set_by T (path_of e)) None
-prototype_target T _ = None
+prototype_target T (to_member i e p) = pick (is_named T p name_prototype) (set_by T (path_of e)) []
+prototype_target T _ = []
 
-unfoldable pub declared_in : Tables → Expr → Option ℕ
+unfoldable pub declared_in : Tables → Expr → List ℕ
 unfolding creates prototype_target
-declared_in T (assign i None t e) = pick (creates T e) (prototype_target T t) None
-declared_in T _ = None
+declared_in T (assign i None t e) = pick (creates T e) (prototype_target T t) []
+declared_in T _ = []
 
--- the function whose prototype a statement declares
-unfoldable pub declared_by : Tables → Stmt → Option ℕ
+-- the functions whose prototype a statement declares
+unfoldable pub declared_by : Tables → Stmt → List ℕ
 unfolding declared_in
 declared_by T (simple i e) = declared_in T e
-declared_by T _ = None
+declared_by T _ = []
 
 -- ---- which global or path is set to which function
 

@@ -52,11 +52,11 @@ pub record Frame : Type 0 where
   pub values : List (Option Val)
 
 -- where a part of a program runs: the innermost frame, the receiver where there is one, and the
--- function whose declaration of a prototype is being carried out
+-- functions whose prototype the statement declares that is being carried out
 pub record Env : Type 0 where
   pub at : Option ℕ
   pub this : Option Val
-  pub declares : Option ℕ
+  pub declares : List ℕ
 
 -- what a run needs of a scope besides its body
 pub record Head : Type 0 where

@@ -110,11 +110,11 @@ unfolding flat_place flats_in paired
 flat_of T None = None
 flat_of T (Some p) = paired p.0 (flat_place 0 (flats_in (slice_get T.globals p.0)) p.1)
 
--- the function that a statement of a chunk's own list sets this global or path to
-unfoldable pub set_to : List (Path × ℕ) → Path → Option ℕ
+-- the functions that statements of the chunks' own lists set this global or path to
+unfoldable pub set_to : List (Path × ℕ) → Path → List ℕ
 unfolding same_numbers
-set_to [] p = None
-set_to (x ∷ xs) p = pick (nat_eq x.0.0 p.0 && same_numbers x.0.1 p.1) (Some x.1) (set_to xs p)
+set_to [] p = []
+set_to (x ∷ xs) p = pick (nat_eq x.0.0 p.0 && same_numbers x.0.1 p.1) (x.1 ∷ set_to xs p) (set_to xs p)
 
 -- ---- classes
 

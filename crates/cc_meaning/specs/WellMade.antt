@@ -181,9 +181,9 @@ pub record IsMade (P : Program) (f g : ℕ) (declared : Bool) : Type 0 where
   pub parent : scope.parent ≡ Some f
   pub own : IsTrue declared → IsFalse scope.own
 
--- the class whose function a global or path is set to has this method
+-- each class whose function a global or path is set to has this method
 pub record HasMethod (P : Program) (w : Path) (p g : ℕ) : Type 0 where
-  pub method : (f c : ℕ) (k : Class) → set_by (tables_of P) (Some w) ≡ Some f → class_of_function (tables_of P) f ≡ Some c → slice_get P.classes c ≡ Some k → In (p, g) k.methods
+  pub method : (f c : ℕ) (k : Class) → In f (set_by (tables_of P) (Some w)) → class_of_function (tables_of P) f ≡ Some c → slice_get P.classes c ≡ Some k → In (p, g) k.methods
 
 -- each part of a scope is sound
 pub data IsPart (P : Program) (f : ℕ) : Part → Type 0 where

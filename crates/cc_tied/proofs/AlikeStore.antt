@@ -168,7 +168,7 @@ module _ (P Q : Program) (al : Alike P Q) where
       sim_bind T {R = Done} (judged_a P Q al i i' (writes (obj o) a x d) (writes (obj o) b y d') _ _ (λ s t ti. stops_low (writes (obj o) a x d) refl _ ∙ write_same ti o a b q x y d d' ∙ sym (stops_low (writes (obj o) b y d') refl _)) (put_t o a b q k k' x y e)) (λ v2 l2 _ _ _.
       both_silent P Q al (silent_read P Q al (λ s. fields_reached s.tables s.objs o a) (λ c. receive_all c x) (λ c. silent_all P Q al c x)) (silent_read P Q al (λ s. fields_reached s.tables s.objs o b) (λ c. receive_all c y) (λ c. silent_all P Q al c y)))
 
-  pub write_t : {w : W} (i i' : Spot) (o : ℕ) (a b : Access) → KeyN P Q al a b → (x : Val) (d d' : Option ℕ) → Sim T Done w (λ s. write_slot plain i o a (kind_by a) x (declares_on s d (obj o)) s) (λ s. write_slot plain i' o b (kind_by b) x (declares_on s d' (obj o)) s)
+  pub write_t : {w : W} (i i' : Spot) (o : ℕ) (a b : Access) → KeyN P Q al a b → (x : Val) (d d' : List ℕ) → Sim T Done w (λ s. write_slot plain i o a (kind_by a) x (declares_on s d (obj o)) s) (λ s. write_slot plain i' o b (kind_by b) x (declares_on s d' (obj o)) s)
   write_t i i' o a b q x d d' s t ti le le' = write_slot_t i i' o a b q (kind_by a) (kind_by b) x x refl (declares_on s d (obj o)) (declares_on t d' (obj o)) s t ti le le'
 
   pub drop_t : {w : W} (o : ℕ) (a b : Access) → KeyN P Q al a b → Sim T Vals w (λ s. (changing (dropped_from (obj o) (name_of s.tables a)) >>= λ _. ret (prim (truth true))) s) (λ s. (changing (dropped_from (obj o) (name_of s.tables b)) >>= λ _. ret (prim (truth true))) s)

@@ -136,6 +136,9 @@ module _ (P Q : Program) (al : Alike P Q) where
     StandT = FunA S S' N;
     ReadT = RefA S S' N;
     WriteT = RefA S S' N;
+    SetT = λ c r p. ⊥;
+    BindT = λ c r f. ⊥;
+    bind_inside = λ h. h;
     ThisT = λ c. Unit {0};
     DocT = λ d e. Unit {0};
     DeclaresT = λ d e. Unit {0};

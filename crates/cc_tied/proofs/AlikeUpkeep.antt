@@ -236,7 +236,7 @@ module _ (P Q : Program) (al : Alike P Q) where
   fits_t : (f g : ℕ) → Paired N.functions f g → (vs : List Val) (m n : ℕ) → PlaceA S S' N (call_pair f g) m n → slice_get (places_of S f vs) m ≡ slice_get (places_of S' g vs) n
   fits_t f g q vs _ _ (in_call r) = al.fits f g q vs _ _ r
 
-  frame_t : {w : W} (a b : Code) (th th' : Option Val) (vs : List Val) → Paired N.functions a.function b.function → UpA P Q al w.w a.function b.function a.up b.up → th ≡ th' → Sim T (λ v m n. EnvA (A.inside (owns S a.function) (a.function, b.function) (N.around (a.function, b.function))) v.w (record { at = Some m; this = th; declares = None }) (record { at = Some n; this = th'; declares = None })) w (call_frame plain a vs) (call_frame plain b vs)
+  frame_t : {w : W} (a b : Code) (th th' : Option Val) (vs : List Val) → Paired N.functions a.function b.function → UpA P Q al w.w a.function b.function a.up b.up → th ≡ th' → Sim T (λ v m n. EnvA (A.inside (owns S a.function) (a.function, b.function) (N.around (a.function, b.function))) v.w (record { at = Some m; this = th; declares = [] }) (record { at = Some n; this = th'; declares = [] })) w (call_frame plain a vs) (call_frame plain b vs)
   unfolding call_frame plain_tables tables_of places_of
   frame_t {w = w} a b th th' vs q u e =
       sim_tables T _ _ (sim_as T (λ v l m n k. record { at = ap Some k.0; this = e; chain = subst (λ z. Chain v.w z (Some m)) (sym (inside_beyond (owns S a.function) (a.function, b.function) (N.around (a.function, b.function)))) (a.up, k.1, chain_later l.2 _ a.up u.1) })
@@ -343,6 +343,7 @@ module _ (P Q : Program) (al : Alike P Q) where
     up_out_write = λ x y d d' i k f. out_write_t _ _ _ _ _ x y d d' _ _ k (f k.same);
     up_read_var = λ i e r. read_var_t _ _ e r;
     up_write_var = λ i e r x. rw (same_val x) (write_var_t _ _ _ e r);
+    up_set_var = λ i e h. absurd h;
     up_catch = λ e x. rw (same_val x) (catch_t _ e);
     up_frame = λ c t vs. rw (same_list vs) (frame_t _ _ _ _ _ c.function c.up (same_opt t));
     up_take_path = λ i p x k. absurd p;

@@ -182,22 +182,22 @@ module _ (K : Kit) where
     unfolding put_on
     rel_prim_put s p x y a b made made' d d' = rel_prim_write K p a b x y d d' skip skip s
 
-    rel_put_by : {v : World} {i i' : Spot} → SpotT i i' → (d d' : Option ℕ) → DeclaresT d d' → {o o' x y : Val} {a b : Access} → V K v o o' → KeyT v o a b → V K v x y → Rel (Done K) v (λ s. put_on J i o a (kind_by a) x (declares_on s d o) s) (λ s. put_on J' i' o' b (kind_by b) y (declares_on s d' o') s)
+    rel_put_by : {v : World} {i i' : Spot} → SpotT i i' → (d d' : List ℕ) → DeclaresT d d' → {o o' x y : Val} {a b : Access} → V K v o o' → KeyT v o a b → V K v x y → Rel (Done K) v (λ s. put_on J i o a (kind_by a) x (declares_on s d o) s) (λ s. put_on J' i' o' b (kind_by b) y (declares_on s d' o') s)
     unfolding put_on declares_on
     rel_put_by s d d' dt (obj_t o) k h = rel_write s dt o k h
-    rel_put_by s None None dt {x = x} {y = y} {a = a} {b = b} (out_t {n = n}) k h = rel_out_put s n k (kind_by a) (kind_by b) h false false
-    rel_put_by s None (Some f') dt {x = x} {y = y} {a = a} {b = b} (out_t {n = n}) k h = rel_out_put s n k (kind_by a) (kind_by b) h false false
-    rel_put_by s (Some f) None dt {x = x} {y = y} {a = a} {b = b} (out_t {n = n}) k h = rel_out_put s n k (kind_by a) (kind_by b) h false false
-    rel_put_by s (Some f) (Some f') dt {x = x} {y = y} {a = a} {b = b} (out_t {n = n}) k h = rel_out_put s n k (kind_by a) (kind_by b) h false false
-    rel_put_by s None None dt {x = x} {y = y} {a = a} {b = b} (prim_t {p = p}) k h = rel_prim_put s p x y a b (kind_by a) (kind_by b) false false
-    rel_put_by s None (Some f') dt {x = x} {y = y} {a = a} {b = b} (prim_t {p = p}) k h = rel_prim_put s p x y a b (kind_by a) (kind_by b) false false
-    rel_put_by s (Some f) None dt {x = x} {y = y} {a = a} {b = b} (prim_t {p = p}) k h = rel_prim_put s p x y a b (kind_by a) (kind_by b) false false
-    rel_put_by s (Some f) (Some f') dt {x = x} {y = y} {a = a} {b = b} (prim_t {p = p}) k h = rel_prim_put s p x y a b (kind_by a) (kind_by b) false false
+    rel_put_by s [] [] dt {x = x} {y = y} {a = a} {b = b} (out_t {n = n}) k h = rel_out_put s n k (kind_by a) (kind_by b) h false false
+    rel_put_by s [] (f' ∷ fs') dt {x = x} {y = y} {a = a} {b = b} (out_t {n = n}) k h = rel_out_put s n k (kind_by a) (kind_by b) h false false
+    rel_put_by s (f ∷ fs) [] dt {x = x} {y = y} {a = a} {b = b} (out_t {n = n}) k h = rel_out_put s n k (kind_by a) (kind_by b) h false false
+    rel_put_by s (f ∷ fs) (f' ∷ fs') dt {x = x} {y = y} {a = a} {b = b} (out_t {n = n}) k h = rel_out_put s n k (kind_by a) (kind_by b) h false false
+    rel_put_by s [] [] dt {x = x} {y = y} {a = a} {b = b} (prim_t {p = p}) k h = rel_prim_put s p x y a b (kind_by a) (kind_by b) false false
+    rel_put_by s [] (f' ∷ fs') dt {x = x} {y = y} {a = a} {b = b} (prim_t {p = p}) k h = rel_prim_put s p x y a b (kind_by a) (kind_by b) false false
+    rel_put_by s (f ∷ fs) [] dt {x = x} {y = y} {a = a} {b = b} (prim_t {p = p}) k h = rel_prim_put s p x y a b (kind_by a) (kind_by b) false false
+    rel_put_by s (f ∷ fs) (f' ∷ fs') dt {x = x} {y = y} {a = a} {b = b} (prim_t {p = p}) k h = rel_prim_put s p x y a b (kind_by a) (kind_by b) false false
 
     -- a write that declares nothing
     pub rel_put_on : {v : World} {i i' : Spot} → SpotT i i' → {o o' x y : Val} {a b : Access} → V K v o o' → KeyT v o a b → V K v x y → Rel (Done K) v (put_on J i o a (kind_by a) x false) (put_on J' i' o' b (kind_by b) y false)
     unfolding declares_on
-    rel_put_on s o k h = rel_put_by s None None declares_none o k h
+    rel_put_on s o k h = rel_put_by s [] [] declares_none o k h
 
     pub rel_keep_flat : {v : World} {i i' : Spot} → SpotT i i' → {p p' : Option (ℕ × ℕ)} {x y : Val} → OptT K.FlatT p p' → V K v x y → Rel (Done K) v (keep_path J i p x) (keep_path J' i' p' y)
     unfolding keep_path

@@ -144,7 +144,7 @@ module _ (X : Budgets) (Ts : Tables) (Y : Passes X Ts) where
       sim_bind T {R = Done} (judged_t X Ts Y i (writes (obj o) a x d) (done _ (record { stays = λ s. (refl, refl); blind = λ s b. refl }))) (λ v2 l2 _ _ _.
       read_t X Ts (λ s. fields_reached s.tables s.objs o a) (λ c. receive_all c x) (λ c. receive_all c x) (λ s b. refl) (λ c. all_t c x))
 
-  write_t : {w : World T} (i : Spot) (o : ℕ) (a : Access) (x : Val) (d : Option ℕ) → Sim T Done w (λ s. write_slot X.J i o a (kind_by a) x (declares_on s d (obj o)) s) (λ s. write_slot X.J' i o a (kind_by a) x (declares_on s d (obj o)) s)
+  write_t : {w : World T} (i : Spot) (o : ℕ) (a : Access) (x : Val) (d : List ℕ) → Sim T Done w (λ s. write_slot X.J i o a (kind_by a) x (declares_on s d (obj o)) s) (λ s. write_slot X.J' i o a (kind_by a) x (declares_on s d (obj o)) s)
   unfolding declares_on code_at
   write_t i o a x d = read_t X Ts (λ s. declares_on s d (obj o)) (λ c. write_slot X.J i o a (kind_by a) x c) (λ c. write_slot X.J' i o a (kind_by a) x c) (λ s b. refl) (λ c. write_slot_t i o a (kind_by a) x c)
 
@@ -328,12 +328,12 @@ module _ (X : Budgets) (Ts : Tables) (Y : Passes X Ts) where
   code_equal : {a b : Code} → CodeT T.SpotT T.FunT (T.UpT 0) a b → a ≡ b
   code_equal {a = a} {b = b} h = code_of a.function b.function a.site b.site a.up b.up h.function h.up (site_same h.site)
 
-  frame_two : {w : World T} (a b : Code) (t t' : Option Val) (vs vs' : List Val) → a ≡ b → t ≡ t' → vs ≡ vs' → Sim T (λ v m n. ◌≡◌ {A = Env} (record { at = Some m; this = t; declares = None }) (record { at = Some n; this = t'; declares = None })) w (call_frame X.J a vs) (call_frame X.J' b vs')
+  frame_two : {w : World T} (a b : Code) (t t' : Option Val) (vs vs' : List Val) → a ≡ b → t ≡ t' → vs ≡ vs' → Sim T (λ v m n. ◌≡◌ {A = Env} (record { at = Some m; this = t; declares = [] }) (record { at = Some n; this = t'; declares = [] })) w (call_frame X.J a vs) (call_frame X.J' b vs')
   frame_two {w = w} a b t t' vs vs' c e d =
-      subst (λ z. Sim T (λ v m n. ◌≡◌ {A = Env} (record { at = Some m; this = t; declares = None }) (record { at = Some n; this = z; declares = None })) w (call_frame X.J a vs) (call_frame X.J' b vs')) e
-      (subst (λ z. Sim T (λ v m n. ◌≡◌ {A = Env} (record { at = Some m; this = t; declares = None }) (record { at = Some n; this = t; declares = None })) w (call_frame X.J a vs) (call_frame X.J' b z)) d
-      (subst (λ z. Sim T (λ v m n. ◌≡◌ {A = Env} (record { at = Some m; this = t; declares = None }) (record { at = Some n; this = t; declares = None })) w (call_frame X.J a vs) (call_frame X.J' z vs)) c
-      (sim_as T (λ v l m n q. ap {A = ℕ} {B = Env} (λ z. record { at = Some z; this = t; declares = None }) q) (frame_t a vs))))
+      subst (λ z. Sim T (λ v m n. ◌≡◌ {A = Env} (record { at = Some m; this = t; declares = [] }) (record { at = Some n; this = z; declares = [] })) w (call_frame X.J a vs) (call_frame X.J' b vs')) e
+      (subst (λ z. Sim T (λ v m n. ◌≡◌ {A = Env} (record { at = Some m; this = t; declares = [] }) (record { at = Some n; this = t; declares = [] })) w (call_frame X.J a vs) (call_frame X.J' b z)) d
+      (subst (λ z. Sim T (λ v m n. ◌≡◌ {A = Env} (record { at = Some m; this = t; declares = [] }) (record { at = Some n; this = t; declares = [] })) w (call_frame X.J a vs) (call_frame X.J' z vs)) c
+      (sim_as T (λ v l m n q. ap {A = ℕ} {B = Env} (λ z. record { at = Some z; this = t; declares = [] }) q) (frame_t a vs))))
 
   pub upkeep : Upkeep T
   unfolding make_object make_array
@@ -359,6 +359,7 @@ module _ (X : Budgets) (Ts : Tables) (Y : Passes X Ts) where
     up_out_write = λ x y d d' i k f. rw (i, k) (out_write_t _ _ _ x y d d' _ _ (f (ap (λ z. name_of Ts z) k)));
     up_read_var = λ i e r. rw (i, e, r) (read_var_t _ _ _);
     up_write_var = λ i e r x. rw (i, e, r, same_val x) (write_var_t _ _ _ _);
+    up_set_var = λ i e h. absurd h;
     up_catch = λ e x. catch_two _ _ _ _ e x;
     up_frame = λ c t vs. frame_two _ _ _ _ _ _ (code_equal c) (same_opt t) (same_list vs);
     up_take_path = λ i p x k. rw (i, p, same_val x, k) (take_path_t _ _ _ _);

@@ -24,7 +24,7 @@ use Rattle.cc_tied.proofs.Expressions.{value_literal}
 use Rattle.cc_tied.proofs.Valued as W
 use Rattle.cc_tied.proofs.Nodes as N
 use Rattle.cc_tied.proofs.Rewriting.{StepRules}
-use Rattle.cc_tied.proofs.Unchanged.{stay_call}
+use Rattle.cc_tied.specs.Rewrites.{stay_call}
 
 literal_is : (e : Expr) (p : Prim) → literal e ≡ Some p → (i : ℕ) × (e ≡ lit i p)
 unfolding literal

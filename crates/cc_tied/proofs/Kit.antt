@@ -48,16 +48,20 @@ pub record Kit : Type 1 where
   -- references that are read, and that are written; places where `this` may stand
   pub ReadT : Ctx → Ref → Ref → Type 0
   pub WriteT : Ctx → Ref → Ref → Type 0
+  -- variables that are set by their one declaration alone: to a literal, and, before a chunk's own list runs, to a function
+  pub SetT : Ctx → Ref → Prim → Type 0
+  pub BindT : Ctx → Ref → (function : ℕ) → Type 0
+  pub bind_inside : {f f' g : ℕ} {r : Ref} → BindT (inside f f') r g → ⊥
   pub ThisT : Ctx → Type 0
   -- docs of casts; functions whose prototype a statement declares; flat paths
   pub DocT : ℕ → ℕ → Type 0
-  pub DeclaresT : Option ℕ → Option ℕ → Type 0
+  pub DeclaresT : List ℕ → List ℕ → Type 0
   pub FlatT : ℕ × ℕ → ℕ × ℕ → Type 0
   -- texts that may be written as keys on both sides; and on the right alone
   pub QuotedT : List ℕ → Type 0
   pub WrittenT : List ℕ → Type 0
   pub read_built : {c : Ctx} {r r' : Ref} → ReadT c r r' → built_of tables r ≡ built_of tables' r'
-  pub declares_none : DeclaresT None None
+  pub declares_none : DeclaresT [] []
   -- ---- what is tied in a world
 
   -- objects; objects that a literal has just made; codes of two function objects
@@ -80,7 +84,7 @@ pub record Kit : Type 1 where
   pub key_runtime : {w : World} (x : Val) (t : List ℕ) → KeyT w x (runtime t) (runtime t)
   pub key_quoted : {w : World} (x : Val) {t : List ℕ} → QuotedT t → KeyT w x (quoted t) (quoted t)
   pub key_written : {w : World} (x : Val) {t : List ℕ} → WrittenT t → KeyT w x (runtime t) (quoted t)
-  pub env_top : {w : World} {c : ℕ} {d d' : Option ℕ} → LoadedT w c → DeclaresT d d' → EnvT (outer c) w (record top { declares = d }) (record top { declares = d' })
+  pub env_top : {w : World} {c : ℕ} {d d' : List ℕ} → LoadedT w c → DeclaresT d d' → EnvT (outer c) w (record top { declares = d }) (record top { declares = d' })
   pub env_this : {c : Ctx} {w : World} {g h : Env} → ThisT c → EnvT c w g h → OptT (ValT (O w)) g.this h.this
   pub env_declares : {c : Ctx} {w : World} {g h : Env} → EnvT c w g h → DeclaresT g.declares h.declares
   -- ---- runs
@@ -111,7 +115,7 @@ pub record Kit : Type 1 where
   pub rel_function : {c : Ctx} {w : World} {g h : Env} {f f' i i' : ℕ} → Sited SpotT i i' → StandT c f f' → EnvT c w g h → Rel (λ v. ValT (O v)) w (make_function f i g) (make_function f' i' h)
   pub rel_instance : {w : World} {m n : ℕ} {a b : Code} → O w m n → RunsT w m n a b → Rel (λ v. ValT (O v)) w (make_instance m a.function) (make_instance n b.function)
   pub rel_read : {w : World} {m n : ℕ} {a b : Access} {i i' : Spot} → SpotT i i' → O w m n → KeyT w (obj m) a b → Rel (λ v. ValT (O v)) w (read_slot J i m a) (read_slot J' i' n b)
-  pub rel_write : {w : World} {m n : ℕ} {a b : Access} {x y : Val} {d d' : Option ℕ} {i i' : Spot} → SpotT i i' → DeclaresT d d' → O w m n → KeyT w (obj m) a b → ValT (O w) x y → Rel (λ v p q. Unit {0}) w (λ s. write_slot J i m a (kind_by a) x (declares_on s d (obj m)) s) (λ s. write_slot J' i' n b (kind_by b) y (declares_on s d' (obj n)) s)
+  pub rel_write : {w : World} {m n : ℕ} {a b : Access} {x y : Val} {d d' : List ℕ} {i i' : Spot} → SpotT i i' → DeclaresT d d' → O w m n → KeyT w (obj m) a b → ValT (O w) x y → Rel (λ v p q. Unit {0}) w (λ s. write_slot J i m a (kind_by a) x (declares_on s d (obj m)) s) (λ s. write_slot J' i' n b (kind_by b) y (declares_on s d' (obj n)) s)
   pub rel_remove : {w : World} {m n : ℕ} {a b : Access} {i i' : Spot} → SpotT i i' → O w m n → KeyT w (obj m) a b → Rel (λ v. ValT (O v)) w (remove J i (obj m) a) (remove J' i' (obj n) b)
   pub rel_probe : {w : World} {m n : ℕ} {i i' : Spot} → SpotT i i' → O w m n → (t : List ℕ) → Rel (λ v p q. p ≡ q) w (probe J i (obj m) t) (probe J' i' (obj n) t)
   pub rel_walk : {w : World} {m n : ℕ} {i i' : Spot} → SpotT i i' → O w m n → Rel (λ v p q. p ≡ q) w (walk J i (obj m)) (walk J' i' (obj n))
@@ -133,8 +137,9 @@ pub record Kit : Type 1 where
 
   pub rel_read_var : {c : Ctx} {w : World} {g h : Env} {r r' : Ref} {i i' : Spot} → SpotT i i' → EnvT c w g h → ReadT c r r' → Rel (λ v. ValT (O v)) w (read_var J i g r) (read_var J' i' h r')
   pub rel_write_var : {c : Ctx} {w : World} {g h : Env} {r r' : Ref} {x y : Val} {i i' : Spot} → SpotT i i' → EnvT c w g h → WriteT c r r' → ValT (O w) x y → Rel (λ v p q. Unit {0}) w (write_var J i g r x) (write_var J' i' h r' y)
+  pub rel_set_var : {c : Ctx} {w : World} {g h : Env} {r : Ref} {p : Prim} {i i' : Spot} → SpotT i i' → EnvT c w g h → SetT c r p → Rel (λ v a b. Unit {0}) w (write_var J i g r (prim p)) (write_var J' i' h r (prim p))
   pub rel_catch : {c : Ctx} {w : World} {g h : Env} {x y : Val} → EnvT c w g h → ValT (O w) x y → Rel (λ v m n. EnvT (in_catch c) v (record g { at = Some m }) (record h { at = Some n })) w (push_frame of_catch g.at (Some x ∷ [])) (push_frame of_catch h.at (Some y ∷ []))
-  pub rel_frame : {w : World} {a b : Code} {t t' : Option Val} {vs vs' : List Val} → CodeT SpotT FunT (UpT w) a b → OptT (ValT (O w)) t t' → ListT (ValT (O w)) vs vs' → Rel (λ v m n. EnvT (inside a.function b.function) v (record { at = Some m; this = t; declares = None }) (record { at = Some n; this = t'; declares = None })) w (call_frame J a vs) (call_frame J' b vs')
+  pub rel_frame : {w : World} {a b : Code} {t t' : Option Val} {vs vs' : List Val} → CodeT SpotT FunT (UpT w) a b → OptT (ValT (O w)) t t' → ListT (ValT (O w)) vs vs' → Rel (λ v m n. EnvT (inside a.function b.function) v (record { at = Some m; this = t; declares = [] }) (record { at = Some n; this = t'; declares = [] })) w (call_frame J a vs) (call_frame J' b vs')
   pub rel_take_path : {w : World} {p p' : ℕ × ℕ} {x y : Val} {a b : Access} {i i' : Spot} → SpotT i i' → FlatT p p' → ValT (O w) x y → KeyT w x a b → Rel (λ v m n. Unit {0}) w (take_path J i (Some p) x a) (take_path J' i' (Some p') y b)
   pub rel_keep_path : {w : World} {p p' : ℕ × ℕ} {x y : Val} {i i' : Spot} → SpotT i i' → FlatT p p' → ValT (O w) x y → Rel (λ v m n. Unit {0}) w (keep_path J i (Some p) x) (keep_path J' i' (Some p') y)
   pub rel_cast : {w : World} {d d' : ℕ} {x y : Val} {i i' : Spot} → SpotT i i' → DocT d d' → ValT (O w) x y → Rel (λ v m n. Unit {0}) w (cast_to J i d x) (cast_to J' i' d' y)

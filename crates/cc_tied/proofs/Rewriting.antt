@@ -82,9 +82,18 @@ module _ (K : Kit) (X : Below K) (built : Ref → Bool) (c : K.Ctx) where
   placed_same a_deleted h k = h
   placed_same an_object h k = W.reached_t h
 
+-- functions that are bound to a variable, and values that a declarator sets one to
+pub data BindsT (K : Kit) (c : K.Ctx) (r : Ref) (f : ℕ) : Type 0 where
+  bound_by_write : K.WriteT c r r → BindsT K c r f
+  bound_alone : K.BindT c r f → BindsT K c r f
+
+pub data SetsT (K : Kit) (c : K.Ctx) (r : Ref) : Option Expr → Type 0 where
+  set_by_write : {o : Option Expr} → K.WriteT c r r → SetsT K c r o
+  set_alone : {i : ℕ} {p : Prim} → K.SetT c r p → SetsT K c r (Some (lit i p))
+
 -- what a kit ties to itself, and the statements of a pass
 abbrev pub allowed : (K : Kit) → (Stands : K.Ctx → List (List ℕ) → Stmt → Type 0) → Allowed K.Ctx
-allowed K Stands = record { caught = K.in_catch; reads = λ c r. K.ReadT c r r; writes = λ c r. K.WriteT c r r; this_here = K.ThisT; makes = λ c f. K.StandT c f f; stands = Stands }
+allowed K Stands = record { caught = K.in_catch; reads = λ c r. K.ReadT c r r; writes = λ c r. K.WriteT c r r; binds = BindsT K; sets = SetsT K; this_here = K.ThisT; makes = λ c f. K.StandT c f f; stands = Stands }
 
 module _ (K : Kit) (X : Below K) (built : Ref → Bool) (Here : K.Ctx → Type 0) (Stands : K.Ctx → List (List ℕ) → Stmt → Type 0) (step : Expr → Expr) (step_call : ℕ → Expr → Exprs → Expr) where
   abbrev pub new_declarator : Declarator → Declarator
@@ -254,10 +263,11 @@ module _ (K : Kit) (X : Below K) (built : Ref → Bool) (Here : K.Ctx → Type 0
       re_like_case None o h k = S.follows_default K X c h k
       re_like_case (Some e) o h k = S.follows_case K X c (re_like_value e o) h k
 
-      pub set_like : (i : ℕ) (r : Ref) (v : Option Expr) → K.WriteT c r r → FineOption K.Ctx (allowed K Stands) c v → S.FollowsSet K X c (record { site = i; variable = r; value = v }) (record { site = i; variable = r; value = NewOption v })
-      unfolding re_option FineOption re_value
-      set_like i r None wr o = S.follows_bare K X c
-      set_like i r (Some e) wr o = S.follows_set K X c (same.sites i) wr ((re_like false a_value e o).values _ _)
+      pub set_like : (i : ℕ) (r : Ref) (v : Option Expr) → SetsT K c r v → FineOption K.Ctx (allowed K Stands) c v → S.FollowsSet K X c (record { site = i; variable = r; value = v }) (record { site = i; variable = r; value = NewOption v })
+      unfolding re_option FineOption re_value re
+      set_like i r None h o = S.follows_bare K X c
+      set_like i r (Some e) (set_by_write wr) o = S.follows_set K X c (same.sites i) wr ((re_like false a_value e o).values _ _)
+      set_like i r (Some _) (set_alone {i = j} {p = p} h) o = S.follows_set_literal K X c (same.sites i) j j h
 
       pub re_like_declarator : (d : Declarator) → FineDeclarator K.Ctx (allowed K Stands) c d → S.FollowsSet K X c d (new_declarator d)
       unfolding re_declarator FineDeclarator

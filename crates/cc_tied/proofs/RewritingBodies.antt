@@ -4,7 +4,7 @@ use Rattle.cc_ast.specs.Syntax.{Prim, Expr, Exprs, Declarator, ForInit, no_init,
 use Rattle.cc_ast.specs.declared.tree.Ref.{Ref}
 use Rattle.cc_meaning.specs.Shapes.{declared_by}
 use Rattle.cc_meaning.specs.Meaning as M
-use Rattle.cc_tied.specs.Rewrites.{init_of, re_declarator, re_declarators, re_init, re_names, re_stmt, re_stmts, re_maybe, re_cases}
+use Rattle.cc_tied.specs.Rewrites.{init_of, re_declarator, re_declarators, re_init, re_names, re_stmt, re_stmts, re_maybe, re_cases, whole, whole_in}
 use Rattle.cc_tied.specs.Fine.{FineDeclarator, FineDeclarators, FineInit, FineNames, FineStmt, FineStmts, FineMaybe, FineCases}
 use Rattle.cc_tied.proofs.Kit.{Kit}
 use Rattle.cc_tied.proofs.Parts.{Below}
@@ -12,7 +12,7 @@ use Rattle.cc_tied.proofs.Nodes as N
 use Rattle.cc_tied.proofs.Statements as S
 use Rattle.cc_tied.proofs.Turns as T
 use Rattle.cc_tied.proofs.Rewriting as R
-use Rattle.cc_tied.proofs.Rewriting.{allowed}
+use Rattle.cc_tied.proofs.Rewriting.{allowed, BindsT, bound_by_write, bound_alone}
 
 module _ (K : Kit) (X : Below K) (built : Ref → Bool) (Here : K.Ctx → Type 0) (Stands : K.Ctx → List (List ℕ) → Stmt → Type 0) (step : Expr → Expr) (step_call : ℕ → Expr → Exprs → Expr) (trim : Declarator → List Declarator) (trim_in : Declarator → Declarator) (cut : Stmt → Stmts → Stmts) where
   abbrev pub new_stmt : Stmt → Stmt
@@ -25,7 +25,7 @@ module _ (K : Kit) (X : Below K) (built : Ref → Bool) (Here : K.Ctx → Type 0
   pub record Rules : Type 0 where
     -- a declarator and a statement, beside what their parts became
     pub trims : (c : K.Ctx) → Here c → (d : Declarator) (ds ds' : List Declarator) → FineDeclarator K.Ctx (allowed K Stands) c d → S.FollowsSet K X c d (R.new_declarator K X built Here Stands step step_call d) → S.FollowsDecls K X c ds ds' → S.FollowsDecls K X c (d ∷ ds) (trim (R.new_declarator K X built Here Stands step step_call d) ++ ds')
-    pub trim_ins : (c : K.Ctx) → Here c → (d : Declarator) → FineDeclarator K.Ctx (allowed K Stands) c d → S.FollowsSet K X c d (R.new_declarator K X built Here Stands step step_call d) → S.FollowsNames K X c (in_declared d) (in_declared (trim_in (R.new_declarator K X built Here Stands step step_call d)))
+    pub trim_ins : (c : K.Ctx) → Here c → (d : Declarator) → K.WriteT c d.variable d.variable → FineDeclarator K.Ctx (allowed K Stands) c d → S.FollowsSet K X c d (R.new_declarator K X built Here Stands step step_call d) → S.FollowsNames K X c (in_declared d) (in_declared (trim_in (R.new_declarator K X built Here Stands step step_call d)))
     pub cuts : (c : K.Ctx) → Here c → (ls : List (List ℕ)) (s : Stmt) (ss ss' : Stmts) → Stands c ls s → FineStmt K.Ctx (allowed K Stands) c ls s → S.FollowsStmt K X c ls s (new_stmt s) → S.FollowsStmts K X c ls ss ss' → S.FollowsStmts K X c ls (more_stmts s ss) (cut (new_stmt s) ss')
     -- in a function's or a chunk's own list
     pub hoists : (c : K.Ctx) → Here c → (s : Stmt) (ss ss' : Stmts) → Stands c [] s → FineStmt K.Ctx (allowed K Stands) c [] s → S.FollowsHoistOne K X c s (new_stmt s) → S.FollowsHoist K X c ss ss' → S.FollowsHoist K X c (more_stmts s ss) (cut (new_stmt s) ss')
@@ -52,7 +52,7 @@ module _ (K : Kit) (X : Below K) (built : Ref → Bool) (Here : K.Ctx → Type 0
       re_like_names : (u : ForTarget) → FineNames K.Ctx (allowed K Stands) c u → S.FollowsNames K X c u (re_names built step step_call trim trim_in u)
       unfolding re_names FineNames
       re_like_names (in_target u) o = S.follows_in_target K X c (R.re_like_target K X built Here Stands step step_call same by_steps c here false u o)
-      re_like_names (in_declared d) o = rules.trim_ins c here d o (R.re_like_declarator K X built Here Stands step step_call same by_steps c here d o)
+      re_like_names (in_declared d) o = rules.trim_ins c here d o.0 o.1 (R.re_like_declarator K X built Here Stands step step_call same by_steps c here d o.1)
 
     -- ---- statements
 
@@ -95,19 +95,27 @@ module _ (K : Kit) (X : Below K) (built : Ref → Bool) (Here : K.Ctx → Type 0
 
     -- ---- hoisting, bodies and chunks
 
-    hoist_one_like : (c : K.Ctx) (ls : List (List ℕ)) (s : Stmt) → FineStmt K.Ctx (allowed K Stands) c ls s → S.FollowsHoistOne K X c s (new_stmt s)
-    unfolding re_stmt FineStmt S.declares_function
-    hoist_one_like c ls (fun_decl i r f) o = S.hoist_fun K X c (same.sites i) o.1 o.0
-    hoist_one_like c ls s o = S.hoist_other K X c s _ refl refl
+    -- where no variable is bound but by a write
+    abbrev pub Written : K.Ctx → Type 0
+    Written c = (r : Ref) (f : ℕ) → K.BindT c r f → ⊥
 
-    pub re_like_hoist : (c : K.Ctx) → Here c → (ss : Stmts) → FineStmts K.Ctx (allowed K Stands) c [] ss → S.FollowsHoist K X c ss (new_stmts ss)
+    bound_like : (c : K.Ctx) → Written c → (i : ℕ) (r : Ref) (f : ℕ) → BindsT K c r f → K.StandT c f f → S.FollowsHoistOne K X c (fun_decl i r f) (fun_decl i r f)
+    bound_like c no_binds i r f (bound_by_write wr) st = S.hoist_fun K X c (same.sites i) st wr
+    bound_like c no_binds i r f (bound_alone h) st = absurd (no_binds r f h)
+
+    hoist_one_like : (c : K.Ctx) → Written c → (ls : List (List ℕ)) (s : Stmt) → FineStmt K.Ctx (allowed K Stands) c ls s → S.FollowsHoistOne K X c s (new_stmt s)
+    unfolding re_stmt FineStmt S.declares_function
+    hoist_one_like c nb ls (fun_decl i r f) o = bound_like c nb i r f o.0 o.1
+    hoist_one_like c nb ls s o = S.hoist_other K X c s _ refl refl
+
+    pub re_like_hoist : (c : K.Ctx) → Here c → Written c → (ss : Stmts) → FineStmts K.Ctx (allowed K Stands) c [] ss → S.FollowsHoist K X c ss (new_stmts ss)
     unfolding re_stmt FineStmt
-    re_like_hoist c here no_stmts o = S.hoist_no K X c
-    re_like_hoist c here (more_stmts s ss) o = rules.hoists c here s ss _ o.0 o.1 (hoist_one_like c [] s o.1) (re_like_hoist c here ss o.2)
+    re_like_hoist c here nb no_stmts o = S.hoist_no K X c
+    re_like_hoist c here nb (more_stmts s ss) o = rules.hoists c here s ss _ o.0 o.1 (hoist_one_like c nb [] s o.1) (re_like_hoist c here nb ss o.2)
 
     -- the body of a function
-    pub re_like_body : (c : K.Ctx) → Here c → (ss : Stmts) → FineStmts K.Ctx (allowed K Stands) c [] ss → S.FollowsBody K X c ss (new_stmts ss)
-    re_like_body c here ss o = record { hoist = re_like_hoist c here ss o; runs = re_like_stmts c here [] ss o }
+    pub re_like_body : (c : K.Ctx) → Here c → Written c → (ss : Stmts) → FineStmts K.Ctx (allowed K Stands) c [] ss → S.FollowsBody K X c ss (new_stmts ss)
+    re_like_body c here nb ss o = record { hoist = re_like_hoist c here nb ss o; runs = re_like_stmts c here [] ss o }
 
     -- a chunk's own list
     pub re_like_chunk : (n : ℕ) → Here (K.outer n) → (ss : Stmts) → FineStmts K.Ctx (allowed K Stands) (K.outer n) [] ss → T.FollowsChunk K X n ss (new_stmts ss)
@@ -117,19 +125,13 @@ module _ (K : Kit) (X : Below K) (built : Ref → Bool) (Here : K.Ctx → Type 0
 
 -- ---- a pass that leaves statements and declarators whole
 
-abbrev pub whole : Declarator → List Declarator
-whole d = d ∷ []
-
-abbrev pub whole_in : Declarator → Declarator
-whole_in d = d
-
 module _ (K : Kit) (X : Below K) (built : Ref → Bool) (Here : K.Ctx → Type 0) (Stands : K.Ctx → List (List ℕ) → Stmt → Type 0) (step : Expr → Expr) (step_call : ℕ → Expr → Exprs → Expr) where
   -- statements of chunks declare the prototypes that they declared before
   pub whole_rules : N.SameTables K X built → ((n : ℕ) (s : Stmt) → Stands (K.outer n) [] s → K.DeclaresT (declared_by K.tables s) (declared_by K.tables' (re_stmt built step step_call whole whole_in more_stmts s))) → Rules K X built Here Stands step step_call whole whole_in more_stmts
   unfolding FineDeclarator re_declarator
   whole_rules same declares = record {
     trims = λ c h d ds ds' o hd hs. S.follows_more_decls K X c hd hs;
-    trim_ins = λ c h d o hd. S.follows_in_declared K X c (same.sites d.site) o.0 hd;
+    trim_ins = λ c h d wr o hd. S.follows_in_declared K X c (same.sites d.site) wr hd;
     cuts = λ c h ls s ss ss' st o hs hss. S.follows_more_stmts K X c hs hss;
     hoists = λ c h s ss ss' st o hs hss. S.hoist_more K X c hs hss;
     chunks = λ n h s ss ss' st o hs hss. T.follows_more_chunk K X (declares n s st) hs hss;

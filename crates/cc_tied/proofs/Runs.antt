@@ -25,7 +25,7 @@ pub record IsExact (T : Tie) : Type 0 where
 abbrev pub BrokenOrSame : List Event × Finish → List Event × Finish → Type 0
 BrokenOrSame x y = IsBroken x.1 ⊎ (x ≡ y)
 
-same_end : {u u' : List Event} {e e' : End} → u ≡ u' → IsBroken (stopped e) ⊎ (e ≡ e') → BrokenOrSame (u, stopped e) (u', stopped e')
+pub same_end : {u u' : List Event} {e e' : End} → u ≡ u' → IsBroken (stopped e) ⊎ (e ≡ e') → BrokenOrSame (u, stopped e) (u', stopped e')
 same_end d (inl b) = inl b
 same_end d (inr e) = inr (cc)
 

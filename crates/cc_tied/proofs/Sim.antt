@@ -65,14 +65,17 @@ pub record Tie : Type 1 where
   pub StandT : Ctx → ℕ → ℕ → Type 0
   pub ReadT : Ctx → Ref → Ref → Type 0
   pub WriteT : Ctx → Ref → Ref → Type 0
+  pub SetT : Ctx → Ref → Prim → Type 0
+  pub BindT : Ctx → Ref → (function : ℕ) → Type 0
+  pub bind_inside : {f f' g : ℕ} {r : Ref} → BindT (inside f f') r g → ⊥
   pub ThisT : Ctx → Type 0
   pub DocT : ℕ → ℕ → Type 0
-  pub DeclaresT : Option ℕ → Option ℕ → Type 0
+  pub DeclaresT : List ℕ → List ℕ → Type 0
   pub FlatT : ℕ × ℕ → ℕ × ℕ → Type 0
   pub QuotedT : List ℕ → Type 0
   pub WrittenT : List ℕ → Type 0
   pub read_built : {c : Ctx} {r r' : Ref} → ReadT c r r' → built_of tables r ≡ built_of tables' r'
-  pub declares_none : DeclaresT None None
+  pub declares_none : DeclaresT [] []
   -- ---- what is tied in a world
 
   pub O : W → ℕ → ℕ → Type 0
@@ -93,7 +96,7 @@ pub record Tie : Type 1 where
   pub key_runtime : {w : W} (x : Val) (t : List ℕ) → KeyT w x (runtime t) (runtime t)
   pub key_quoted : {w : W} (x : Val) {t : List ℕ} → QuotedT t → KeyT w x (quoted t) (quoted t)
   pub key_written : {w : W} (x : Val) {t : List ℕ} → WrittenT t → KeyT w x (runtime t) (quoted t)
-  pub env_top : {w : W} {c : ℕ} {d d' : Option ℕ} → LoadedT w c → DeclaresT d d' → EnvT (outer c) w (record top { declares = d }) (record top { declares = d' })
+  pub env_top : {w : W} {c : ℕ} {d d' : List ℕ} → LoadedT w c → DeclaresT d d' → EnvT (outer c) w (record top { declares = d }) (record top { declares = d' })
   pub env_this : {c : Ctx} {w : W} {g h : Env} → ThisT c → EnvT c w g h → OptT (ValT (O w)) g.this h.this
   pub env_declares : {c : Ctx} {w : W} {g h : Env} → EnvT c w g h → DeclaresT g.declares h.declares
   -- ---- states

@@ -1,12 +1,13 @@
 -- Each statement keeps a relation between runs.
-use Rattle.std.proofs.Common.{◌≡◌, refl, ℕ, suc, Bool, true, false, List, [], ◌∷◌, Option, Some, None, subst, arith}
-use Rattle.cc_ast.specs.Syntax.{Prim, undefined, Expr, Declarator, ForInit, no_init, init_value, init_vars, Target, ForTarget, in_target, in_declared, Stmt, simple, vars, fun_decl, if, while, do_while, for, for_in, return, throw, break, continue, label, switch, try, pay_stmt, Stmts, no_stmts, more_stmts, MaybeStmts, absent, present, Cases, no_cases, more_cases}
+use Rattle.std.proofs.Common.{◌≡◌, refl, ap, ◌∙◌, ℕ, suc, Bool, true, false, List, [], ◌∷◌, Option, Some, None, subst, arith}
+use Rattle.cc_ast.specs.Syntax.{Prim, undefined, Expr, lit, Declarator, ForInit, no_init, init_value, init_vars, Target, ForTarget, in_target, in_declared, Stmt, simple, vars, fun_decl, if, while, do_while, for, for_in, return, throw, break, continue, label, switch, try, pay_stmt, Stmts, no_stmts, more_stmts, MaybeStmts, absent, present, Cases, no_cases, more_cases}
 use Rattle.cc_ast.specs.declared.tree.Ref.{Ref}
 use Rattle.cc_meaning.specs.Values.{Val, prim, at_site}
 use Rattle.cc_meaning.specs.Operators.{truthy, strict_equal}
 use Rattle.cc_meaning.specs.State.{Env}
 use Rattle.cc_meaning.specs.Monad.{M, skip, ◌>>=◌, Way, Mode}
-use Rattle.cc_meaning.specs.Acts.{probe}
+use Rattle.cc_meaning.specs.Acts.{probe, write_var}
+use Rattle.cc_meaning.specs.Calls.{Bodies}
 use Rattle.cc_meaning.specs.Shapes.{path_of_ref}
 use Rattle.cc_meaning.specs.Meaning.{Comp, returns, breaks, continues, next, labelled, unbroken, each_name, value_at, test_at, only_run, set_variable, declare, begin_for, begin_names, put_name, hoist_one, hoist, thrown_at, ex, exs, ex_catch, ex_finally, ex_cases, run_cases}
 use Rattle.cc_tied.specs.Tied.{prim_t, went_t, thrown_t, returns_t, breaks_t, continues_t}
@@ -14,14 +15,15 @@ use Rattle.cc_tied.proofs.Kit.{Kit}
 use Rattle.cc_tied.proofs.Parts.{V, CompV, WayV, Done, Equal, SiteT, Below, val_later, way_later, truthy_tied, rel_pick, rel_skip}
 use Rattle.cc_tied.proofs.Judged.{rel_probe_on, rel_walk_on}
 use Rattle.cc_tied.proofs.Ends.{normal_end, rel_next, labelled_tied, unbroken_tied, rel_resume, rel_turns, rel_do_turns, rel_each}
-use Rattle.cc_tied.proofs.Expressions.{FollowsAs, Follows, FollowsTarget, rel_put_place}
+use Rattle.cc_tied.proofs.Laws.{ret_bind}
+use Rattle.cc_tied.proofs.Expressions.{value_literal, FollowsAs, Follows, FollowsTarget, rel_put_place}
 
 -- a statement that declares a function
 unfoldable pub declares_function : Stmt → Bool
 declares_function (fun_decl i r f) = true
 declares_function _ = false
 
-hoists_nothing : (J : Mode) (g : Env) (s : Stmt) → declares_function s ≡ false → hoist_one J g s ≡ skip
+pub hoists_nothing : (J : Mode) (g : Env) (s : Stmt) → declares_function s ≡ false → hoist_one J g s ≡ skip
 unfolding hoist_one declares_function
 hoists_nothing J g (fun_decl i r f) e = absurd (cc)
 hoists_nothing J g (simple i e1) e = refl
@@ -40,8 +42,12 @@ hoists_nothing J g (switch i k cs) e = refl
 hoists_nothing J g (try i b k f) e = refl
 hoists_nothing J g (pay_stmt i p) e = refl
 
+sets_literal : (J : Mode) (B : Bodies) (g : Env) (i : ℕ) (r : Ref) (j : ℕ) (p : Prim) → set_variable J B g i r (Some (lit j p)) ≡ write_var J (at_site i) g r (prim p)
+unfolding set_variable
+sets_literal J B g i r j p = ap (λ z. z >>= λ v. write_var J (at_site i) g r v) (value_literal J B g (path_of_ref r) j p) ∙ ret_bind (prim p) (λ v. write_var J (at_site i) g r v)
+
 module _ (K : Kit) (X : Below K) where
-  open K use {J, J', World, Later, later, now, bound, bound', Ctx, in_catch, StandT, WriteT, EnvT, env_later, Rel, rel_ret, rel_bind, rel_raise, rel_attempt, rel_mark, rel_budget, rel_equal, rel_function, rel_write_var, rel_catch}
+  open K use {J, J', World, Later, later, now, bound, bound', Ctx, in_catch, StandT, WriteT, SetT, EnvT, env_later, Rel, rel_ret, rel_bind, rel_raise, rel_attempt, rel_mark, rel_budget, rel_equal, rel_function, rel_write_var, rel_set_var, rel_catch}
   open X use {B, B', w}
 
   -- ---- what each part of a statement keeps, under its labels
@@ -122,6 +128,10 @@ module _ (K : Kit) (X : Below K) where
     pub follows_set : {i i' : ℕ} → SiteT K i i' → {r r' : Ref} {e e' : Expr} → WriteT c r r' → FollowsAs K X (V K) c (path_of_ref r) (path_of_ref r') e e' → FollowsSet c (record { site = i; variable = r; value = Some e }) (record { site = i'; variable = r'; value = Some e' })
     unfolding set_variable
     follows_set s wt h = record { by = λ v l g g' t. rel_bind (h.by v l g g' t) (λ v2 l2 x x' r. rel_write_var s (env_later l2 t) wt r) }
+
+    -- a variable that is set by its declaration alone
+    pub follows_set_literal : {i i' : ℕ} → SiteT K i i' → (j j' : ℕ) {r : Ref} {p : Prim} → SetT c r p → FollowsSet c (record { site = i; variable = r; value = Some (lit j p) }) (record { site = i'; variable = r; value = Some (lit j' p) })
+    follows_set_literal s j j' {r = r} {p = p} h = record { by = λ v l g g' t. rw (sets_literal J B g _ r j p, sets_literal J' B' g' _ r j' p) (rel_set_var s t h) }
 
     pub follows_no_decls : FollowsDecls c [] []
     unfolding declare

@@ -33,7 +33,7 @@ module _ (built : Ref → Bool) (A : Pass) where
   Rewrites P Q = (f : ℕ) → (body_of Q f ≡ body_of P f) ⊎ (body_of Q f ≡ rewritten f (body_of P f))
 
 module _ (K : Kit) (P Q : Program) (built : Ref → Bool) (A : Pass) (Here : ℕ → K.Ctx → Type 0) (Stands : K.Ctx → List (List ℕ) → Stmt → Type 0) where
-  open K use {J, J', tables, tables', World, bound, bound', Ctx, inside, outer, FunT, DeclaresT}
+  open K use {J, J', tables, tables', World, bound, bound', Ctx, inside, outer, FunT, BindT, bind_inside, DeclaresT}
 
   -- what a pass owes in one scope, over whatever its calls do
   pub record ScopeRules (f : ℕ) (X : Below K) : Type 0 where
@@ -49,6 +49,8 @@ module _ (K : Kit) (P Q : Program) (built : Ref → Bool) (A : Pass) (Here : ℕ
 
   -- and in the chunks that may be loaded
   pub record PassChunksT (C : ℕ → Type 0) : Type 0 where
+    -- no function is bound but by a write
+    pub written : (c : ℕ) → C c → (r : Ref) (f : ℕ) → BindT (outer c) r f → ⊥
     pub fine : (c : ℕ) → C c → FineStmts Ctx (allowed K Stands) (outer c) [] (body_of P c)
     pub here : (c : ℕ) → C c → Here c (outer c)
     pub declares : (c : ℕ) → C c → (s : Stmt) → Stands (outer c) [] s → DeclaresT (declared_by tables s) (declared_by tables' s)
@@ -58,8 +60,8 @@ module _ (K : Kit) (P Q : Program) (built : Ref → Bool) (A : Pass) (Here : ℕ
     one_body : (f : ℕ) (X : Below K) → FunT f f → ScopeRules f X → FollowsBody K X (inside f f) (body_of P f) (body_of Q f)
     unfolding rewritten
     one_body f X ft r = elim (chosen f) [
-      | inl e ↦ subst (λ z. FollowsBody K X (inside f f) (body_of P f) z) (sym e) (like_body K X built (T.same X) Stands (inside f f) (body_of P f) (T.fine f ft))
-      | inr e ↦ subst (λ z. FollowsBody K X (inside f f) (body_of P f) z) (sym e) (re_like_body K X built (Here f) Stands (A.step f) (A.step_call f) (A.trim f) (A.trim_in f) (A.cut f) (T.same X) r.steps r.cuts (inside f f) (T.here f ft) (body_of P f) (T.fine f ft))
+      | inl e ↦ subst (λ z. FollowsBody K X (inside f f) (body_of P f) z) (sym e) (like_body K X built (T.same X) Stands (inside f f) (λ r g h. bind_inside h) (body_of P f) (T.fine f ft))
+      | inr e ↦ subst (λ z. FollowsBody K X (inside f f) (body_of P f) z) (sym e) (re_like_body K X built (Here f) Stands (A.step f) (A.step_call f) (A.trim f) (A.trim_in f) (A.cut f) (T.same X) r.steps r.cuts (inside f f) (T.here f ft) (λ r g h. bind_inside h) (body_of P f) (T.fine f ft))
     ]
 
     same_number : (f f' : ℕ) → f ≡ f' → (X : Below K) → FunT f f' → ((h : FunT f f) → ScopeRules f X) → FollowsBody K X (inside f f') (body_of P f) (body_of Q f')
@@ -73,11 +75,11 @@ module _ (K : Kit) (P Q : Program) (built : Ref → Bool) (A : Pass) (Here : ℕ
       unfolding rewritten
       one_chunk c X q r = elim (chosen c) [
         | inl e ↦ record {
-          hoist = subst (λ z. FollowsHoist K X (outer c) (body_of P c) z) (sym e) (like_hoist K X built (T.same X) Stands (outer c) (body_of P c) (D.fine c q));
+          hoist = subst (λ z. FollowsHoist K X (outer c) (body_of P c) z) (sym e) (like_hoist K X built (T.same X) Stands (outer c) (D.written c q) (body_of P c) (D.fine c q));
           runs = subst (λ z. FollowsChunk K X c (body_of P c) z) (sym e) (like_chunk K X built (T.same X) Stands c (D.declares c q) (body_of P c) (D.fine c q));
         }
         | inr e ↦ record {
-          hoist = subst (λ z. FollowsHoist K X (outer c) (body_of P c) z) (sym e) (re_like_hoist K X built (Here c) Stands (A.step c) (A.step_call c) (A.trim c) (A.trim_in c) (A.cut c) (T.same X) r.steps r.cuts (outer c) (D.here c q) (body_of P c) (D.fine c q));
+          hoist = subst (λ z. FollowsHoist K X (outer c) (body_of P c) z) (sym e) (re_like_hoist K X built (Here c) Stands (A.step c) (A.step_call c) (A.trim c) (A.trim_in c) (A.cut c) (T.same X) r.steps r.cuts (outer c) (D.here c q) (D.written c q) (body_of P c) (D.fine c q));
           runs = subst (λ z. FollowsChunk K X c (body_of P c) z) (sym e) (re_like_chunk K X built (Here c) Stands (A.step c) (A.step_call c) (A.trim c) (A.trim_in c) (A.cut c) (T.same X) r.steps r.cuts c (D.here c q) (body_of P c) (D.fine c q));
         }
       ]

@@ -32,7 +32,7 @@ one_prim : {O : ℕ → ℕ → Type 0} (b : Bool) (p q : Prim) → ValT O (pick
 one_prim true p q = prim_t
 one_prim false p q = prim_t
 
-member_tied : {O : ℕ → ℕ → Type 0} (p : Prim) (t : List ℕ) → ValT O (prim_member p t) (prim_member p t)
+pub member_tied : {O : ℕ → ℕ → Type 0} (p : Prim) (t : List ℕ) → ValT O (prim_member p t) (prim_member p t)
 unfolding prim_member
 member_tied (text u) t = one_prim (list_eq t name_length) (whole (pos (length u))) undefined
 member_tied _ t = prim_t
@@ -40,7 +40,7 @@ member_tied _ t = prim_t
 module _ (K : Kit) where
   open K use {J, J', tables, tables', World, Later, later, now, bound, bound', bound_later, bound_later', Ctx, outer, inside, FunT, DeclaresT, declares_none, LoadedT, loaded_later, EnvT, env_later, env_top, SpotT, Rel, rel_ret, rel_bind, rel_attempt, rel_fault, rel_tables, rel_frame, rel_loading, rel_note_end, spot_turn, rel_say, rel_show, rel_view, rel_views, rel_host_get, rel_host_set}
 
-  end_later : {v u : World} → Later v u → {a b : Way Val} → EndV K v a b → EndV K u a b
+  pub end_later : {v u : World} → Later v u → {a b : Way Val} → EndV K v a b → EndV K u a b
   end_later l (went_t h) = went_t (val_later K l h)
   end_later l (thrown_t h) = thrown_t (val_later K l h)
 
@@ -140,7 +140,7 @@ module _ (K : Kit) where
     rel_ended : {v : World} {m m' : M Val} → Rel (V K) v m m' → Rel (Done K) v (attempt m >>= λ e. tell_end e) (attempt m' >>= λ e. tell_end e)
     rel_ended h = rel_bind (rel_attempt h) (λ v2 l2 a b q. rel_tell_end K q)
 
-    rel_call_handle : {v : World} → Later w v → {i i' : Spot} → SpotT i i' → (c : Inner) → Rel (Done K) v (call_handle J B i c) (call_handle J' B' i' c)
+    pub rel_call_handle : {v : World} → Later w v → {i i' : Spot} → SpotT i i' → (c : Inner) → Rel (Done K) v (call_handle J B i c) (call_handle J' B' i' c)
     unfolding call_handle views first_of_views rest_of_views
     rel_call_handle l {i = i} {i' = i'} s c = rel_views (handle c.callee ∷ c.this ∷ c.args)
         (λ given vs. judged J i (hosts given None None false) (attempt (call_at J B i (first_of_views vs) (first_of_views (rest_of_views vs)) (rest_of_views (rest_of_views vs))) >>= λ e. tell_end e))
@@ -162,7 +162,7 @@ module _ (K : Kit) where
     rel_host_gets l s given t (out_t {n = n}) = rel_hosts_out s given n t (rel_ended (rel_out_got l s n t))
     rel_host_gets l s given t (prim_t {p = p}) = rel_hosts_prim s given p t (rel_ended (rel_prim_got s p t))
 
-    rel_get_handle : {v : World} → Later w v → {i i' : Spot} → SpotT i i' → (h : ℕ) (t : List ℕ) → Rel (Done K) v (get_handle J B i h t) (get_handle J' B' i' h t)
+    pub rel_get_handle : {v : World} → Later w v → {i i' : Spot} → SpotT i i' → (h : ℕ) (t : List ℕ) → Rel (Done K) v (get_handle J B i h t) (get_handle J' B' i' h t)
     unfolding get_handle
     rel_get_handle l {i = i} {i' = i'} s h t = rel_view (handle h)
         (λ given x. judged J i (hosts given (Some x) (Some t) false) (attempt (get_on J B i x (quoted t)) >>= λ e. tell_end e))
@@ -183,7 +183,7 @@ module _ (K : Kit) where
     rel_host_sets l s given t (out_t {n = n}) q = rel_hosts_out s given n t (rel_ended (rel_put_undefined (rel_out_set s n t q)))
     rel_host_sets l s given t {x = x} {x' = x'} (prim_t {p = p}) q = rel_hosts_prim s given p t (rel_ended (rel_put_undefined (rel_prim_write K p (quoted t) (quoted t) x x' false false skip skip s)))
 
-    rel_set_handle : {v : World} → Later w v → {i i' : Spot} → SpotT i i' → (h : ℕ) (t : List ℕ) (x : View) → Rel (Done K) v (set_handle J i h t x) (set_handle J' i' h t x)
+    pub rel_set_handle : {v : World} → Later w v → {i i' : Spot} → SpotT i i' → (h : ℕ) (t : List ℕ) (x : View) → Rel (Done K) v (set_handle J i h t x) (set_handle J' i' h t x)
     unfolding set_handle views first_of_views rest_of_views
     rel_set_handle l {i = i} {i' = i'} s h t x = rel_views (handle h ∷ x ∷ [])
         (λ given vs. judged J i (hosts given (Some (first_of_views vs)) (Some t) false) (attempt (put_on J i (first_of_views vs) (quoted t) keyed_kind (first_of_views (rest_of_views vs)) false >>= λ _. ret (prim undefined)) >>= λ e. tell_end e))

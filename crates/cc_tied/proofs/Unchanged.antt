@@ -5,7 +5,7 @@ use Rattle.cc_ast.specs.declared.tree.Ref.{Ref}
 use Rattle.cc_meaning.specs.Monad.{pick}
 use Rattle.cc_meaning.specs.Shapes.{declared_by}
 use Rattle.cc_tied.specs.Placed.{Place, a_value, an_assigned, a_callee, a_deleted, an_object, keeps, guard, operand}
-use Rattle.cc_tied.specs.Rewrites.{put, put_call, put_on_value, re, re_target, re_all, re_fields, re_value, re_option, re_declarator}
+use Rattle.cc_tied.specs.Rewrites.{put, put_call, put_on_value, re, re_target, re_all, re_fields, re_value, re_option, re_declarator, stay_call}
 use Rattle.cc_tied.specs.Fine.{FineOption, FineDeclarator, FineDeclarators, FineInit, FineNames, FineStmt, FineStmts, FineMaybe, FineCases, Fine, FineTarget}
 use Rattle.cc_tied.proofs.Kit.{Kit}
 use Rattle.cc_tied.proofs.Parts.{Below}
@@ -15,14 +15,11 @@ use Rattle.cc_tied.proofs.Nodes as N
 use Rattle.cc_tied.proofs.Statements as S
 use Rattle.cc_tied.proofs.Turns as T
 use Rattle.cc_tied.proofs.Rewriting as R
-use Rattle.cc_tied.proofs.Rewriting.{allowed}
+use Rattle.cc_tied.proofs.Rewriting.{allowed, BindsT, bound_by_write, bound_alone, SetsT, set_by_write, set_alone}
 
 -- no step
 unfoldable pub stay : Expr → Expr
 stay e = e
-
-unfoldable pub stay_call : ℕ → Expr → Exprs → Expr
-stay_call i f es = call i f es
 
 pick_same : (b : Bool) (e : Expr) → pick b e e ≡ e
 pick_same true e = refl
@@ -102,6 +99,9 @@ module _ (K : Kit) (X : Below K) (built : Ref → Bool) (same : N.SameTables K X
   abbrev Anywhere : K.Ctx → Type 0
   Anywhere c = Unit {0}
 
+  abbrev Written : K.Ctx → Type 0
+  Written c = (r : Ref) (f : ℕ) → K.BindT c r f → ⊥
+
   no_steps : R.StepRules K X built Anywhere Stands stay stay_call
   unfolding stay stay_call
   no_steps = record {
@@ -141,10 +141,11 @@ module _ (K : Kit) (X : Below K) (built : Ref → Bool) (same : N.SameTables K X
     like_case None o h k = S.follows_default K X c h k
     like_case (Some e) o h k = S.follows_case K X c (like_value e o) h k
 
-    like_set : (i : ℕ) (r : Ref) (v : Option Expr) → K.WriteT c r r → FineOption K.Ctx (allowed K Stands) c v → S.FollowsSet K X c (record { site = i; variable = r; value = v }) (record { site = i; variable = r; value = v })
+    like_set : (i : ℕ) (r : Ref) (v : Option Expr) → SetsT K c r v → FineOption K.Ctx (allowed K Stands) c v → S.FollowsSet K X c (record { site = i; variable = r; value = v }) (record { site = i; variable = r; value = v })
     unfolding FineOption
-    like_set i r None wr o = S.follows_bare K X c
-    like_set i r (Some e) wr o = S.follows_set K X c (same.sites i) wr ((like e o).values _ _)
+    like_set i r None h o = S.follows_bare K X c
+    like_set i r (Some e) (set_by_write wr) o = S.follows_set K X c (same.sites i) wr ((like e o).values _ _)
+    like_set i r (Some _) (set_alone {i = j} {p = p} h) o = S.follows_set_literal K X c (same.sites i) j j h
 
     pub like_declarator : (d : Declarator) → FineDeclarator K.Ctx (allowed K Stands) c d → S.FollowsSet K X c d d
     unfolding FineDeclarator
@@ -164,7 +165,7 @@ module _ (K : Kit) (X : Below K) (built : Ref → Bool) (same : N.SameTables K X
     like_names : (u : ForTarget) → FineNames K.Ctx (allowed K Stands) c u → S.FollowsNames K X c u u
     unfolding FineNames FineDeclarator
     like_names (in_target u) o = S.follows_in_target K X c (like_target false u o)
-    like_names (in_declared d) o = S.follows_in_declared K X c (same.sites d.site) o.0 (like_declarator d o)
+    like_names (in_declared d) o = S.follows_in_declared K X c (same.sites d.site) o.0 (like_declarator d o.1)
 
   mutual
     unfolding FineStmt
@@ -203,18 +204,22 @@ module _ (K : Kit) (X : Below K) (built : Ref → Bool) (same : N.SameTables K X
     like_cases c no_cases o = S.follows_no_cases K X c
     like_cases c (more_cases v b cs) o = like_case c v o.0 (like_stmts c [] b o.1) (like_cases c cs o.2)
 
-  like_hoist_one : (c : K.Ctx) (ls : List (List ℕ)) (s : Stmt) → FineStmt K.Ctx (allowed K Stands) c ls s → S.FollowsHoistOne K X c s s
+  like_bound : (c : K.Ctx) → Written c → (i : ℕ) (r : Ref) (f : ℕ) → BindsT K c r f → K.StandT c f f → S.FollowsHoistOne K X c (fun_decl i r f) (fun_decl i r f)
+  like_bound c nb i r f (bound_by_write wr) st = S.hoist_fun K X c (same.sites i) st wr
+  like_bound c nb i r f (bound_alone h) st = absurd (nb r f h)
+
+  like_hoist_one : (c : K.Ctx) → Written c → (ls : List (List ℕ)) (s : Stmt) → FineStmt K.Ctx (allowed K Stands) c ls s → S.FollowsHoistOne K X c s s
   unfolding FineStmt S.declares_function
-  like_hoist_one c ls (fun_decl i r f) o = S.hoist_fun K X c (same.sites i) o.1 o.0
-  like_hoist_one c ls s o = S.hoist_other K X c s s refl refl
+  like_hoist_one c nb ls (fun_decl i r f) o = like_bound c nb i r f o.0 o.1
+  like_hoist_one c nb ls s o = S.hoist_other K X c s s refl refl
 
-  pub like_hoist : (c : K.Ctx) (ss : Stmts) → FineStmts K.Ctx (allowed K Stands) c [] ss → S.FollowsHoist K X c ss ss
+  pub like_hoist : (c : K.Ctx) → Written c → (ss : Stmts) → FineStmts K.Ctx (allowed K Stands) c [] ss → S.FollowsHoist K X c ss ss
   unfolding FineStmt
-  like_hoist c no_stmts o = S.hoist_no K X c
-  like_hoist c (more_stmts s ss) o = S.hoist_more K X c (like_hoist_one c [] s o.1) (like_hoist c ss o.2)
+  like_hoist c nb no_stmts o = S.hoist_no K X c
+  like_hoist c nb (more_stmts s ss) o = S.hoist_more K X c (like_hoist_one c nb [] s o.1) (like_hoist c nb ss o.2)
 
-  pub like_body : (c : K.Ctx) (ss : Stmts) → FineStmts K.Ctx (allowed K Stands) c [] ss → S.FollowsBody K X c ss ss
-  like_body c ss o = record { hoist = like_hoist c ss o; runs = like_stmts c [] ss o }
+  pub like_body : (c : K.Ctx) → Written c → (ss : Stmts) → FineStmts K.Ctx (allowed K Stands) c [] ss → S.FollowsBody K X c ss ss
+  like_body c nb ss o = record { hoist = like_hoist c nb ss o; runs = like_stmts c [] ss o }
 
   -- a chunk's own list, whose statements declare the same prototypes
   pub like_chunk : (n : ℕ) → ((s : Stmt) → Stands (K.outer n) [] s → K.DeclaresT (declared_by K.tables s) (declared_by K.tables' s)) → (ss : Stmts) → FineStmts K.Ctx (allowed K Stands) (K.outer n) [] ss → T.FollowsChunk K X n ss ss

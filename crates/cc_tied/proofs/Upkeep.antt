@@ -31,7 +31,7 @@ pub record Upkeep (T : Tie) : Type 1 where
   pub up_function : {c : T.Ctx} {w : World T} {g h : Env} {f f' i i' : ℕ} → Sited T.SpotT i i' → T.StandT c f f' → T.EnvT c w.w g h → Sim T (λ v. ValT (T.O v.w)) w (make_function f i g) (make_function f' i' h)
   pub up_instance : {w : World T} {m n : ℕ} {a b : Code} → T.O w.w m n → T.RunsT w.w m n a b → Sim T (λ v. ValT (T.O v.w)) w (make_instance m a.function) (make_instance n b.function)
   pub up_read : {w : World T} {m n : ℕ} {a b : Access} {i i' : Spot} → T.SpotT i i' → T.O w.w m n → T.KeyT w.w (obj m) a b → Sim T (λ v. ValT (T.O v.w)) w (read_slot T.J i m a) (read_slot T.J' i' n b)
-  pub up_write : {w : World T} {m n : ℕ} {a b : Access} {x y : Val} {d d' : Option ℕ} {i i' : Spot} → T.SpotT i i' → T.DeclaresT d d' → T.O w.w m n → T.KeyT w.w (obj m) a b → ValT (T.O w.w) x y → Sim T (λ v p q. Unit {0}) w (λ s. write_slot T.J i m a (kind_by a) x (declares_on s d (obj m)) s) (λ s. write_slot T.J' i' n b (kind_by b) y (declares_on s d' (obj n)) s)
+  pub up_write : {w : World T} {m n : ℕ} {a b : Access} {x y : Val} {d d' : List ℕ} {i i' : Spot} → T.SpotT i i' → T.DeclaresT d d' → T.O w.w m n → T.KeyT w.w (obj m) a b → ValT (T.O w.w) x y → Sim T (λ v p q. Unit {0}) w (λ s. write_slot T.J i m a (kind_by a) x (declares_on s d (obj m)) s) (λ s. write_slot T.J' i' n b (kind_by b) y (declares_on s d' (obj n)) s)
   pub up_remove : {w : World T} {m n : ℕ} {a b : Access} {i i' : Spot} → T.SpotT i i' → T.O w.w m n → T.KeyT w.w (obj m) a b → Sim T (λ v. ValT (T.O v.w)) w (remove T.J i (obj m) a) (remove T.J' i' (obj n) b)
   pub up_probe : {w : World T} {m n : ℕ} {i i' : Spot} → T.SpotT i i' → T.O w.w m n → (t : List ℕ) → Sim T (λ v p q. p ≡ q) w (probe T.J i (obj m) t) (probe T.J' i' (obj n) t)
   pub up_walk : {w : World T} {m n : ℕ} {i i' : Spot} → T.SpotT i i' → T.O w.w m n → Sim T (λ v p q. p ≡ q) w (walk T.J i (obj m)) (walk T.J' i' (obj n))
@@ -52,8 +52,9 @@ pub record Upkeep (T : Tie) : Type 1 where
 
   pub up_read_var : {c : T.Ctx} {w : World T} {g h : Env} {r r' : Ref} {i i' : Spot} → T.SpotT i i' → T.EnvT c w.w g h → T.ReadT c r r' → Sim T (λ v. ValT (T.O v.w)) w (read_var T.J i g r) (read_var T.J' i' h r')
   pub up_write_var : {c : T.Ctx} {w : World T} {g h : Env} {r r' : Ref} {x y : Val} {i i' : Spot} → T.SpotT i i' → T.EnvT c w.w g h → T.WriteT c r r' → ValT (T.O w.w) x y → Sim T (λ v p q. Unit {0}) w (write_var T.J i g r x) (write_var T.J' i' h r' y)
+  pub up_set_var : {c : T.Ctx} {w : World T} {g h : Env} {r : Ref} {p : Prim} {i i' : Spot} → T.SpotT i i' → T.EnvT c w.w g h → T.SetT c r p → Sim T (λ v a b. Unit {0}) w (write_var T.J i g r (prim p)) (write_var T.J' i' h r (prim p))
   pub up_catch : {c : T.Ctx} {w : World T} {g h : Env} {x y : Val} → T.EnvT c w.w g h → ValT (T.O w.w) x y → Sim T (λ v m n. T.EnvT (T.in_catch c) v.w (record g { at = Some m }) (record h { at = Some n })) w (push_frame of_catch g.at (Some x ∷ [])) (push_frame of_catch h.at (Some y ∷ []))
-  pub up_frame : {w : World T} {a b : Code} {t t' : Option Val} {vs vs' : List Val} → CodeT T.SpotT T.FunT (T.UpT w.w) a b → OptT (ValT (T.O w.w)) t t' → ListT (ValT (T.O w.w)) vs vs' → Sim T (λ v m n. T.EnvT (T.inside a.function b.function) v.w (record { at = Some m; this = t; declares = None }) (record { at = Some n; this = t'; declares = None })) w (call_frame T.J a vs) (call_frame T.J' b vs')
+  pub up_frame : {w : World T} {a b : Code} {t t' : Option Val} {vs vs' : List Val} → CodeT T.SpotT T.FunT (T.UpT w.w) a b → OptT (ValT (T.O w.w)) t t' → ListT (ValT (T.O w.w)) vs vs' → Sim T (λ v m n. T.EnvT (T.inside a.function b.function) v.w (record { at = Some m; this = t; declares = [] }) (record { at = Some n; this = t'; declares = [] })) w (call_frame T.J a vs) (call_frame T.J' b vs')
   pub up_take_path : {w : World T} {p p' : ℕ × ℕ} {x y : Val} {a b : Access} {i i' : Spot} → T.SpotT i i' → T.FlatT p p' → ValT (T.O w.w) x y → T.KeyT w.w x a b → Sim T (λ v m n. Unit {0}) w (take_path T.J i (Some p) x a) (take_path T.J' i' (Some p') y b)
   pub up_keep_path : {w : World T} {p p' : ℕ × ℕ} {x y : Val} {i i' : Spot} → T.SpotT i i' → T.FlatT p p' → ValT (T.O w.w) x y → Sim T (λ v m n. Unit {0}) w (keep_path T.J i (Some p) x) (keep_path T.J' i' (Some p') y)
   pub up_cast : {w : World T} {d d' : ℕ} {x y : Val} {i i' : Spot} → T.SpotT i i' → T.DocT d d' → ValT (T.O w.w) x y → Sim T (λ v m n. Unit {0}) w (cast_to T.J i d x) (cast_to T.J' i' d' y)
@@ -168,6 +169,9 @@ module _ (T : Tie) (U : Upkeep T) where
     StandT = T.StandT;
     ReadT = T.ReadT;
     WriteT = T.WriteT;
+    SetT = T.SetT;
+    BindT = T.BindT;
+    bind_inside = λ h. T.bind_inside h;
     ThisT = T.ThisT;
     DocT = T.DocT;
     DeclaresT = T.DeclaresT;
@@ -232,6 +236,7 @@ module _ (T : Tie) (U : Upkeep T) where
     rel_out_write = U.up_out_write;
     rel_read_var = U.up_read_var;
     rel_write_var = U.up_write_var;
+    rel_set_var = U.up_set_var;
     rel_catch = U.up_catch;
     rel_frame = U.up_frame;
     rel_take_path = U.up_take_path;

@@ -4,12 +4,15 @@ use Rattle.std.specs.Prelude.{ℕ, Bool, true, false, List, [], ◌∷◌, Optio
 use Rattle.cc_ast.specs.Syntax.{Expr, lit, var, this, fun, list, object, unary, binary, and, or, cond, assign, step, member, index, call, new, comma, cast, tick, Target, to_var, to_member, to_index, Exprs, no_exprs, more_exprs, Fields, no_fields, more_fields, Declarator, ForInit, no_init, init_value, init_vars, ForTarget, in_target, in_declared, Stmt, simple, vars, fun_decl, if, while, do_while, for, for_in, return, throw, break, continue, label, switch, try, pay_stmt, Stmts, no_stmts, more_stmts, MaybeStmts, absent, present, Cases, no_cases, more_cases}
 use Rattle.cc_ast.specs.declared.tree.Ref.{Ref}
 
--- what a context allows: what is read, what is written, `this`, what is made, and statements under
--- the labels in force; and the context in a catch clause there
+-- what a context allows: what is read, what is written, what functions are bound to before a list
+-- runs, what declarators set to their values, `this`, what is made, and statements under the labels
+-- in force; and the context in a catch clause there
 pub record Allowed (C : Type 0) : Type 1 where
   pub caught : C → C
   pub reads : C → Ref → Type 0
   pub writes : C → Ref → Type 0
+  pub binds : C → Ref → (function : ℕ) → Type 0
+  pub sets : C → Ref → (value : Option Expr) → Type 0
   pub this_here : C → Type 0
   pub makes : C → ℕ → Type 0
   pub stands : C → List (List ℕ) → Stmt → Type 0
@@ -66,7 +69,7 @@ module _ (C : Type 0) (A : Allowed C) where
 
     unfoldable pub FineDeclarator : Declarator → Type 0
     unfolding FineOption
-    FineDeclarator d = A.writes c d.variable × FineOption d.value
+    FineDeclarator d = A.sets c d.variable d.value × FineOption d.value
 
     unfoldable pub FineDeclarators : List Declarator → Type 0
     unfolding FineDeclarator
@@ -82,7 +85,7 @@ module _ (C : Type 0) (A : Allowed C) where
     unfoldable pub FineNames : ForTarget → Type 0
     unfolding Fine FineDeclarator
     FineNames (in_target u) = FineTarget false u
-    FineNames (in_declared d) = FineDeclarator d
+    FineNames (in_declared d) = A.writes c d.variable × FineDeclarator d
 
   unfoldable mutual
     unfolding Fine FineOption FineDeclarators FineInit FineNames
@@ -90,7 +93,7 @@ module _ (C : Type 0) (A : Allowed C) where
     pub FineStmt : C → (labels : List (List ℕ)) → Stmt → Type 0
     FineStmt c ls (simple i e) = Fine c e
     FineStmt c ls (vars i ds) = FineDeclarators c ds
-    FineStmt c ls (fun_decl i r f) = A.writes c r × A.makes c f
+    FineStmt c ls (fun_decl i r f) = A.binds c r f × A.makes c f
     FineStmt c ls (if i e a b) = Fine c e × FineStmts c [] a × FineStmts c [] b
     FineStmt c ls (while i e b) = Fine c e × FineStmts c [] b
     FineStmt c ls (do_while i b e) = FineStmts c [] b × Fine c e

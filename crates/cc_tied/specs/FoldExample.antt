@@ -1,11 +1,19 @@
 -- A small phase: sums of literals become literals, and `&&` with a literal on the left the operand that it chooses.
-use Rattle.std.specs.Prelude.{ℕ, Option, Some, None}
-use Rattle.cc_ast.specs.Syntax.{Prim, Expr, lit, binary, and}
+use Rattle.std.specs.Prelude.{ℕ, Bool, Option, Some, None, is_some}
+use Rattle.cc_ast.specs.Syntax.{Prim, Expr, lit, binary, and, Stmts, more_stmts, Program}
 use Rattle.cc_ast.specs.declared.operator.BinOp.{BinOp}
 use Rattle.cc_ast.specs.declared.operator.BinOp.TheVariants.{Add}
 use Rattle.cc_meaning.specs.Values.{prim}
 use Rattle.cc_meaning.specs.Operators.{Outcome, gives, binary_of, truthy}
+use Rattle.cc_ast.specs.declared.tree.Ref.{Ref}
 use Rattle.cc_meaning.specs.Monad.{pick}
+use Rattle.cc_meaning.specs.Shapes.{tables_of}
+use Rattle.cc_meaning.specs.Same.{Same}
+use Rattle.cc_meaning.specs.WellMade.{WellMade}
+use Rattle.cc_tied.specs.Tied.{built_of}
+use Rattle.cc_tied.specs.Rewrites.{re_stmts, stay_call, whole, whole_in}
+use Rattle.cc_tied.specs.Promises.{HasNoPaths}
+use Rattle.cc_tied.specs.Mixed.{IsMixed}
 
 unfoldable pub literal : Expr → Option Prim
 literal (lit i p) = Some p
@@ -40,3 +48,15 @@ unfolding fold_binary chosen literal
 fold (binary i op a b) = fold_binary i op a b
 fold (and i a b) = chosen (literal a) a b (and i a b)
 fold e = e
+
+-- whether a reference stands for what is built in
+abbrev pub is_built_in : Program → Ref → Bool
+is_built_in P r = is_some (built_of (tables_of P) r)
+
+-- the statements of a scope of the program, folded
+abbrev pub fold_stmts : Program → (scope : ℕ) → Stmts → Stmts
+fold_stmts P f ss = re_stmts (is_built_in P) fold stay_call whole whole_in more_stmts ss
+
+-- whichever scopes are folded, the program does the same
+abbrev pub FoldingKeeps : Type 0
+FoldingKeeps = (P Q : Program) → WellMade P → HasNoPaths P → IsMixed (fold_stmts P) P Q → Same P Q

@@ -4,3 +4,9 @@ pub mod Promises
 pub mod Rewrites
 pub mod Fine
 pub mod FoldExample
+pub mod Facts
+pub mod Injection
+pub mod Pure
+pub mod Inlined
+pub mod PlainFacts
+pub mod Mixed

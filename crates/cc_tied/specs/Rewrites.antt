@@ -133,3 +133,14 @@ module _ (built : Ref → Bool) (step : Expr → Expr) (step_call : ℕ → Expr
         pub re_cases : Cases → Cases
         re_cases no_cases = no_cases
         re_cases (more_cases o b cs) = more_cases (re_option o) (re_stmts b) (re_cases cs)
+
+-- ---- what a phase takes that leaves calls, declarators and statements whole
+
+unfoldable pub stay_call : ℕ → Expr → Exprs → Expr
+stay_call i f es = call i f es
+
+abbrev pub whole : Declarator → List Declarator
+whole d = d ∷ []
+
+abbrev pub whole_in : Declarator → Declarator
+whole_in d = d

@@ -3,6 +3,8 @@
 //! and do nothing.
 #![tactic(auto)]
 
+pub mod examples;
+
 ghost use Rattle.cc_meaning.specs.Script.{checked, plain};
 ghost use Rattle.cc_tied.specs.Promises.{DepthIsEnough, BudgetExtends, Erasure, AgreementFollowsSame, AlikeRuns, AgreementReachesAlike, Joining};
 

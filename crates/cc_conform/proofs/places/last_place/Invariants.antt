@@ -1,0 +1,6 @@
+use Rattle.std.proofs.Common.{◌≡◌, drop}
+use Rattle.cc_meaning.specs.Builtins.{first_of_two, last_place}
+use Rattle.cc_conform.proofs.places.last_place.Given as goal
+
+abbrev pub invariant-loop-at : goal.invariant-loop-at
+invariant-loop-at l = first_of_two (last_place l.at l.part (drop l.at l.text)) l.last ≡ last_place 0 l.part l.text

@@ -1,0 +1,13 @@
+use Rattle.std.proofs.Common.{◌∙◌, List, map, sym, ap}
+use Rattle.cc_meaning.specs.Builtins.{text_use, text_index_of}
+use Rattle.cc_meaning.specs.Rules.{outcome_rule}
+use Rattle.cc_value.specs.Bridge.{value_of}
+use Rattle.cc_value.specs.declared.value.Value.{Value}
+use Rattle.cc_conform.proofs.UseTexts.{only-Some, first-other}
+use Rattle.cc_conform.proofs.text_uses.index_rule.Goals as goal
+
+pub returns-in-Some : goal.returns-in-Some
+returns-in-Some c = c.first_of_rule.ensures ∙ sym (ap (λ (xs : List Value). outcome_rule (text_use text_index_of c.args.text.now (map value_of xs))) (only-Some c.args.args.now c.in-Some.part.now (sym c.in-Some.ensures)))
+
+pub returns-in-None : goal.returns-in-None
+returns-in-None c = first-other c.args.text.now c.args.args.now (sym c.in-None.ensures)

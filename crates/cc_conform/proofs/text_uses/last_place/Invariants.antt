@@ -1,6 +1,0 @@
-use Rattle.std.proofs.Common.{◌≡◌, drop}
-use Rattle.cc_meaning.specs.Builtins.{first_of_two, last_place}
-use Rattle.cc_conform.proofs.text_uses.last_place.Given as goal
-
-abbrev pub invariant-loop-at : goal.invariant-loop-at
-invariant-loop-at l = first_of_two (last_place l.at l.part (drop l.at l.text)) l.found ≡ last_place 0 l.part l.text

@@ -1,0 +1,14 @@
+pub mod FlagLaws
+pub mod TextLaws
+pub mod NumberLaws
+pub mod CutLaws
+pub mod ChunkLaws
+pub mod QuoteLaws
+pub mod FormLaws
+pub mod SettingLaws
+pub mod NamesLaws
+pub mod GivenLaws
+pub mod OrderLaws
+pub mod FormFaults
+pub mod TogetherLaws
+pub mod LimitLaws

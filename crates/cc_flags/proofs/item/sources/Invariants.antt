@@ -1,0 +1,7 @@
+use Rattle.std.proofs.Common.{◌≡◌, take}
+use Rattle.cc_flags.specs.Texts.{texts}
+use Rattle.cc_flags.specs.Words.{settings_of, sources_of}
+use Rattle.cc_flags.proofs.item.sources.Given as goal
+
+abbrev pub invariant-loop-item : goal.invariant-loop-item
+invariant-loop-item l = texts l.names.items ≡ sources_of (settings_of (take l.item-index l.items))

@@ -1,0 +1,13 @@
+pub mod Texts
+pub mod Numbers
+pub mod Flags
+pub mod Words
+pub mod Values
+pub mod Faults
+pub mod Jobs
+pub mod Readings
+pub mod Cutting
+pub mod Quoting
+pub mod Forming
+pub mod Giving
+pub mod Steps

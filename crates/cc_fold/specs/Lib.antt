@@ -1,0 +1,6 @@
+pub mod Fold
+pub mod Walk
+pub mod Built
+pub mod Made
+pub mod Literals
+pub mod Places

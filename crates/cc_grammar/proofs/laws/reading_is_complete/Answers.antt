@@ -1,0 +1,5 @@
+use Rattle.cc_grammar.proofs.laws.reading_is_complete.Goals as goal
+use Rattle.cc_grammar.proofs.CompleteTokens.{complete}
+
+pub returns : goal.returns
+returns c = complete

@@ -1,0 +1,17 @@
+pub mod TextLemmas
+pub mod SymbolLemmas
+pub mod ClosingLemmas
+pub mod WordLemmas
+pub mod NameLemmas
+pub mod ViewLemmas
+pub mod MarkLemmas
+pub mod FunctionLemmas
+pub mod StepLemmas
+pub mod GoOnLemmas
+pub mod TagLemmas
+pub mod GivesLemmas
+pub mod PieceLemmas
+pub mod CollectLemmas
+pub mod LengthLemmas
+pub mod OnceLemmas
+pub mod DocOnceLemmas

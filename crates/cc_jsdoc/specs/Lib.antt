@@ -1,0 +1,10 @@
+pub mod Classes
+pub mod Texts
+pub mod Symbols
+pub mod Shown
+pub mod Types
+pub mod Continuing
+pub mod Tags
+pub mod Docs
+pub mod Collecting
+pub mod Laws

@@ -1,0 +1,161 @@
+// Trees as they are read.
+
+use cc_ast::operator::{BinOp, UnOp};
+use cc_ast::place::Place;
+use cc_ast::units::Units;
+use sqlite_items::{Boxed, Items};
+
+/// A variable that is declared, and where its name stands.
+#[derive(Debug, Drop)]
+pub struct Named {
+    pub place: Place,
+    pub name: Units,
+}
+
+/// A key of an object literal (ECMA-262 5.1, 11.1.5): a name or a reserved word, a text, or a
+/// number.
+#[derive(Debug, Drop)]
+pub enum RawKey {
+    Dotted(Units),
+    Quoted(Units),
+    Numbered(i64),
+}
+
+/// An expression (ECMA-262 5.1, 11). The first field of each variant is its place: of an operator
+/// or a call its operator or opening parenthesis, of an access its dot or bracket, of anything else
+/// its first token.
+#[cycle(raw)]
+#[derive(Drop)]
+pub enum RawExpr {
+    Undefined(Place),
+    Null(Place),
+    Truth(Place, bool),
+    Whole(Place, i64),
+    Text(Place, Units),
+    Var(Place, Units),
+    This(Place),
+    /// A function expression: its own name where it has one, its parameters and its body.
+    Fun(Place, Option<Named>, Items<Named>, Items<RawStmt>),
+    List(Place, Items<RawExpr>),
+    Object(Place, Items<RawField>),
+    Unary(Place, UnOp, Boxed<RawExpr>),
+    Binary(Place, BinOp, Boxed<RawExpr>, Boxed<RawExpr>),
+    And(Place, Boxed<RawExpr>, Boxed<RawExpr>),
+    Or(Place, Boxed<RawExpr>, Boxed<RawExpr>),
+    Cond(Place, Boxed<RawExpr>, Boxed<RawExpr>, Boxed<RawExpr>),
+    /// `=`, or with an operator a compound assignment.
+    Assign(Place, Option<BinOp>, Boxed<RawTarget>, Boxed<RawExpr>),
+    /// `++` where the first flag is true, else `--`; a prefix where the second is.
+    Step(Place, bool, bool, Boxed<RawTarget>),
+    /// An access with a dot, with the place of its name and the name.
+    Member(Place, Boxed<RawExpr>, Place, Units),
+    Index(Place, Boxed<RawExpr>, Boxed<RawExpr>),
+    Call(Place, Boxed<RawExpr>, Items<RawExpr>),
+    New(Place, Boxed<RawExpr>, Items<RawExpr>),
+    Comma(Place, Boxed<RawExpr>, Boxed<RawExpr>),
+    /// What stands in parentheses behind an annotation comment, which is a cast if the comment has
+    /// a type.
+    Cast(Place, Boxed<RawExpr>),
+}
+
+/// What an assignment, a step or a `for-in` writes: a variable or an access.
+#[cycle(raw)]
+#[derive(Drop)]
+pub enum RawTarget {
+    Variable(Place, Units),
+    Dotted(Place, Boxed<RawExpr>, Place, Units),
+    Bracketed(Place, Boxed<RawExpr>, Boxed<RawExpr>),
+}
+
+/// A key of an object literal, with its place and value.
+#[cycle(raw)]
+#[derive(Drop)]
+pub struct RawField {
+    pub place: Place,
+    pub key: RawKey,
+    pub value: RawExpr,
+}
+
+/// A variable of a `var` statement, with its initial value where it has one (ECMA-262 5.1, 12.2).
+#[cycle(raw)]
+#[derive(Drop)]
+pub struct RawDeclarator {
+    pub variable: Named,
+    pub value: Option<RawExpr>,
+}
+
+/// What a `for` begins with.
+#[cycle(raw)]
+#[derive(Drop)]
+pub enum RawInit {
+    Nothing,
+    Value(RawExpr),
+    Declarators(Items<RawDeclarator>),
+}
+
+/// What a `for-in` writes each name to.
+#[cycle(raw)]
+#[derive(Drop)]
+pub enum RawForTarget {
+    Target(RawTarget),
+    Declared(RawDeclarator),
+}
+
+/// A clause of a `switch`: its test, none for `default`, and its statements.
+#[cycle(raw)]
+#[derive(Drop)]
+pub struct RawCase {
+    pub test: Option<RawExpr>,
+    pub body: Items<RawStmt>,
+}
+
+/// A `catch`: its variable and its body.
+#[cycle(raw)]
+#[derive(Drop)]
+pub struct RawCatch {
+    pub variable: Named,
+    pub body: Items<RawStmt>,
+}
+
+/// A statement (ECMA-262 5.1, 12 and 13). The first field of each variant is its place. A body is a
+/// list: a block inside a list is spliced into it, and an empty statement is nothing.
+#[cycle(raw)]
+#[derive(Drop)]
+pub enum RawStmt {
+    Simple(Place, RawExpr),
+    Vars(Place, Items<RawDeclarator>),
+    /// A function declaration: its name, its parameters and its body.
+    FunDecl(Place, Named, Items<Named>, Items<RawStmt>),
+    If(Place, RawExpr, Items<RawStmt>, Items<RawStmt>),
+    While(Place, RawExpr, Items<RawStmt>),
+    DoWhile(Place, Items<RawStmt>, RawExpr),
+    /// The beginning, the test, the step and the body.
+    For(Place, RawInit, Option<RawExpr>, Option<RawExpr>, Items<RawStmt>),
+    ForIn(Place, RawForTarget, RawExpr, Items<RawStmt>),
+    Return(Place, Option<RawExpr>),
+    Throw(Place, RawExpr),
+    Break(Place, Option<Units>),
+    Continue(Place, Option<Units>),
+    Label(Place, Units, Items<RawStmt>),
+    Switch(Place, RawExpr, Items<RawCase>),
+    /// The body, the `catch`, and the body of `finally`.
+    Try(Place, Items<RawStmt>, Option<RawCatch>, Option<Items<RawStmt>>),
+}
+
+/// An annotation comment: its place, that of the next token that is no comment, and its whole text.
+#[derive(Debug, Drop)]
+pub struct Comment {
+    pub place: Place,
+    pub next: Place,
+    pub text: Units,
+}
+
+/// A file as it is read: its number, its statements, its annotation comments in order, and the whole
+/// texts of those that contain `@license` or `@preserve`, in order.
+#[derive(Drop)]
+pub struct Tree {
+    pub file: u32,
+    pub body: Items<RawStmt>,
+    pub docs: Items<Comment>,
+    pub licences: Items<Units>,
+}
