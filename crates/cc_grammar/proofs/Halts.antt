@@ -15,7 +15,7 @@ use Rattle.cc_grammar.proofs.Complete.{program_read}
 use Rattle.cc_grammar.proofs.Alike.{is_limit, is_spent}
 use Rattle.cc_grammar.proofs.NoFront.{no_front, unread_there}
 use Rattle.cc_grammar.proofs.Mono.{higher_body}
-use Rattle.cc_grammar.proofs.Fails.{Fails, fine, stop, deep}
+use Rattle.cc_grammar.proofs.Fails.{Fails, fine, stop, deep, here}
 use Rattle.cc_grammar.proofs.FrontsProgram.{FrontAt, Open, program_fails}
 use Rattle.cc_grammar.proofs.Paired.{is_fresh, Begun, Paired, end_ready, body_ready}
 use Rattle.cc_grammar.proofs.Copies.{L, Copy, end, take, insert, put, put_lexemes, lexemes_real, look_real, Each, each_map, StopsAt, Just, Shut, Bar, Copies, read, Quiet}
@@ -50,7 +50,7 @@ record FrontIs (j : ℕ) (p : Symbols) : Type 0 where
   within : IsFrontWithin j p
   unclosed : Open p
 
-front_at : {j : ℕ} {xs i : Symbols} (p : Symbols) → xs ≡ p ++ i → FrontAt j xs i → FrontIs j p
+front_at : {j : ℕ} {xs i : Symbols} (p : Symbols) → xs ≡ p ++ i → FrontAt j xs (here i) → FrontIs j p
 front_at {j} {i} p e f = subst (λ z. FrontIs j z) (append_cancel_right f.before p i (sym f.is ∙ e)) (record { within = f.front; unclosed = f.unclosed })
 
 pub stopped : {d : ℕ} {c : Fault} {xs : Symbols} (p : Symbols) (us : L) {o : Outcome Symbols (Sized (List RawStmt))} → xs ≡ p ++ map real us → Fails (suc d) (λ j i. FrontAt j xs i) o → o ≡ Err (c, map real us) → Stopped d c p us

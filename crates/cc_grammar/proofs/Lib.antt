@@ -39,6 +39,7 @@ pub mod AlikeStatements
 pub mod NoFront
 pub mod Moves
 pub mod MovesDerived
+pub mod Deletions
 pub mod Fails
 pub mod FrontsLists
 pub mod FrontsPrimary
