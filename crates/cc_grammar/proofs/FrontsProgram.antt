@@ -146,6 +146,9 @@ pub record FrontAt (j : ℕ) (xs : Symbols) (i : Spot) : Type 0 where
   pub front : IsFrontWithin j (with_due before i)
   pub unclosed : Open before
 
+abbrev pub FrontOf : Symbols → ℕ → Spot → Type 0
+FrontOf xs j i = FrontAt j xs i
+
 put_due : (before : Symbols) (i : Spot) (zs : Symbols) → before ++ put i zs ≡ with_due before i ++ zs
 put_due before (here ys) zs = refl
 put_due before (due p ys) zs = sym (append_assoc before (any p (look ys) ∷ []) zs)
@@ -179,7 +182,7 @@ unfolding r.expect_end
 end_fails xs j lt h = fails_choice (is_end (look xs).kind) (λ _. fine) (λ _. fails_here xs j lt h)
 
 -- Where it stops, the symbols before are a front; at the depth they are one within the depth, and one with the next token.
-pub program_fails : (n d : ℕ) (xs : Symbols) → reals xs < n → Fails (suc d) (λ j i. FrontAt j xs i) (read_symbols n d xs)
+pub program_fails : (n d : ℕ) (xs : Symbols) → reals xs < n → Fails (suc d) (FrontOf xs) (read_symbols n d xs)
 unfolding read_symbols r.program
 program_fails n d xs ln = fails_after (list_sound (suc d) n (s.reader n d) (reader_sound n d) of_program n [] 0 xs (omega arith))
     (fails_map (λ j. j) (λ j l. l) (λ j i w. ended_front w) (statements_fail (suc d) n (s.reader n d) (reader_sound n d) (reader_fails n d) of_program xs (omega arith) ln))
