@@ -1,12 +1,12 @@
 -- The look ahead behind `delete`, and what it comes to: a variable, perhaps in parentheses.
-use Rattle.std.specs.Prelude.{◌≡◌, ℕ, zero, suc, ◌+◌, ◌<◌, ◌≤◌, not, Bool, true, false, cond, is_some, List, [], ◌∷◌, Ok, Err, Option, Some, None}
+use Rattle.std.specs.Prelude.{◌≡◌, ℕ, zero, suc, ◌+◌, ◌<◌, ◌≤◌, not, Bool, true, false, cond, is_some, List, [], ◌∷◌, ◌++◌, map, Ok, Err, Option, Some, None}
 use Rattle.std.proofs.Common.{refl, sym, ap, ◌∙◌, arith}
 use Rattle.cc_ast.specs.declared.operator.UnOp.{UnOp}
 use Rattle.cc_ast.specs.declared.operator.UnOp.TheVariants as op
 use Rattle.cc_ast.specs.declared.place.Place.{Place}
 use Rattle.cc_lexer.specs.declared.token.Mark.TheVariants as mark
 use Rattle.cc_grammar.specs.declared.word.Word.TheVariants as word
-use Rattle.cc_grammar.specs.Symbols.{Kind, Lexeme, Symbols, look, rest, is_mark}
+use Rattle.cc_grammar.specs.Symbols.{Kind, Lexeme, Symbols, real, look, rest, is_mark}
 use Rattle.cc_grammar.specs.Symbols as k
 use Rattle.cc_grammar.specs.RawTree.{RawExpr, RawTarget}
 use Rattle.cc_grammar.specs.RawTree as raw
@@ -86,20 +86,47 @@ pub record Found (m : ℕ) (b : Bool) (l : ℕ) (xs zs : Symbols) : Type 0 where
   pub place : Symbols
   pub is : E height b l xs tree place
   pub closers : Closers m place zs
+  pub variable : is_variable tree ≡ true
+
+cast_too : (t : Lexeme) (e : RawExpr) → is_variable e ≡ true → is_variable (parenthesised t e) ≡ true
+cast_too t e f = by t.noted where
+  by : (b : Bool) → is_variable (cond b (raw.cast t.place e) e) ≡ true
+  by true = f
+  by false = f
 
 found_in : {m : ℕ} {b : Bool} {l : ℕ} {xs ys zs : Symbols} → Sign mark.OpenParen xs ys → Found (suc m) true 0 ys zs → Found m b l xs zs
 found_in {m} {b} {l} {xs} {ys} {zs} c f = by f.closers where
   by : {ws : Symbols} → Closers (suc m) f.place ws → Found m b l xs ws
-  by (close_one o h) = record { height = suc f.height; tree = parenthesised (look xs) f.tree; place = _; is = g.paren (omega arith) c f.is o; closers = h }
+  by (close_one o h) = record { height = suc f.height; tree = parenthesised (look xs) f.tree; place = _; is = g.paren (omega arith) c f.is o; closers = h; variable = cast_too (look xs) f.tree f.variable }
 
 pub nest_found : {m : ℕ} (b : Bool) (l : ℕ) {xs zs : Symbols} → Nest m xs zs → Found m b l xs zs
-nest_found b l (bare {v} {xs} c h) = record { height = 0; tree = raw.var (g.at xs) v; place = _; is = g.name c; closers = h }
+nest_found b l (bare {v} {xs} c h) = record { height = 0; tree = raw.var (g.at xs) v; place = _; is = g.name c; closers = h; variable = refl }
 nest_found b l (nested c h) = found_in c (nest_found true 0 h)
 
 pub all_closed : {b : Bool} {l : ℕ} {xs zs : Symbols} (f : Found 0 b l xs zs) → E f.height b l xs f.tree zs
 all_closed {b} {l} {xs} f = by f.closers f.is where
   by : {ys zs : Symbols} → Closers 0 ys zs → E f.height b l xs f.tree ys → E f.height b l xs f.tree zs
   by closed_all x = x
+
+-- ---- its tokens
+
+-- the tokens, before any list
+pub record Told (P : Symbols → Symbols → Type 0) (xs zs : Symbols) : Type 0 where
+  pub tokens : List Lexeme
+  pub is : xs ≡ map real tokens ++ zs
+  pub moved : (ws : Symbols) → P (map real tokens ++ ws) ws
+
+one_token : {P Q : Symbols → Symbols → Type 0} {x : k.Kind} {xs ys zs : Symbols} → g.At x xs ys → ((ws us : Symbols) → g.At x (real (look xs) ∷ us) us → P us ws → Q (real (look xs) ∷ us) ws) → Told P ys zs → Told Q xs zs
+one_token {xs} (g.at_token t e) f w = record { tokens = t ∷ w.tokens; is = ap (λ l. real t ∷ l) w.is; moved = λ ws. f ws _ (g.at_token t e) (w.moved ws) }
+
+closers_told : {m : ℕ} {xs zs : Symbols} → Closers m xs zs → Told (Closers m) xs zs
+closers_told closed_all = record { tokens = []; is = refl; moved = λ ws. closed_all }
+closers_told (close_one c h) = one_token c (λ ws us a b. close_one a b) (closers_told h)
+
+pub nest_told : {m : ℕ} {xs zs : Symbols} → Nest m xs zs → Told (Nest m) xs zs
+nest_told (bare (g.variable c e) h) = one_token c (λ ws us a b. bare (g.variable a e) b) (closers_told h)
+nest_told (bare (g.any_variable c) h) = one_token c (λ ws us a b. bare (g.any_variable a) b) (closers_told h)
+nest_told (nested c h) = one_token c (λ ws us a b. nested a b) (nest_told h)
 
 -- ---- what is deleted
 

@@ -64,4 +64,5 @@ pub mod CopyPrograms
 pub mod SoundTokens
 pub mod TokenFronts
 pub mod Halts
+pub mod Refusals
 pub mod CompleteTokens
