@@ -40,6 +40,7 @@ pub mod AlikeStatements
 pub mod NoFront
 pub mod Moves
 pub mod MovesDerived
+pub mod Deletions
 pub mod Fails
 pub mod FrontsLists
 pub mod FrontsPrimary
@@ -63,4 +64,5 @@ pub mod CopyPrograms
 pub mod SoundTokens
 pub mod TokenFronts
 pub mod Halts
+pub mod Refusals
 pub mod CompleteTokens
