@@ -208,7 +208,7 @@ module _ (d n : ℕ) (inner : In) (sound : SoundInner d inner) (all : FailsInner
 
   key_fails : {b : ℕ} (xs : Symbols) (v : Option RawKey) → key_of (look xs).kind ≡ v → 0 < b → Fails b (λ j i. Begun (FF j) xs i) (s.key_by d n inner v xs)
   key_fails xs None e some = fails_here xs 0 (omega arith) (no_field_yet xs 0)
-  key_fails xs (Some y) e some = fails_fork (is_accessor (look xs).kind && is_some (key_of (look (rest xs)).kind)) _ _ 
+  key_fails xs (Some y) e some = fails_fork (is_accessor (look xs).kind && is_some (key_of (look (rest xs)).kind)) _ _
       (λ t. let c = found key_of xs y refl refl e in let q = both_true (is_accessor (look xs).kind) _ t in stop refl (λ w. cc) 0 (inl some) (by_key refl c q.0 q.1 0 (key_due xs 0)) (key_begun 0 c e)) (λ _. fine)
 
   -- a key and its colon

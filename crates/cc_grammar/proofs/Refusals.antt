@@ -137,15 +137,18 @@ module _ (ts : L) (f : Fault) (p : Symbols) (t : Lexeme) (vs : L) (tokens : ts �
   refusal c q (by_variable e j w) = by (by_cause (refused_kind t.kind) (r.refused_there r.a_variable t.kind) c (sym (ap (λ (x : Fault). x.cause) e) ∙ q)) where
     place : f.place ≡ t.place
     place = ap (λ (x : Fault). x.place) e
+
     by : (refused_kind t.kind ≡ Some c) ⊎ (r.refused_there r.a_variable t.kind ≡ Some c) → Refusal ts f c
     by (inl h) = begins_at c place (itself h sharp)
     by (inr h) = named c place (no_variable t.kind c h) (due_there k.variable w)
   refusal c q (by_operand e j u w v) = by (by_cause (refused_kind t.kind) (r.refused_there r.an_operand t.kind) c (sym (ap (λ (x : Fault). x.cause) e) ∙ q)) where
     place : f.place ≡ t.place
     place = ap (λ (x : Fault). x.place) e
+
     there : NameOf t.kind c ⊎ ((is_slash t.kind ≡ true) × (construct.RegExp ≡ c)) → Refusal ts f c
     there (inl h) = named c place h (due_there k.variable v)
     there (inr h) = begins_at c place (subst (λ x. Begins p t vs x) h.1 (regexp h.0 (due_there k.operand w) sharp))
+
     by : (refused_kind t.kind ≡ Some c) ⊎ (r.refused_there r.an_operand t.kind ≡ Some c) → Refusal ts f c
     by (inl h) = begins_at c place (itself h sharp)
     by (inr h) = there (no_operand t.kind c h)
