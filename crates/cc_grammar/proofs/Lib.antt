@@ -65,4 +65,5 @@ pub mod SoundTokens
 pub mod TokenFronts
 pub mod Halts
 pub mod Refusals
+pub mod Swap
 pub mod CompleteTokens
