@@ -66,4 +66,5 @@ pub mod TokenFronts
 pub mod Halts
 pub mod Refusals
 pub mod Swap
+pub mod SwapSites
 pub mod CompleteTokens

@@ -127,7 +127,7 @@ module _ (x : Change) where
   limit_by : {A : Type 0} {xs : Symbols} {o u : Outcome Symbols A} → o ≡ u → IsLimit xs u → IsLimit xs o
   limit_by {xs} e h = let P : Outcome Symbols _ → Type 0 = λ y. IsLimit xs y in subst P (sym e) h
 
-  refused_by : {A : Type 0} {o u : Outcome Symbols A} → o ≡ u → IsRefused u → IsRefused o
+  pub refused_by : {A : Type 0} {o u : Outcome Symbols A} → o ≡ u → IsRefused u → IsRefused o
   refused_by e h = let P : Outcome Symbols _ → Type 0 = λ y. IsRefused y in subst P (sym e) h
 
   falls_by : {A : Type 0} {xs : Symbols} {o u : Outcome Symbols A} → o ≡ u → Falls xs u → Falls xs o
