@@ -67,4 +67,5 @@ pub mod Halts
 pub mod Refusals
 pub mod Swap
 pub mod SwapSites
+pub mod SwapAhead
 pub mod CompleteTokens

@@ -124,13 +124,13 @@ module _ (x : Change) where
   pub err_by : {A : Type 0} {o u : Outcome Symbols A} → o ≡ u → IsErr u → IsErr o
   err_by e h = let P : Outcome Symbols _ → Type 0 = λ y. IsErr y in subst P (sym e) h
 
-  limit_by : {A : Type 0} {xs : Symbols} {o u : Outcome Symbols A} → o ≡ u → IsLimit xs u → IsLimit xs o
+  pub limit_by : {A : Type 0} {xs : Symbols} {o u : Outcome Symbols A} → o ≡ u → IsLimit xs u → IsLimit xs o
   limit_by {xs} e h = let P : Outcome Symbols _ → Type 0 = λ y. IsLimit xs y in subst P (sym e) h
 
   pub refused_by : {A : Type 0} {o u : Outcome Symbols A} → o ≡ u → IsRefused u → IsRefused o
   refused_by e h = let P : Outcome Symbols _ → Type 0 = λ y. IsRefused y in subst P (sym e) h
 
-  falls_by : {A : Type 0} {xs : Symbols} {o u : Outcome Symbols A} → o ≡ u → Falls xs u → Falls xs o
+  pub falls_by : {A : Type 0} {xs : Symbols} {o u : Outcome Symbols A} → o ≡ u → Falls xs u → Falls xs o
   falls_by {xs} e h = let P : Outcome Symbols _ → Type 0 = λ y. Falls xs y in subst P (sym e) h
 
   err_after : {A B : Type 0} {o : Outcome Symbols A} (f : A → s.Reader B) → IsErr o → IsErr (and_then o f)
