@@ -68,4 +68,5 @@ pub mod Refusals
 pub mod Swap
 pub mod SwapSites
 pub mod SwapAhead
+pub mod SwapExpressions
 pub mod CompleteTokens

@@ -16,7 +16,7 @@ use Rattle.cc_grammar.specs.Fronts.{is_end}
 use Rattle.cc_grammar.specs.Faults.{any}
 use Rattle.cc_grammar.specs.Reading.{Outcome, Fault, Cause, Due, and_then, fault, semicolon_symbol, is_remedy, depth, spent, refused}
 use Rattle.cc_grammar.specs.Reading as r
-use Rattle.cc_grammar.proofs.Alike.{Suffix, Stands, whole, tail_of, is_limit, is_spent, IsErr, is_err, stands_after, stand_by}
+use Rattle.cc_grammar.proofs.Alike.{Suffix, Stands, whole, tail_of, is_limit, is_spent, IsErr, is_err, stands_after, stand_by, semicolon_walks}
 use Rattle.cc_grammar.proofs.OnSymbols as s
 
 -- what is asked of the symbols behind the token
@@ -65,11 +65,9 @@ module _ (x : Change) where
   abbrev pub Fits : Symbols → Type 0
   Fits xs = Fitting x.next x.turns xs
 
-  -- it comes to a limit, before the token or at it
-  pub data IsLimit {A : Type 0} (xs : Symbols) : Outcome Symbols A → Type 0 where
-    early : {f : Fault} (m : Symbol) (mid : Symbols) → is_limit f.cause ≡ true → IsLimit xs (Err (f, m ∷ (mid ++ token ∷ xs)))
-    there : {f : Fault} → x.free ≡ true → is_limit f.cause ≡ true → IsLimit xs (Err (f, token ∷ xs))
-    spends : {f : Fault} {ys : Symbols} → is_spent f.cause ≡ true → IsLimit xs (Err (f, ys))
+  -- it comes to a limit
+  pub data IsLimit {A : Type 0} : Outcome Symbols A → Type 0 where
+    held : {f : Fault} {ys : Symbols} → is_limit f.cause ≡ true → IsLimit (Err (f, ys))
 
   pub data IsRefused {A : Type 0} : Outcome Symbols A → Type 0 where
     is_refused : {f : Fault} {ys : Symbols} → f.cause ≡ refused x.construct → IsRefused (Err (f, ys))
@@ -82,7 +80,7 @@ module _ (x : Change) where
     stops : (mid : Symbols) (a : A) → ((xs : Symbols) → p (before ++ token ∷ xs) ≡ Ok (a, mid ++ token ∷ xs)) → ((xs : Symbols) → q (before ++ part ∷ xs) ≡ Ok (a, mid ++ part ∷ xs)) → Swaps p q before
     barred : ((xs : Symbols) → IsErr (q (before ++ part ∷ xs))) → Swaps p q before
     passes : x.free ≡ true → ((xs : Symbols) → Stands xs (p (before ++ token ∷ xs))) → Swaps p q before
-    limited : ((xs : Symbols) → IsLimit xs (p (before ++ token ∷ xs))) → Swaps p q before
+    limited : ((xs : Symbols) → IsLimit (p (before ++ token ∷ xs))) → Swaps p q before
     refuses : ((xs : Symbols) → Fits xs → IsRefused (p (before ++ token ∷ xs))) → Swaps p q before
     falls : x.next ≡ deleted → ((xs : Symbols) → Falls xs (p (before ++ token ∷ xs))) → Swaps p q before
 
@@ -101,7 +99,7 @@ module _ (x : Change) where
 
   -- It takes the first symbol, or that is too deep for it.
   abbrev pub Taken : {A : Type 0} → s.Reader A → Type 0
-  Taken p = ((xs : Symbols) → Stands xs (p (token ∷ xs))) ⊎ ((xs : Symbols) → x.free ≡ true → IsLimit xs (p (token ∷ xs)))
+  Taken p = ((xs : Symbols) → Stands xs (p (token ∷ xs))) ⊎ ((xs : Symbols) → IsLimit (p (token ∷ xs)))
 
   pub record Taking {A : Type 0} (p q : s.Reader A) : Type 0 where
     pub later : Later p q
@@ -117,15 +115,15 @@ module _ (x : Change) where
   first_taken {p} {u} free h = by h.taken where
     by : Taken p → Swaps p u []
     by (inl w) = passes free w
-    by (inr w) = limited (λ xs. w xs free)
+    by (inr w) = limited w
 
   -- ---- one after the other
 
   pub err_by : {A : Type 0} {o u : Outcome Symbols A} → o ≡ u → IsErr u → IsErr o
   err_by e h = let P : Outcome Symbols _ → Type 0 = λ y. IsErr y in subst P (sym e) h
 
-  pub limit_by : {A : Type 0} {xs : Symbols} {o u : Outcome Symbols A} → o ≡ u → IsLimit xs u → IsLimit xs o
-  limit_by {xs} e h = let P : Outcome Symbols _ → Type 0 = λ y. IsLimit xs y in subst P (sym e) h
+  pub limit_by : {A : Type 0} {o u : Outcome Symbols A} → o ≡ u → IsLimit u → IsLimit o
+  limit_by e h = let P : Outcome Symbols _ → Type 0 = λ y. IsLimit y in subst P (sym e) h
 
   pub refused_by : {A : Type 0} {o u : Outcome Symbols A} → o ≡ u → IsRefused u → IsRefused o
   refused_by e h = let P : Outcome Symbols _ → Type 0 = λ y. IsRefused y in subst P (sym e) h
@@ -136,10 +134,8 @@ module _ (x : Change) where
   err_after : {A B : Type 0} {o : Outcome Symbols A} (f : A → s.Reader B) → IsErr o → IsErr (and_then o f)
   err_after f is_err = is_err
 
-  limit_after : {A B : Type 0} {xs : Symbols} {o : Outcome Symbols A} (f : A → s.Reader B) → IsLimit xs o → IsLimit xs (and_then o f)
-  limit_after f (early m mid e) = early m mid e
-  limit_after f (there free e) = there free e
-  limit_after f (spends e) = spends e
+  limit_after : {A B : Type 0} {o : Outcome Symbols A} (f : A → s.Reader B) → IsLimit o → IsLimit (and_then o f)
+  limit_after f (held e) = held e
 
   refused_after : {A B : Type 0} {o : Outcome Symbols A} (f : A → s.Reader B) → IsRefused o → IsRefused (and_then o f)
   refused_after f (is_refused e) = is_refused e
@@ -173,7 +169,7 @@ module _ (x : Change) where
     taking_after l h = record { later = later_after l.later h; taken = by l.taken } where
       by : Taken p → Taken (λ i. and_then (p i) f)
       by (inl w) = inl (λ xs. stands_after xs (p (token ∷ xs)) f (w xs) (λ a ys. (h a).later.walks ys))
-      by (inr w) = inr (λ xs free. limit_after f (w xs free))
+      by (inr w) = inr (λ xs. limit_after f (w xs))
 
   -- ---- steps
 
@@ -248,19 +244,16 @@ module _ (x : Change) where
   pub swap_refuse : {A : Type 0} (c : Construct) (p : Place) → Swap {A = A} (r.refuse Symbols look rest semicolon_symbol c p) (r.refuse Symbols look rest semicolon_symbol c p)
   swap_refuse c p = swap_err (record { cause = refused c; place = p }) (record { cause = refused c; place = p })
 
-  -- the turns are too few for the first, or for the second
-  pub swap_spent : {A : Type 0} (q : s.Reader A) → Swap (r.stops Symbols look rest semicolon_symbol spent) q
-  swap_spent q = record { first = limited (λ xs. spends refl); later = record { swaps = λ m before. limited (λ xs. spends refl); walks = whole } }
-
-  pub swap_stopped : {A : Type 0} (c : Cause) (p : s.Reader A) → ((xs : Symbols) → Stands xs (p xs)) → Swap p (r.stops Symbols look rest semicolon_symbol c)
-  swap_stopped c p w = record { first = barred (λ xs. is_err); later = record { swaps = λ m before. barred (λ xs. is_err); walks = w } }
+  -- a limit says nothing of the second
+  pub swap_limit : {A : Type 0} (c : Cause) (q : s.Reader A) → is_limit c ≡ true → Swap (r.stops Symbols look rest semicolon_symbol c) q
+  swap_limit c q e = record { first = limited (λ xs. held e); later = record { swaps = λ m before. limited (λ xs. held e); walks = whole } }
 
   -- the depth
   pub taking_deeper : {A : Type 0} (b c : Bool) (p q : s.Reader A) → Taking p q
       → Taking (λ i. cond b (p i) (Err (record { cause = depth; place = (look i).place }, i))) (λ i. cond c (q i) (Err (record { cause = depth; place = (look i).place }, i)))
   taking_deeper true true p q h = h
   taking_deeper true false p q h = record { later = record { swaps = λ m before. barred (λ xs. is_err); walks = h.later.walks }; taken = h.taken }
-  taking_deeper false c p q h = record { later = record { swaps = λ m before. limited (λ xs. early m before refl); walks = whole }; taken = inr (λ xs free. there free refl) }
+  taking_deeper false c p q h = record { later = record { swaps = λ m before. limited (λ xs. held refl); walks = whole }; taken = inr (λ xs. held refl) }
 
   -- ---- tests of the next symbol
 
@@ -314,5 +307,50 @@ module _ (x : Change) where
       by (accessor q) e = let no : false ≡ true = e in absurd (cc)
       by delete e = let no : false ≡ true = e in absurd (cc)
 
-    mark_test : {A : Type 0} (m : Mark) {p q u v : Lexeme → s.Reader A} → ((l : Lexeme) → Taking (p l) (u l)) → Look q v → Look (λ l. cond (is_mark m l.kind) (p l) (q l)) (λ l. cond (is_mark m l.kind) (u l) (v l))
+    pub mark_test : {A : Type 0} (m : Mark) {p q u v : Lexeme → s.Reader A} → ((l : Lexeme) → Taking (p l) (u l)) → Look q v → Look (λ l. cond (is_mark m l.kind) (p l) (q l)) (λ l. cond (is_mark m l.kind) (u l) (v l))
     mark_test m h u = test (λ l. is_mark m l.kind) refl (mark_free m) h u
+
+    -- ---- tokens that have to come
+
+    abbrev tested : Bool → Lexeme → s.Reader (Unit {0})
+    tested b l i = cond b (Ok (tt, rest i)) (Err (fault r.a_token l, i))
+
+    expected : (f : Lexeme → Bool) → f (record x.place { kind = k.due x.part }) ≡ false → (f lexeme ≡ true → x.free ≡ true) → Swap (λ i. tested (f (look i)) (look i) i) (λ i. tested (f (look i)) (look i) i)
+    expected f none free = swap_look {p = λ l. tested (f l) l} {q = λ l. tested (f l) l} (record { first = by (f lexeme) (f (record x.place { kind = k.due x.part })) refl none; later = λ l. then (f l) l }) where
+      by : (b c : Bool) → f lexeme ≡ b → c ≡ false → Swaps (tested b lexeme) (tested c (record x.place { kind = k.due x.part })) []
+      by true c e n = passes (free e) (λ xs. whole xs)
+      by false false e n = barred (λ xs. is_err)
+      by false true e n = let no : true ≡ false = n in absurd (cc)
+      then : (b : Bool) (l : Lexeme) → Later (tested b l) (tested b l)
+      then true l = (behind (swap_pure tt)).later
+      then false l = (swap_err (fault r.a_token l) (fault r.a_token l)).later
+
+    pub swap_expect : (m : Mark) → Swap (s.expect m) (s.expect m)
+    unfolding r.expect
+    swap_expect m = expected (λ l. is_mark m l.kind) refl (mark_free m)
+
+    pub swap_expect_word : (v : Word) → (is_word v x.kind ≡ true → x.free ≡ true) → Swap (s.expect_word v) (s.expect_word v)
+    unfolding r.expect_word
+    swap_expect_word v f = expected (λ l. is_word v l.kind) refl f
+
+    pub swap_expect_end : Swap s.expect_end s.expect_end
+    unfolding r.expect_end
+    swap_expect_end = expected (λ l. is_end l.kind) refl end_free
+
+    -- a value behind a mark
+    pub swap_close : {A : Type 0} (m : Mark) (a : A) → Swap (λ i. and_then (s.expect m i) (λ _ j. Ok (a, j))) (λ i. and_then (s.expect m i) (λ _ j. Ok (a, j)))
+    swap_close m a = swap_after (swap_expect m) (λ _. swap_pure a)
+
+    -- the end of a statement
+    semicolon_later : (m : Symbol) (before : Symbols) → Swaps semicolon_symbol semicolon_symbol (m ∷ before)
+    semicolon_later inserted before = stops before tt (λ xs. refl) (λ xs. refl)
+    semicolon_later (real l) before = by (is_mark mark.Semicolon l.kind) refl where
+      by : (b : Bool) → is_mark mark.Semicolon l.kind ≡ b → Swaps semicolon_symbol semicolon_symbol (real l ∷ before)
+      by true e = stops before tt (λ xs. ap (λ b. tested b l (real l ∷ (before ++ token ∷ xs))) e) (λ xs. ap (λ b. tested b l (real l ∷ (before ++ part ∷ xs))) e)
+      by false e = barred (λ xs. err_by (ap (λ b. tested b l (real l ∷ (before ++ part ∷ xs))) e) is_err)
+
+    pub swap_semicolon : Swap semicolon_symbol semicolon_symbol
+    swap_semicolon = record { first = barred (λ xs. is_err); later = record { swaps = semicolon_later; walks = semicolon_walks } }
+
+    pub swap_end : {A : Type 0} (a : A) → Swap (λ i. and_then (semicolon_symbol i) (λ _ j. Ok (a, j))) (λ i. and_then (semicolon_symbol i) (λ _ j. Ok (a, j)))
+    swap_end a = swap_after swap_semicolon (λ _. swap_pure a)

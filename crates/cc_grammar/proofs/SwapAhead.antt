@@ -12,7 +12,7 @@ use Rattle.cc_grammar.specs.Signs.{refused_name}
 use Rattle.cc_grammar.specs.Reading.{Outcome, Fault, and_then, goes_on, allowed, variable_of, semicolon_symbol, refused, depth}
 use Rattle.cc_grammar.specs.Reading as r
 use Rattle.cc_grammar.proofs.Alike.{IsErr, is_err, Stands, stand_by, stands_after}
-use Rattle.cc_grammar.proofs.Swap.{Next, Change, Pair, slash, slash_equal, comma, function, label, name, accessor, delete, IsPair, IsLimit, early, there, spends, IsRefused, is_refused, Falls, falls_there, Swaps, stops, barred, passes, limited, refuses, falls, Later, part, token, lexeme, Fits, err_by, limit_by, refused_by, falls_by}
+use Rattle.cc_grammar.proofs.Swap.{Next, Change, Pair, slash, slash_equal, comma, function, label, name, accessor, delete, IsPair, IsLimit, held, IsRefused, is_refused, Falls, falls_there, Swaps, stops, barred, passes, limited, refuses, falls, Later, part, token, lexeme, Fits, err_by, limit_by, refused_by, falls_by}
 use Rattle.cc_grammar.proofs.SwapSites.{change}
 use Rattle.cc_grammar.proofs.OnSymbols as s
 
@@ -74,7 +74,7 @@ module _ (x : Change) where
 
   pub data Looked (la lb : s.Reader Bool) (before : Symbols) : Type 0 where
     agreed : (v : Bool) (mid : Symbols) → ((xs : Symbols) → la (before ++ token x ∷ xs) ≡ Ok (v, mid ++ token x ∷ xs)) → ((xs : Symbols) → lb (before ++ part x ∷ xs) ≡ Ok (v, mid ++ part x ∷ xs)) → Looked la lb before
-    la_spent : ((xs : Symbols) → IsLimit x xs (la (before ++ token x ∷ xs))) → Looked la lb before
+    la_spent : ((xs : Symbols) → IsLimit x (la (before ++ token x ∷ xs))) → Looked la lb before
     lost : ((xs : Symbols) → IsErr (lb (before ++ part x ∷ xs))) → Looked la lb before
     at_name : x.part ≡ k.variable → Opens before → ((xs : Symbols) → la (before ++ token x ∷ xs) ≡ Ok (false, token x ∷ xs)) → Looked la lb before
     at_key : x.part ≡ k.key → Opens before → Looked la lb before
@@ -124,7 +124,7 @@ module _ (x : Change) (w : IsPair x) where
 
   pub opened_looked : (m u count : ℕ) (before : Symbols) → Looked x (s.opened m count) (s.opened u count) before
   unfolding r.opened
-  opened_looked zero u count before = la_spent (λ xs. spends refl)
+  opened_looked zero u count before = la_spent (λ xs. held refl)
   opened_looked (suc m) zero count before = lost (λ xs. is_err)
   opened_looked (suc m) (suc u) count [] = opened_first m u count w
   opened_looked (suc m) (suc u) count (l ∷ before) = by (is_mark mark.OpenParen (lexeme_of l).kind) (is_some (variable_of (lexeme_of l).kind)) refl refl (opened_looked m u (suc count) before) (closed_agrees x w count before) where
@@ -147,7 +147,7 @@ module _ (x : Change) where
   -- at a name that no variable has, or before it
   pub data Settled {A : Type 0} (p q : s.Reader A) (before : Symbols) : Type 0 where
     settled_refuses : ((xs : Symbols) → Fits x xs → IsRefused x (p (before ++ token x ∷ xs))) → Settled p q before
-    settled_limited : ((xs : Symbols) → IsLimit x xs (p (before ++ token x ∷ xs))) → Settled p q before
+    settled_limited : ((xs : Symbols) → IsLimit x (p (before ++ token x ∷ xs))) → Settled p q before
     settled_barred : ((xs : Symbols) → IsErr (q (before ++ part x ∷ xs))) → Settled p q before
 
   module _ {A : Type 0} (place : Place) (n o : ℕ) (p q : s.Reader A) where
@@ -159,10 +159,8 @@ module _ (x : Change) where
     err_either (Ok (false, j)) h = h
     err_either (Err y) h = is_err
 
-    spent_unless : {xs : Symbols} {u : Outcome Symbols Bool} (v : Outcome Symbols A) → IsLimit x xs u → IsLimit x xs (unless place u v)
-    spent_unless v (early m mid e) = early m mid e
-    spent_unless v (there free e) = there free e
-    spent_unless v (spends e) = spends e
+    spent_unless : {u : Outcome Symbols Bool} (v : Outcome Symbols A) → IsLimit x u → IsLimit x (unless place u v)
+    spent_unless v (held e) = held e
 
     err_unless : {u : Outcome Symbols Bool} (v : Outcome Symbols A) → IsErr u → IsErr (unless place u v)
     err_unless v is_err = is_err
