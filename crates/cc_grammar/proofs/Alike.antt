@@ -118,7 +118,7 @@ one_written : (b : Bool) (t : Lexeme) (xs : Symbols) → Stands (real t ∷ xs) 
 one_written true t xs = tail_of (real t ∷ xs)
 one_written false t xs = whole (real t ∷ xs)
 
-semicolon_walks : (xs : Symbols) → Stands xs (semicolon_symbol xs)
+pub semicolon_walks : (xs : Symbols) → Stands xs (semicolon_symbol xs)
 semicolon_walks [] = whole []
 semicolon_walks (inserted ∷ xs) = tail_of (inserted ∷ xs)
 semicolon_walks (real t ∷ xs) = one_written (is_mark mark.Semicolon t.kind) t xs

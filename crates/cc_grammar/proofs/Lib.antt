@@ -65,4 +65,8 @@ pub mod SoundTokens
 pub mod TokenFronts
 pub mod Halts
 pub mod Refusals
+pub mod Swap
+pub mod SwapSites
+pub mod SwapAhead
+pub mod SwapExpressions
 pub mod CompleteTokens
