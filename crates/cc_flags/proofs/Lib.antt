@@ -12,3 +12,4 @@ pub mod OrderLaws
 pub mod FormFaults
 pub mod TogetherLaws
 pub mod LimitLaws
+pub mod StageLaws

@@ -14,7 +14,8 @@ use Rattle.cc_flags.specs.declared.usage.Usage.TheVariants.{Word, Memory}
 use Rattle.cc_flags.specs.declared.usage.UsageKind.TheVariants as kind
 use Rattle.cc_flags.specs.Flags.{same}
 use Rattle.cc_flags.specs.Words.{Setting, has_flag, is_given}
-use Rattle.cc_flags.specs.Faults.{IsOutOfForm, IsRepeated, IsTogether, FormFault, is_output, is_other, needs_chunks, is_file, AsksTooMany, HasNoSource, has_output, place, stage_of}
+use Rattle.cc_flags.specs.Faults.{IsOutOfForm, IsRepeated, IsTogether, FormFault, is_output, is_other, needs_chunks, is_file, AsksTooMany, HasNoSource, has_output, place, stage_of, GoesBefore}
+use Rattle.cc_flags.specs.Readings.{IsFirstFault}
 
 -- settings stand in the order of their words
 abbrev pub StandInOrder : List Setting → Type 0
@@ -94,3 +95,14 @@ pub record IsWithin (files chunks : ℕ) (s : Setting) : Type 0 where
   pub file : is_file s ≡ true → files ≢ 1024
   pub chunk : has_flag flag.Chunk s ≡ true → chunks ≢ 256
   pub workers : ¬ AsksTooMany s
+
+-- ---- all of it
+
+-- a fault, and the first of all, whatever kinds they are of
+pub record IsFirstOf (F : Usage → Type 0) (u : Usage) : Type 0 where
+  pub stands : F u
+  pub first : (v : Usage) → F v → GoesBefore u v
+
+-- the first fault of words, which is told of unless memory was wanting
+abbrev pub FaultOrMemory : Call → List (List ℕ) → Usage → Type 0
+FaultOrMemory which words u = u ≢ Memory → IsFirstFault which words u

@@ -17,6 +17,7 @@ mod limit;
 mod missing;
 mod names;
 mod number;
+mod settings;
 mod text;
 mod together;
 mod usage;
