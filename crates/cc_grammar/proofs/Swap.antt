@@ -199,6 +199,7 @@ module _ (x : Change) where
     at_first (passes free u) = passes free u
     at_first (refuses u) = refuses u
     at_first (falls n u) = falls n u
+
     seen : (m : Symbol) (before : Symbols) → Swaps (p (lexeme_of m)) (q (lexeme_of m)) (m ∷ before) → Swaps (λ i. p (look i) i) (λ i. q (look i) i) (m ∷ before)
     seen m before (stops mid a u v) = stops mid a u v
     seen m before (barred v) = barred v
@@ -321,6 +322,7 @@ module _ (x : Change) where
       by true c e n = passes (free e) (λ xs. whole xs)
       by false false e n = barred (λ xs. is_err)
       by false true e n = let no : true ≡ false = n in absurd (cc)
+
       then : (b : Bool) (l : Lexeme) → Later (tested b l) (tested b l)
       then true l = (behind (swap_pure tt)).later
       then false l = (swap_err (fault r.a_token l) (fault r.a_token l)).later
