@@ -4,6 +4,7 @@ use Rattle.std.proofs.Common.{refl, sym, ap, ◌∙◌, subst, arith, ltb-true, 
 use Rattle.cc_ast.specs.Syntax.{undefined}
 use Rattle.cc_ast.specs.declared.place.Place.{Place}
 use Rattle.cc_ast.specs.declared.reading.Construct.{Construct}
+use Rattle.cc_ast.specs.declared.reading.Construct.TheVariants as construct
 use Rattle.cc_lexer.specs.declared.token.Mark.{Mark}
 use Rattle.cc_grammar.specs.declared.word.Word.{Word}
 use Rattle.cc_grammar.specs.Symbols.{Kind, Lexeme, Symbols, real, inserted, look, rest, nowhere, is_mark, is_word}
@@ -13,7 +14,7 @@ use Rattle.cc_grammar.specs.RawTree as raw
 use Rattle.cc_grammar.specs.Signs.{refused_kind}
 use Rattle.cc_grammar.specs.Grammar as g
 use Rattle.cc_grammar.specs.Grammar.{Context, At, Variable, E, T, is_tail, opens_no_expression}
-use Rattle.cc_grammar.specs.Reading.{Outcome, Fault, Cause, Due, and_then, fault, either, refused_there, depth, syntax, variable_of}
+use Rattle.cc_grammar.specs.Reading.{Outcome, Fault, Cause, Due, and_then, fault, either, refused_there, depth, syntax, refused, variable_of}
 use Rattle.cc_grammar.specs.Reading as r
 use Rattle.cc_grammar.proofs.Marked.{In}
 use Rattle.cc_grammar.proofs.Meets.{Done, ok, err}
@@ -83,22 +84,27 @@ no_t xs c j = record { front = stays xs; more = λ zs. real (token (k.due k.stat
 
 -- ---- where reading stops
 
--- If it isn't read, then what came before is a front. At the depth it is one below b, and with the next token it is one too.
+-- a deleted variable, before which the symbols aren't counted
+abbrev pub is_deletion : Cause → Bool
+is_deletion (refused construct.DeleteName) = true
+is_deletion _ = false
+
+-- If it isn't read, then what came before is a front, of a height below b. At the depth it is one with the next token too.
 pub data Fails {A : Type 0} (b : ℕ) (P : ℕ → Symbols → Type 0) : Outcome Symbols A → Type 0 where
   fine : {p : A × Symbols} → Fails b P (Ok p)
-  stop : {c : Fault} {i : Symbols} → is_limit c.cause ≡ false → (c.cause ≡ syntax → c.place ≡ (look i).place) → (j : ℕ) → P j i → Fails b P (Err (c, i))
+  stop : {c : Fault} {i : Symbols} → is_limit c.cause ≡ false → (c.cause ≡ syntax → c.place ≡ (look i).place) → (j : ℕ) → (is_deletion c.cause ≡ false → j < b) → P j i → Fails b P (Err (c, i))
   deep : {c : Fault} {i ys : Symbols} → c.cause ≡ depth → c.place ≡ (look i).place → (j : ℕ) → j < b → P j i → (t : Lexeme) → real t ∷ ys ≡ i → (u : ℕ) → P u ys → Fails b P (Err (c, i))
 
 pub fails_after : {A B : Type 0} {b : ℕ} {D : A → Symbols → Type 0} {P : ℕ → Symbols → Type 0} {o : Outcome Symbols A} {f : A → s.Reader B}
     → Done D o → Fails b P o → ((a : A) (i : Symbols) → D a i → Fails b P (f a i)) → Fails b P (and_then o f)
 fails_after (ok {a} {i} h) e k = k a i h
-fails_after err (stop l m j h) k = stop l m j h
+fails_after err (stop l m j lt h) k = stop l m j lt h
 fails_after err (deep e m j lt h t q u w) k = deep e m j lt h t q u w
 
 -- what begins it begins what it is a part of
 pub fails_map : {A : Type 0} {b c : ℕ} {P Q : ℕ → Symbols → Type 0} {o : Outcome Symbols A} (f : ℕ → ℕ) → ((j : ℕ) → j < b → f j < c) → ((j : ℕ) (i : Symbols) → P j i → Q (f j) i) → Fails b P o → Fails c Q o
 fails_map f lt m fine = fine
-fails_map f lt m (stop l o j h) = stop l o (f j) (m j _ h)
+fails_map f lt m (stop l o j le h) = stop l o (f j) (λ w. lt j (le w)) (m j _ h)
 fails_map f lt m (deep e o j le h t q u w) = deep e o (f j) (lt j le) (m j _ h) t q (f u) (m u _ w)
 
 pub fails_fork : {A : Type 0} {b : ℕ} {P : ℕ → Symbols → Type 0} (c : Bool) (p q : s.Reader A) {i : Symbols} → (c ≡ true → Fails b P (p i)) → (c ≡ false → Fails b P (q i)) → Fails b P (cond c p q i)
@@ -114,22 +120,22 @@ either_sharp (Some c) d = refl
 either_sharp None (Some d) = refl
 either_sharp None None = refl
 
-pub fails_here : {A : Type 0} {b : ℕ} {P : ℕ → Symbols → Type 0} (d : Due) (xs : Symbols) (j : ℕ) → P j xs → Fails {A = A} b P (Err (fault d (look xs), xs))
-fails_here d xs j h = stop (either_sharp (refused_kind (look xs).kind) (refused_there d (look xs).kind)) (λ _. refl) j h
+pub fails_here : {A : Type 0} {b : ℕ} {P : ℕ → Symbols → Type 0} (d : Due) (xs : Symbols) (j : ℕ) → j < b → P j xs → Fails {A = A} b P (Err (fault d (look xs), xs))
+fails_here d xs j lt h = stop (either_sharp (refused_kind (look xs).kind) (refused_there d (look xs).kind)) (λ _. refl) j (λ _. lt) h
 
-pub expect_fails : {b : ℕ} {P : ℕ → Symbols → Type 0} (m : Mark) (xs : Symbols) (j : ℕ) → P j xs → Fails b P (s.expect m xs)
+pub expect_fails : {b : ℕ} {P : ℕ → Symbols → Type 0} (m : Mark) (xs : Symbols) (j : ℕ) → j < b → P j xs → Fails b P (s.expect m xs)
 unfolding r.expect
-expect_fails m xs j h = fails_choice (is_mark m (look xs).kind) (λ _. fine) (λ _. fails_here r.a_token xs j h)
+expect_fails m xs j lt h = fails_choice (is_mark m (look xs).kind) (λ _. fine) (λ _. fails_here r.a_token xs j lt h)
 
-pub expect_word_fails : {b : ℕ} {P : ℕ → Symbols → Type 0} (w : Word) (xs : Symbols) (j : ℕ) → P j xs → Fails b P (s.expect_word w xs)
+pub expect_word_fails : {b : ℕ} {P : ℕ → Symbols → Type 0} (w : Word) (xs : Symbols) (j : ℕ) → j < b → P j xs → Fails b P (s.expect_word w xs)
 unfolding r.expect_word
-expect_word_fails w xs j h = fails_choice (is_word w (look xs).kind) (λ _. fine) (λ _. fails_here r.a_token xs j h)
+expect_word_fails w xs j lt h = fails_choice (is_word w (look xs).kind) (λ _. fine) (λ _. fails_here r.a_token xs j lt h)
 
-pub variable_fails : {b : ℕ} {P : ℕ → Symbols → Type 0} (xs : Symbols) (j : ℕ) → P j xs → Fails b P (s.variable xs)
+pub variable_fails : {b : ℕ} {P : ℕ → Symbols → Type 0} (xs : Symbols) (j : ℕ) → j < b → P j xs → Fails b P (s.variable xs)
 unfolding r.variable
-variable_fails {b} {P} xs j h = by (variable_of (look xs).kind) where
+variable_fails {b} {P} xs j lt h = by (variable_of (look xs).kind) where
   by : (v : Option (List ℕ)) → Fails b P (s.variable_by v xs)
-  by None = fails_here r.a_variable xs j h
+  by None = fails_here r.a_variable xs j lt h
   by (Some v) = fine
 
 pub deeper_fails : {A : Type 0} {b d h : ℕ} {P : ℕ → Symbols → Type 0} {x : Kind} {xs ys : Symbols} {o : Outcome Symbols A} → At x xs ys → (h < d → Fails b P o) → (j : ℕ) → j < b → P j xs → (u : ℕ) → P u ys

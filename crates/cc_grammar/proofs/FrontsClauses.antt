@@ -33,10 +33,10 @@ use Rattle.cc_grammar.proofs.OnSymbols as s
 
 -- ---- the end of a statement
 
-pub semicolon_fails : {b : ℕ} {P : ℕ → Symbols → Type 0} (xs : Symbols) (j : ℕ) → P j xs → Fails b P (semicolon_symbol xs)
-semicolon_fails [] j h = stop refl (λ _. refl) j h
-semicolon_fails (inserted ∷ xs) j h = fine
-semicolon_fails (real t ∷ xs) j h = fails_choice (is_mark mark.Semicolon t.kind) (λ _. fine) (λ _. fails_here r.a_token (real t ∷ xs) j h)
+pub semicolon_fails : {b : ℕ} {P : ℕ → Symbols → Type 0} (xs : Symbols) (j : ℕ) → j < b → P j xs → Fails b P (semicolon_symbol xs)
+semicolon_fails [] j lt h = stop refl (λ _. refl) j (λ _. lt) h
+semicolon_fails (inserted ∷ xs) j lt h = fine
+semicolon_fails (real t ∷ xs) j lt h = fails_choice (is_mark mark.Semicolon t.kind) (λ _. fine) (λ _. fails_here r.a_token (real t ∷ xs) j lt h)
 
 pub end_now : {zs : Symbols} → Ends (real (token (k.mark mark.Semicolon)) ∷ zs) zs
 end_now = g.written (new_at (k.mark mark.Semicolon))
@@ -85,7 +85,7 @@ module _ (c n : ℕ) (d : ℕ) (inner : In) (expr : Bool → ℕ → s.Reader (S
     (fails : (l : ℕ) (xs : Symbols) → reals xs < n → l ≤ 13 → Fails c (λ j i. Begun (EE j b l) xs i) (expr b l xs)) (above : 0 < c) where
   declarator_fails : (xs : Symbols) → reals xs < n → Fails c (λ j i. Begun (DD b j) xs i) (s.declarator d n inner expr b xs)
   unfolding r.declarator
-  declarator_fails xs ln = fails_after (read_variable xs) (variable_fails xs 0 (no_declarator xs b 0)) (λ v ys p. fails_fork (is_mark mark.Equal (look ys).kind) _ _
+  declarator_fails xs ln = fails_after (read_variable xs) (variable_fails xs 0 (omega arith) (no_declarator xs b 0)) (λ v ys p. fails_fork (is_mark mark.Equal (look ys).kind) _ _
       (λ e. let o = marked mark.Equal ys e in fails_after (sound.is b 1 (rest ys) (omega arith))
       (fails_map (λ j. j) (λ j l. l) (λ j i w. record {
         front = joined (variable_taken p.0) (joined (taken o) w.front);
@@ -184,9 +184,9 @@ module _ (d n : ℕ) (inner : In) (sound : SoundInner d inner) (all : FailsInner
 
   pub head_fails : (xs : Symbols) → 0 < d → reals xs < n → Fails d (λ j i. Begun (HH j) xs i) (s.head d n inner xs)
   unfolding r.head
-  head_fails xs lt ln = fails_after (expected mark.OpenParen xs) (expect_fails mark.OpenParen xs 0 (no_head xs 0)) (λ _ ys o.
+  head_fails xs lt ln = fails_after (expected mark.OpenParen xs) (expect_fails mark.OpenParen xs 0 (omega arith) (no_head xs 0)) (λ _ ys o.
       fails_after (sound.expr true 0 ys (omega arith)) (fails_map (λ j. j) (λ j l. l) (λ j i w. head_begun o w) (all.expr lt true 0 ys (omega (arith, at_less o)) (omega arith))) (λ x zs p.
-      let m = e_moves p.0.whole.tree in fails_after (expected mark.CloseParen zs) (expect_fails mark.CloseParen zs x.1 (record {
+      let m = e_moves p.0.whole.tree in fails_after (expected mark.CloseParen zs) (expect_fails mark.CloseParen zs x.1 (omega arith) (record {
         front = joined (taken o) m.front;
         more = λ zs. real (token (k.mark mark.CloseParen)) ∷ zs;
         tree = x.0;
@@ -271,17 +271,17 @@ module _ (d n : ℕ) (inner : In) (sound : SoundInner d inner) (all : FailsInner
   clause_fails : (c : Context) (next : Bool → List RawCase → ℕ → s.Reader (Sized (List RawCase))) (seen : Bool) (before : List RawCase) (h : ℕ) (xs : Symbols) (x : Kind) (v : Clause) → 0 < d → reals xs < n → (look xs).kind ≡ x → IsClause x v
       → ((seen : Bool) (before : List RawCase) (h : ℕ) (ys : Symbols) → reals ys < reals xs → Fails d (λ j i. Begun (KK c j seen) ys i) (next seen before h ys))
       → Fails d (λ j i. Begun (KK c j seen) xs i) (s.clause_by d n inner next c seen before h v xs)
-  clause_fails c next seen before h xs x v lt ln e view.none f = fails_here r.a_token xs 0 (no_cases xs c 0 seen)
+  clause_fails c next seen before h xs x v lt ln e view.none f = fails_here r.a_token xs 0 (omega arith) (no_cases xs c 0 seen)
   clause_fails c next seen before h xs x v lt ln e view.close f = fine
   clause_fails c next seen before h xs x v lt ln e view.«case» f = let o = consumed xs (k.word word.Case) refl e in
       fails_after (sound.expr true 0 (rest xs) (omega arith)) (fails_map (λ j. j) (λ j l. l) (λ j i w. test_begun c seen o w) (all.expr lt true 0 (rest xs) (omega (arith, at_less o)) (omega arith))) (λ y ys p. let t = p.0.whole.tree in
-      fails_after (expected mark.Colon ys) (expect_fails mark.Colon ys y.1 (test_begun c seen o (Rattle.cc_grammar.proofs.FrontsPrimary.whole_e t))) (λ _ zs q.
+      fails_after (expected mark.Colon ys) (expect_fails mark.Colon ys y.1 (omega arith) (test_begun c seen o (Rattle.cc_grammar.proofs.FrontsPrimary.whole_e t))) (λ _ zs q.
       fails_after (list_sound d n inner sound c n [] 0 zs (omega arith))
       (fails_map (λ j. max y.1 j) (λ j l. omega (arith, p.1)) (λ j i w. case_begun c seen j o t q w) (statements_fail d n inner sound all c zs lt (omega (arith, at_less o, e_less t, at_less q)))) (λ b us z. let body = whole_list z.0 in
       fails_map (λ j. max (max y.1 b.1) j) (λ j l. omega (arith, p.1, z.0.low)) (λ j i w. more_cases c seen j o t q body w) (f seen _ _ us (omega (arith, at_less o, e_less t, at_less q, body_less body))))))
-  clause_fails c next true before h xs x v lt ln e view.default f = fails_here r.a_token xs 0 (no_cases xs c 0 true)
+  clause_fails c next true before h xs x v lt ln e view.default f = fails_here r.a_token xs 0 (omega arith) (no_cases xs c 0 true)
   clause_fails c next false before h xs x v lt ln e view.default f = let o = consumed xs (k.word word.Default) refl e in
-      fails_after (expected mark.Colon (rest xs)) (expect_fails mark.Colon (rest xs) 0 (default_word c 0 o)) (λ _ zs q.
+      fails_after (expected mark.Colon (rest xs)) (expect_fails mark.Colon (rest xs) 0 (omega arith) (default_word c 0 o)) (λ _ zs q.
       fails_after (list_sound d n inner sound c n [] 0 zs (omega arith)) (fails_map (λ j. j) (λ j l. l) (λ j i w. default_begun c j o q w) (statements_fail d n inner sound all c zs lt (omega (arith, at_less o, at_less q)))) (λ b us z. let body = whole_list z.0 in
       fails_map (λ j. max b.1 j) (λ j l. omega (arith, z.0.low)) (λ j i w. more_defaults c j o q body w) (f true _ _ us (omega (arith, at_less o, at_less q, body_less body)))))
 
@@ -305,7 +305,7 @@ module _ (d n : ℕ) (inner : In) (sound : SoundInner d inner) (all : FailsInner
   unfolding r.block_in
   block_in_fails c xs lt ln = fails_fork (is_mark mark.OpenBrace (look xs).kind) _ _
       (λ e. fails_map (λ j. max j 1) (λ j l. omega arith) (λ j i w. block_begun (inside c) (mark_true mark.OpenBrace (look xs).kind e) w) (all.stmt (omega arith) (inside c) xs ln))
-      (λ _. fails_here r.a_token xs 1 (no_block xs (inside c) 1 (omega arith)))
+      (λ _. fails_here r.a_token xs 1 (omega arith) (no_block xs (inside c) 1 (omega arith)))
 
   finally_begun : {c : Context} {j : ℕ} {xs ys i : Symbols} → Reserved word.Finally xs ys → Begun (XX c j) ys i → Begun (GG c j) xs i
   finally_begun o w = record { front = joined (taken o) w.front; more = w.more; tree = raw.finally (stmts w.tree); holds = λ zs f. g.finally (again o _) (w.holds zs f).begins (w.holds zs f).tree; first = λ zs. same refl }
@@ -355,7 +355,7 @@ module _ (d n : ℕ) (inner : In) (sound : SoundInner d inner) (all : FailsInner
   pub catch_fails : (c : Context) (xs : Symbols) → 1 < d → reals xs < n → is_word word.Catch (look xs).kind ≡ true → Fails d (λ j i. Begun (CA (inside c) j) xs i) (s.catch d n inner c xs)
   unfolding r.catch
   catch_fails c xs lt ln e = let o = worded word.Catch xs e in
-      fails_after (expected mark.OpenParen (rest xs)) (expect_fails mark.OpenParen (rest xs) 1 (catch_word o)) (λ _ ys p.
-      fails_after (read_variable ys) (variable_fails ys 1 (catch_open o p)) (λ v zs q.
-      fails_after (expected mark.CloseParen zs) (expect_fails mark.CloseParen zs 1 (catch_name o p q.0)) (λ _ us u.
+      fails_after (expected mark.OpenParen (rest xs)) (expect_fails mark.OpenParen (rest xs) 1 (omega arith) (catch_word o)) (λ _ ys p.
+      fails_after (read_variable ys) (variable_fails ys 1 (omega arith) (catch_open o p)) (λ v zs q.
+      fails_after (expected mark.CloseParen zs) (expect_fails mark.CloseParen zs 1 (omega arith) (catch_name o p q.0)) (λ _ us u.
       fails_after (block_in_sound d n inner sound c us) (fails_map (λ j. j) (λ j l. l) (λ j i w. catch_begun o p q.0 u w) (block_in_fails c us lt (omega (arith, at_less o, at_less p, variable_less q.0, at_less u)))) (λ b ws x. fine))))

@@ -158,17 +158,17 @@ module _ (d n : ℕ) (inner : In) (sound : SoundInner d inner) (all : FailsInner
   prefix_expr_fails : (b : Bool) (o : Prefix) (xs : Symbols) → 0 < d → reals xs < n → prefix_of (look xs).kind ≡ Some o → Fails (suc d) (XE b 13 xs) (s.prefix_expr d n inner b o xs)
   unfolding r.prefix_expr
   prefix_expr_fails b o xs lt ln e = fails_after (sound.expr b 13 (rest xs) (omega arith)) (fails_map suc (λ j l. omega arith) (λ j i w. prefix_begun o j c e w) (all.expr lt b 13 (rest xs) (omega (arith, at_less c)) (omega arith)))
-      (λ a ys p. by a ys p.0.whole.tree (prefix_tree o (look xs).place a.0) refl) where
+      (λ a ys p. by a ys (omega (arith, p.0.whole.low, p.1)) p.0.whole.tree (prefix_tree o (look xs).place a.0) refl) where
         c : At (look xs).kind xs (rest xs)
         c = found prefix_of xs o refl refl e
 
-        wrong : (x : Prefix) (p : Place) (ys : Symbols) (j : ℕ) → XE b 13 xs j ys → Fails (suc d) (XE b 13 xs) (s.wrong_prefix d n inner x p ys)
-        wrong (sign.step up) p ys j h = fails_here r.a_token ys j h
-        wrong (sign.unary x) p ys j h = stop refl (λ w. cc) j h
+        wrong : (x : Prefix) (p : Place) (ys : Symbols) (j : ℕ) → j < suc d → XE b 13 xs j ys → Fails (suc d) (XE b 13 xs) (s.wrong_prefix d n inner x p ys)
+        wrong (sign.step up) p ys j lt h = fails_here r.a_token ys j lt h
+        wrong (sign.unary x) p ys j lt h = stop refl (λ w. cc) j (λ m. cc) h
 
-        by : (a : Sized RawExpr) (ys : Symbols) → E a.1 b 13 (rest xs) a.0 ys → (f : Option RawExpr) → prefix_tree o (look xs).place a.0 ≡ f → Fails (suc d) (XE b 13 xs) (s.prefix_by d n inner o (look xs).place a f ys)
-        by a ys x (Some f) q = fine
-        by a ys x None q = fails_fork (is_remedy (look ys).kind) _ _ (λ _. fine) (λ _. wrong o (look xs).place ys (suc a.1) (wrong_begun o c e x q))
+        by : (a : Sized RawExpr) (ys : Symbols) → a.1 < d → E a.1 b 13 (rest xs) a.0 ys → (f : Option RawExpr) → prefix_tree o (look xs).place a.0 ≡ f → Fails (suc d) (XE b 13 xs) (s.prefix_by d n inner o (look xs).place a f ys)
+        by a ys low x (Some f) q = fine
+        by a ys low x None q = fails_fork (is_remedy (look ys).kind) _ _ (λ _. fine) (λ _. wrong o (look xs).place ys (suc a.1) (omega arith) (wrong_begun o c e x q))
 
   deep_prefix : (b : Bool) (o : Prefix) (xs : Symbols) → reals xs < n → prefix_of (look xs).kind ≡ Some o
       → Fails (suc d) (XE b 13 xs) (cond (nat_lt 0 d) (s.prefix_expr d n inner b o xs) (Err (record { cause = r.depth; place = (look xs).place }, xs)))
@@ -193,7 +193,7 @@ module _ (d n : ℕ) (inner : In) (sound : SoundInner d inner) (all : FailsInner
   prefixed_fails b o xs ln e = fails_fork (is_delete o) _ _ (λ t. by t (opened_looks n 0 (rest xs) (omega (arith, at_less (found prefix_of xs o refl refl e))))) (λ _. deep_prefix b o xs ln e) where
     by : is_delete o ≡ true → {u : Outcome Symbols Bool} → Looks 0 (rest xs) u
         → Fails (suc d) (XE b 13 xs) (r.unless_deleted Symbols look rest r.semicolon_symbol u (look xs).place (cond (nat_lt 0 d) (s.prefix_expr d n inner b o xs) (Err (record { cause = r.depth; place = (look xs).place }, xs))))
-    by t (looks_true h) = let p = delete_begun b o t (found prefix_of xs o refl refl e) e h in stop refl (λ w. cc) p.0 p.1
+    by t (looks_true h) = let p = delete_begun b o t (found prefix_of xs o refl refl e) e h in stop refl (λ w. cc) p.0 (λ m. cc) p.1
     by t looks_false = deep_prefix b o xs ln e
 
   -- ---- binary operators
@@ -251,7 +251,7 @@ module _ (d n : ℕ) (inner : In) (sound : SoundInner d inner) (all : FailsInner
       (λ e. let c = marked mark.Question ys e in deeper_fails c
       (λ (lt : a.1 < d). fails_after (sound.expr true 1 (rest ys) (omega arith))
       (fails_map (λ j. suc (max a.1 j)) (λ j m. omega arith) (λ j i w. then_begun b j h.tree c w) (all.expr (omega arith) true 1 (rest ys) (omega (arith, e_less h.tree, at_less c)) (omega arith)))
-      (λ x zs p. fails_after (expected mark.Colon zs) (expect_fails mark.Colon zs (suc (max a.1 x.1)) (then_begun b x.1 h.tree c (whole_e p.0.whole.tree)))
+      (λ x zs p. fails_after (expected mark.Colon zs) (expect_fails mark.Colon zs (suc (max a.1 x.1)) (omega arith) (then_begun b x.1 h.tree c (whole_e p.0.whole.tree)))
       (λ _ us o. fails_after (sound.expr b 1 us (omega arith))
       (fails_map (λ j. suc (max (max a.1 x.1) j)) (λ j m. omega (arith, p.1)) (λ j i w. else_begun b j h.tree c p.0.whole.tree o w) (all.expr (omega arith) b 1 us (omega (arith, e_less h.tree, at_less c, e_less p.0.whole.tree, at_less o)) (omega arith)))
       (λ y ws q. fine))))

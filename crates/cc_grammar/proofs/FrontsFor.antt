@@ -139,12 +139,12 @@ module _ (d n : ℕ) (inner : In) (sound : SoundInner d inner) (all : FailsInner
 
     for_rest_fails : (us : Symbols) (a : Sized RawInit) → Init a.1 zs a.0 us → a.1 < d → Fails (suc d) FT (s.for_rest d n inner c (look xs).place a us)
     unfolding r.for_rest
-    for_rest_fails us a m la = fails_after (expected mark.Semicolon us) (expect_fails mark.Semicolon us _ (whole_init m (no_optional us))) (λ _ vs q.
+    for_rest_fails us a m la = fails_after (expected mark.Semicolon us) (expect_fails mark.Semicolon us _ (omega arith) (whole_init m (no_optional us))) (λ _ vs q.
         fails_after (optional_sound d n inner sound mark.Semicolon vs lt) (fails_map (λ j. suc (max (max a.1 (max j 0)) 0)) (λ j l. omega arith) (λ j i w. test_begun j m q w) (optional_fails d n inner sound all mark.Semicolon vs lt (omega (arith, at_less o, at_less p, init_less m, at_less q)))) (λ x ws t.
-        fails_after (expected mark.Semicolon ws) (expect_fails mark.Semicolon ws _ (whole_test m q t.0)) (λ _ ts v.
+        fails_after (expected mark.Semicolon ws) (expect_fails mark.Semicolon ws _ (omega arith) (whole_test m q t.0)) (λ _ ts v.
         fails_after (optional_sound d n inner sound mark.CloseParen ts lt) (fails_map (λ j. suc (max (max a.1 (max x.1 j)) 0)) (λ j l. omega (arith, t.1)) (λ j i w. step_begun j m q t.0 v w)
         (optional_fails d n inner sound all mark.CloseParen ts lt (omega (arith, at_less o, at_less p, init_less m, at_less q, optional_less t.0, at_less v)))) (λ y rs w.
-        fails_after (expected mark.CloseParen rs) (expect_fails mark.CloseParen rs _ (whole_step m q t.0 v w.0)) (λ _ os b.
+        fails_after (expected mark.CloseParen rs) (expect_fails mark.CloseParen rs _ (omega arith) (whole_step m q t.0 v w.0)) (λ _ os b.
         fails_after (sound.stmt (in_loop c) os) (fails_map (λ j. suc (max (max a.1 (max x.1 y.1)) j)) (λ j l. omega (arith, t.1, w.1)) (λ j i z. for_begun j m q t.0 v w.0 b z)
         (all.stmt lt (in_loop c) os (omega (arith, at_less o, at_less p, init_less m, at_less q, optional_less t.0, at_less v, optional_less w.0, at_less b)))) (λ b rs z. fine))))))
 
@@ -182,7 +182,7 @@ module _ (d n : ℕ) (inner : In) (sound : SoundInner d inner) (all : FailsInner
     for_in_fails us t h m e lh = let q = worded word.In us e in
         fails_after (sound.expr true 0 (rest us) (omega arith)) (fails_map (λ j. suc (max (max h j) 0)) (λ j l. omega arith) (λ j i w. object_begun j m q w) (all.expr lt true 0 (rest us) (omega (arith, at_less o, at_less p, aim_less m, at_less q)) (omega arith))) (λ x vs x_is.
         let y = x_is.0.whole.tree in
-        fails_after (expected mark.CloseParen vs) (expect_fails mark.CloseParen vs _ (whole_object m q y)) (λ _ ws w.
+        fails_after (expected mark.CloseParen vs) (expect_fails mark.CloseParen vs _ (omega arith) (whole_object m q y)) (λ _ ws w.
         fails_after (sound.stmt (in_loop c) ws) (fails_map (λ j. suc (max (max h x.1) j)) (λ j l. omega (arith, x_is.1)) (λ j i z. in_begun j m q y w z)
         (all.stmt lt (in_loop c) ws (omega (arith, at_less o, at_less p, aim_less m, at_less q, e_less y, at_less w)))) (λ b os z. fine)))
 

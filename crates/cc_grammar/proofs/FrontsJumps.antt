@@ -56,16 +56,16 @@ module _ (d n : ℕ) (inner : In) (sound : SoundInner d inner) (all : FailsInner
 
   pub continue_fails : (c : Context) (xs : Symbols) → (look xs).kind ≡ k.word word.Continue → Fails (suc d) (JT c xs) (s.continue d n inner c xs)
   unfolding r.continue
-  continue_fails c xs e = fails_fork c.continues _ _ (λ a. by a (label_of (look (rest xs))) refl) (λ _. fails_here r.a_token xs 0 (no_t xs c 0)) where
+  continue_fails c xs e = fails_fork c.continues _ _ (λ a. by a (label_of (look (rest xs))) refl) (λ _. fails_here r.a_token xs 0 (omega arith) (no_t xs c 0)) where
     o : Reserved word.Continue xs (rest xs)
     o = consumed xs (k.word word.Continue) refl e
 
     by : c.continues ≡ true → (v : Option (List ℕ)) → label_of (look (rest xs)) ≡ v → Fails (suc d) (JT c xs) (s.jump_by d n inner (raw.continue (look xs).place) true c.loops v (rest xs))
-    by a None f = fails_after (ended (rest xs)) (semicolon_fails (rest xs) 0 (continue_word c a o)) (λ _ ys p. fine)
+    by a None f = fails_after (ended (rest xs)) (semicolon_fails (rest xs) 0 (omega arith) (continue_word c a o)) (λ _ ys p. fine)
     by a (Some v) f = fails_fork (is_among v c.loops) _ _
-        (λ i. fails_after (ended (rest (rest xs))) (semicolon_fails (rest (rest xs)) 0 (continue_label c a o (Rattle.cc_grammar.proofs.SoundJumps.label_line (look (rest xs)).kind (look (rest xs)).after_line v f)
+        (λ i. fails_after (ended (rest (rest xs))) (semicolon_fails (rest (rest xs)) 0 (omega arith) (continue_label c a o (Rattle.cc_grammar.proofs.SoundJumps.label_line (look (rest xs)).kind (look (rest xs)).after_line v f)
         (consumed (rest xs) (k.name v) refl (Rattle.cc_grammar.proofs.SoundJumps.label_name (look (rest xs)).kind (look (rest xs)).after_line v f)) i)) (λ _ ys p. fine))
-        (λ _. fails_here r.a_token (rest xs) 0 (continue_word c a o))
+        (λ _. fails_here r.a_token (rest xs) 0 (omega arith) (continue_word c a o))
 
   -- with no label, or with one that is open
   break_word : (c : Context) {xs ys : Symbols} → (c.breaks || is_some_label c.labels) ≡ true → Reserved word.Break xs ys → JT c xs 0 ys
@@ -80,16 +80,16 @@ module _ (d n : ℕ) (inner : In) (sound : SoundInner d inner) (all : FailsInner
 
   pub break_fails : (c : Context) (xs : Symbols) → (look xs).kind ≡ k.word word.Break → Fails (suc d) (JT c xs) (s.break d n inner c xs)
   unfolding r.break
-  break_fails c xs e = fails_fork (c.breaks || is_some_label c.labels) _ _ (λ a. by a (label_of (look (rest xs))) refl) (λ _. fails_here r.a_token xs 0 (no_t xs c 0)) where
+  break_fails c xs e = fails_fork (c.breaks || is_some_label c.labels) _ _ (λ a. by a (label_of (look (rest xs))) refl) (λ _. fails_here r.a_token xs 0 (omega arith) (no_t xs c 0)) where
     o : Reserved word.Break xs (rest xs)
     o = consumed xs (k.word word.Break) refl e
 
     by : (c.breaks || is_some_label c.labels) ≡ true → (v : Option (List ℕ)) → label_of (look (rest xs)) ≡ v → Fails (suc d) (JT c xs) (s.jump_by d n inner (raw.break (look xs).place) c.breaks c.labels v (rest xs))
-    by a None f = fails_fork c.breaks _ _ (λ _. fails_after (ended (rest xs)) (semicolon_fails (rest xs) 0 (break_word c a o)) (λ _ ys p. fine)) (λ _. fails_here r.a_token (rest xs) 0 (break_word c a o))
+    by a None f = fails_fork c.breaks _ _ (λ _. fails_after (ended (rest xs)) (semicolon_fails (rest xs) 0 (omega arith) (break_word c a o)) (λ _ ys p. fine)) (λ _. fails_here r.a_token (rest xs) 0 (omega arith) (break_word c a o))
     by a (Some v) f = fails_fork (is_among v c.labels) _ _
-        (λ i. fails_after (ended (rest (rest xs))) (semicolon_fails (rest (rest xs)) 0 (break_label c o (Rattle.cc_grammar.proofs.SoundJumps.label_line (look (rest xs)).kind (look (rest xs)).after_line v f)
+        (λ i. fails_after (ended (rest (rest xs))) (semicolon_fails (rest (rest xs)) 0 (omega arith) (break_label c o (Rattle.cc_grammar.proofs.SoundJumps.label_line (look (rest xs)).kind (look (rest xs)).after_line v f)
         (consumed (rest xs) (k.name v) refl (Rattle.cc_grammar.proofs.SoundJumps.label_name (look (rest xs)).kind (look (rest xs)).after_line v f)) i)) (λ _ ys p. fine))
-        (λ _. fails_here r.a_token (rest xs) 0 (break_word c a o))
+        (λ _. fails_here r.a_token (rest xs) 0 (omega arith) (break_word c a o))
 
   return_word : (c : Context) {xs ys : Symbols} → c.returns ≡ true → Reserved word.Return xs ys → JT c xs 0 ys
   return_word c {xs} a o = record { front = taken o; more = λ zs. real (token (k.mark mark.Semicolon)) ∷ zs; tree = raw.return (look xs).place raw.no_expr ∷ []; holds = λ zs _. g.return a (again o _) end_now; first = λ zs. same refl }
@@ -106,11 +106,11 @@ module _ (d n : ℕ) (inner : In) (sound : SoundInner d inner) (all : FailsInner
   pub return_fails : (c : Context) (xs : Symbols) → reals xs < n → (look xs).kind ≡ k.word word.Return → Fails (suc d) (JT c xs) (s.return d n inner c xs)
   unfolding r.return
   return_fails c xs ln e = let o = consumed xs (k.word word.Return) refl e in fails_fork c.returns _ _
-      (λ a. fails_fork (ends_return (look (rest xs))) _ _ (λ _. fails_after (ended (rest xs)) (semicolon_fails (rest xs) 0 (return_word c a o)) (λ _ ys p. fine))
+      (λ a. fails_fork (ends_return (look (rest xs))) _ _ (λ _. fails_after (ended (rest xs)) (semicolon_fails (rest xs) 0 (omega arith) (return_word c a o)) (λ _ ys p. fine))
       (λ f. let line = same_line _ _ _ _ _ f in fails_after (expr_sound d n inner sound true 0 (rest xs) (omega arith))
       (fails_map (λ j. j) (λ j l. l) (λ j i w. return_begun c j a o line w) (expr_fails d n inner sound all true 0 (rest xs) (omega (arith, at_less o)) (omega arith)))
-      (λ x ys p. fails_after (ended ys) (semicolon_fails ys x.1 (return_begun c x.1 a o line (whole_e p.whole.tree))) (λ _ zs q. fine))))
-      (λ _. fails_here r.a_token xs 0 (no_t xs c 0))
+      (λ x ys p. fails_after (ended ys) (semicolon_fails ys x.1 (omega arith) (return_begun c x.1 a o line (whole_e p.whole.tree))) (λ _ zs q. fine))))
+      (λ _. fails_here r.a_token xs 0 (omega arith) (no_t xs c 0))
 
   throw_begun : (c : Context) (j : ℕ) {xs ys i : Symbols} → Reserved word.Throw xs ys → OnLine j ys i → JT c xs j i
   throw_begun c j {xs} o w = record {
@@ -124,7 +124,7 @@ module _ (d n : ℕ) (inner : In) (sound : SoundInner d inner) (all : FailsInner
   pub throw_fails : (c : Context) (xs : Symbols) → reals xs < n → (look xs).kind ≡ k.word word.Throw → Fails (suc d) (JT c xs) (s.throw d n inner xs)
   unfolding r.throw
   throw_fails c xs ln e = let o = consumed xs (k.word word.Throw) refl e in fails_fork (look (rest xs)).after_line _ _
-      (λ _. fails_here r.a_token (rest xs) 0 (throw_begun c 0 o (record {
+      (λ _. fails_here r.a_token (rest xs) 0 (omega arith) (throw_begun c 0 o (record {
         begun = record {
           front = stays (rest xs);
           more = λ zs. real (token (k.due k.operand)) ∷ zs;
@@ -136,7 +136,7 @@ module _ (d n : ℕ) (inner : In) (sound : SoundInner d inner) (all : FailsInner
       })))
       (λ f. fails_after (expr_sound d n inner sound true 0 (rest xs) (omega arith))
       (fails_map (λ j. j) (λ j l. l) (λ j i w. throw_begun c j o (on_line f w)) (expr_fails d n inner sound all true 0 (rest xs) (omega (arith, at_less o)) (omega arith)))
-      (λ x ys p. fails_after (ended ys) (semicolon_fails ys x.1 (throw_begun c x.1 o (on_line f (whole_e p.whole.tree)))) (λ _ zs q. fine)))
+      (λ x ys p. fails_after (ended ys) (semicolon_fails ys x.1 (omega arith) (throw_begun c x.1 o (on_line f (whole_e p.whole.tree)))) (λ _ zs q. fine)))
 
   -- ---- names
 
@@ -164,7 +164,7 @@ module _ (d n : ℕ) (inner : In) (sound : SoundInner d inner) (all : FailsInner
 
     labels : is_mark mark.Colon (look (rest xs)).kind ≡ true → Fails {A = Sized (List RawStmt)} (suc d) (JT c xs) (cond (is_among v c.labels) (r.fail Symbols look rest semicolon_symbol r.a_token)
         (λ i. cond (nat_lt 0 d) (and_then (inner.stmt (labelled v c) (rest i)) (λ b j. Ok ((raw.label (look xs).place v (stmts b.0) ∷ [], b.1 + 1), j))) (Err (record { cause = r.depth; place = (look i).place }, i))) (rest xs))
-    labels q = fails_fork (is_among v c.labels) _ _ (λ _. fails_here r.a_token (rest xs) 0 (name_begun c 0 o e)) (λ a. let p = marked mark.Colon (rest xs) q in
+    labels q = fails_fork (is_among v c.labels) _ _ (λ _. fails_here r.a_token (rest xs) 0 (omega arith) (name_begun c 0 o e)) (λ a. let p = marked mark.Colon (rest xs) q in
         deeper_fails {h = 0} p (λ lt. fails_after (sound.stmt (labelled v c) (rest (rest xs))) (fails_map suc (λ j l. omega arith) (λ j i w. label_begun c j o p a w) (all.stmt lt (labelled v c) (rest (rest xs)) (omega (arith, at_less o, at_less p)))) (λ b ys t. fine))
         0 (omega arith) (name_begun c 0 o e) 1 (label_begun c 0 o p a (no_t (rest (rest xs)) (labelled v c) 0)))
 
@@ -173,8 +173,8 @@ module _ (d n : ℕ) (inner : In) (sound : SoundInner d inner) (all : FailsInner
     by (Some x) true f q = labels q
     by None false f q = fails_after (after_head_sound d n inner sound true 0 (raw.var (look xs).place v, 0) xs (rest xs) (omega arith) (free (λ l _. g.name (g.variable o f)) (omega arith)))
         (fails_map (λ j. j) (λ j l. l) (λ j i w. simple_begun c (ap opens_no_expression e) w) (after_head_fails d n inner sound all true 0 (raw.var (look xs).place v, 0) xs (rest xs) ln (omega arith) (free (λ l _. g.name (g.variable o f)) (omega arith))))
-        (λ x ys p. simple_fails d n inner sound all c xs (look xs).place x ys (ap opens_no_expression e) p.whole.tree)
-    by (Some x) false f q = fails_fork (is_remedy (look (rest xs)).kind) _ _ (λ _. fine) (λ _. stop refl (λ w. cc) 0 (name_begun c 0 o e))
+        (λ x ys p. simple_fails d n inner sound all c xs (look xs).place x ys p.whole.low (ap opens_no_expression e) p.whole.tree)
+    by (Some x) false f q = fails_fork (is_remedy (look (rest xs)).kind) _ _ (λ _. fine) (λ _. stop refl (λ w. cc) 0 (λ _. omega arith) (name_begun c 0 o e))
 
   -- ---- `try`
 
@@ -236,4 +236,4 @@ module _ (d n : ℕ) (inner : In) (sound : SoundInner d inner) (all : FailsInner
       (λ _. fine)))
       (λ _. fails_fork (is_word word.Finally (look ys).kind) _ _
       (λ u. fails_after (finally_sound d n inner sound c ys u) (fails_map (λ j. suc (max b.1 j)) (λ j l. omega (arith, p.low)) (λ j i w. finishing_begun c j o p w (λ z. moves.same refl)) (finally_fails d n inner sound all c ys lt (omega (arith, at_less o, t_less p.tree)) u)) (λ h ws v. fine))
-      (λ _. fails_here r.a_token ys _ (tried_begun c o p))))
+      (λ _. fails_here r.a_token ys _ (omega arith) (tried_begun c o p))))

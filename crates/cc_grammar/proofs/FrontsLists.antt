@@ -41,10 +41,10 @@ no_params xs = record {
   first = λ zs. fresh (k.due k.variable) refl refl;
 }
 
-params_fail : {b : ℕ} (m : ℕ) (before : List Named) (xs : Symbols) → reals xs < m → Fails b (λ _ i. Begun PP xs i) (s.params m before xs)
+params_fail : {b : ℕ} (m : ℕ) (before : List Named) (xs : Symbols) → 0 < b → reals xs < m → Fails b (λ _ i. Begun PP xs i) (s.params m before xs)
 unfolding r.params
-params_fail zero before xs lt = absurd (omega arith)
-params_fail (suc m) before xs lt = fails_after (read_variable xs) (variable_fails xs 0 (no_params xs)) (λ v ys p. fails_fork (is_mark mark.Comma (look ys).kind) _ _
+params_fail zero before xs low lt = absurd (omega arith)
+params_fail (suc m) before xs low lt = fails_after (read_variable xs) (variable_fails xs 0 (omega arith) (no_params xs)) (λ v ys p. fails_fork (is_mark mark.Comma (look ys).kind) _ _
     (λ e. let c = marked mark.Comma ys e in fails_map (λ j. j) (λ j lt. lt) (λ j i w. record {
       front = joined (variable_taken p.0) (joined (taken c) w.front);
       more = w.more;
@@ -52,8 +52,8 @@ params_fail (suc m) before xs lt = fails_after (read_variable xs) (variable_fail
       holds = λ zs. g.more_params (variable_again p.0 _) (again c _) (w.holds zs);
       first = λ zs. same refl;
     })
-    (params_fail m _ (rest ys) (omega (arith, variable_less p.0, at_less c))))
-    (λ _. fails_after (expected mark.CloseParen ys) (expect_fails mark.CloseParen ys 0 (record {
+    (params_fail m _ (rest ys) low (omega (arith, variable_less p.0, at_less c))))
+    (λ _. fails_after (expected mark.CloseParen ys) (expect_fails mark.CloseParen ys 0 (omega arith) (record {
       front = variable_taken p.0;
       more = λ zs. real (token (k.mark mark.CloseParen)) ∷ zs;
       tree = record { place = (look xs).place; name = v.name } ∷ [];
@@ -64,10 +64,10 @@ params_fail (suc m) before xs lt = fails_after (read_variable xs) (variable_fail
 abbrev PO : List Named → Symbols → Symbols → Type 0
 PO ps us vs = Params us ps vs
 
-pub params_of_fail : {b : ℕ} (m : ℕ) (xs : Symbols) → reals xs < m → Fails b (λ _ i. Begun PO xs i) (s.params_of m xs)
+pub params_of_fail : {b : ℕ} (m : ℕ) (xs : Symbols) → 0 < b → reals xs < m → Fails b (λ _ i. Begun PO xs i) (s.params_of m xs)
 unfolding r.params_of
-params_of_fail m xs lt = fails_fork (is_mark mark.CloseParen (look xs).kind) _ _ (λ _. fine)
-    (λ _. fails_map (λ j. j) (λ j lt. lt) (λ j i w. record { front = w.front; more = w.more; tree = w.tree; holds = λ zs. g.some_params (w.holds zs); first = w.first }) (params_fail m [] xs lt))
+params_of_fail m xs low lt = fails_fork (is_mark mark.CloseParen (look xs).kind) _ _ (λ _. fine)
+    (λ _. fails_map (λ j. j) (λ j lt. lt) (λ j i w. record { front = w.front; more = w.more; tree = w.tree; holds = λ zs. g.some_params (w.holds zs); first = w.first }) (params_fail m [] xs low lt))
 
 abbrev pub LL : ℕ → List RawExpr → Symbols → Symbols → Type 0
 LL j es us vs = Elements j us es vs
@@ -119,7 +119,7 @@ module _ (d n : ℕ) (inner : In) (sound : SoundInner d inner) (all : FailsInner
   elements_fail zero before h xs lt lm ln = absurd (omega arith)
   elements_fail (suc m) before h xs lt lm ln = fails_fork (is_mark mark.CloseBracket (look xs).kind) _ _ (λ _. fine)
       (λ _. fails_fork (is_element (look xs).kind) _ _
-      (λ e. let c = consumed xs (k.due k.element) refl (element_true _ e) in fails_after (expected mark.CloseBracket (rest xs)) (expect_fails mark.CloseBracket (rest xs) 0 (record {
+      (λ e. let c = consumed xs (k.due k.element) refl (element_true _ e) in fails_after (expected mark.CloseBracket (rest xs)) (expect_fails mark.CloseBracket (rest xs) 0 (omega arith) (record {
         front = taken c;
         more = λ zs. real (token (k.mark mark.CloseBracket)) ∷ zs;
         tree = [];
@@ -127,7 +127,7 @@ module _ (d n : ℕ) (inner : In) (sound : SoundInner d inner) (all : FailsInner
         first = λ zs. same refl;
       })) (λ _ zs q. fine))
       (λ _. fails_fork (is_mark mark.Comma (look xs).kind) _ _
-      (λ _. stop refl (λ w. cc) 0 (record { front = stays xs; more = λ zs. real (token (k.mark mark.CloseBracket)) ∷ zs; tree = []; holds = λ zs. g.no_element (new_at (k.mark mark.CloseBracket)); first = λ zs. fresh (k.mark mark.CloseBracket) refl refl }))
+      (λ _. stop refl (λ w. cc) 0 (λ _. omega arith) (record { front = stays xs; more = λ zs. real (token (k.mark mark.CloseBracket)) ∷ zs; tree = []; holds = λ zs. g.no_element (new_at (k.mark mark.CloseBracket)); first = λ zs. fresh (k.mark mark.CloseBracket) refl refl }))
       (λ _. fails_after (sound.expr true 1 xs (omega arith))
       (fails_map (λ j. j) (λ j l. l) (λ j i w. record {
         front = w.front;
@@ -145,7 +145,7 @@ module _ (d n : ℕ) (inner : In) (sound : SoundInner d inner) (all : FailsInner
         first = λ zs. same (look_kept a.front (e_less t) _);
       })
       (elements_fail m _ _ (rest ys) lt (omega (arith, e_less t, at_less c)) (omega (arith, e_less t, at_less c))))
-      (λ _. fails_after (expected mark.CloseBracket ys) (expect_fails mark.CloseBracket ys x.1 (record {
+      (λ _. fails_after (expected mark.CloseBracket ys) (expect_fails mark.CloseBracket ys x.1 (omega arith) (record {
         front = a.front;
         more = λ zs. real (token (k.mark mark.CloseBracket)) ∷ zs;
         tree = x.0 ∷ [];
@@ -177,9 +177,9 @@ module _ (d n : ℕ) (inner : In) (sound : SoundInner d inner) (all : FailsInner
     first = λ zs. same refl;
   }
 
-  key_fails : {b : ℕ} (xs : Symbols) (v : Option RawKey) → key_of (look xs).kind ≡ v → Fails b (λ j i. Begun (FF j) xs i) (s.key_by d n inner v xs)
-  key_fails xs None e = fails_here r.a_token xs 0 (no_field_yet xs 0)
-  key_fails xs (Some y) e = fails_fork (is_accessor (look xs).kind && is_some (key_of (look (rest xs)).kind)) _ _ (λ _. stop refl (λ w. cc) 0 (key_begun 0 (found key_of xs y refl refl e) e)) (λ _. fine)
+  key_fails : {b : ℕ} (xs : Symbols) (v : Option RawKey) → 0 < b → key_of (look xs).kind ≡ v → Fails b (λ j i. Begun (FF j) xs i) (s.key_by d n inner v xs)
+  key_fails xs None low e = fails_here r.a_token xs 0 (omega arith) (no_field_yet xs 0)
+  key_fails xs (Some y) low e = fails_fork (is_accessor (look xs).kind && is_some (key_of (look (rest xs)).kind)) _ _ (λ _. stop refl (λ w. cc) 0 (λ _. omega arith) (key_begun 0 (found key_of xs y refl refl e) e)) (λ _. fine)
 
   -- a key and its colon
   key_held : {y : Place × RawKey} {xs ys zs i : Symbols} (j : ℕ) → IsKey xs y ys → Sign mark.Colon ys zs → Begun (EE j true 1) zs i → Begun (FF j) xs i
@@ -199,8 +199,8 @@ module _ (d n : ℕ) (inner : In) (sound : SoundInner d inner) (all : FailsInner
 
   field_fails : (xs : Symbols) → 0 < d → reals xs < n → Fails d (λ j i. Begun (FF j) xs i) (s.field d n inner xs)
   unfolding r.field
-  field_fails xs lt ln = fails_after (key_sound d n inner sound xs (key_of (look xs).kind) refl) (key_fails xs (key_of (look xs).kind) refl) (λ y ys q.
-      fails_after (expected mark.Colon ys) (expect_fails mark.Colon ys 0 (key_there 0 q)) (λ _ zs c.
+  field_fails xs lt ln = fails_after (key_sound d n inner sound xs (key_of (look xs).kind) refl) (key_fails xs (key_of (look xs).kind) (omega arith) refl) (λ y ys q.
+      fails_after (expected mark.Colon ys) (expect_fails mark.Colon ys 0 (omega arith) (key_there 0 q)) (λ _ zs c.
       fails_after (sound.expr true 1 zs (omega arith)) (fails_map (λ j. j) (λ j l. l) (λ j i w. key_held j q c w) (all.expr lt true 1 zs (omega (arith, key_less q, at_less c)) (omega arith))) (λ x ws p. fine)))
 
   fields_fail : (m : ℕ) (before : List RawField) (h : ℕ) (xs : Symbols) → 0 < d → reals xs < m → reals xs < n → Fails d (λ j i. Begun (FS j) xs i) (s.object_fields d n inner m before h xs)
@@ -224,7 +224,7 @@ module _ (d n : ℕ) (inner : In) (sound : SoundInner d inner) (all : FailsInner
         first = λ zs. same (look_kept a.front (field_less p.0) _);
       })
       (fields_fail m _ _ (rest ys) lt (omega (arith, field_less p.0, at_less c)) (omega (arith, field_less p.0, at_less c))))
-      (λ _. fails_after (expected mark.CloseBrace ys) (expect_fails mark.CloseBrace ys x.1 (record {
+      (λ _. fails_after (expected mark.CloseBrace ys) (expect_fails mark.CloseBrace ys x.1 (omega arith) (record {
         front = a.front;
         more = λ zs. real (token (k.mark mark.CloseBrace)) ∷ zs;
         tree = x.0 ∷ [];
@@ -257,7 +257,7 @@ module _ (d n : ℕ) (inner : In) (sound : SoundInner d inner) (all : FailsInner
         first = λ zs. same (look_kept a.front (e_less t) _);
       })
       (arguments_fail m _ _ (rest ys) lt (omega (arith, e_less t, at_less c)) (omega (arith, e_less t, at_less c))))
-      (λ _. fails_after (expected mark.CloseParen ys) (expect_fails mark.CloseParen ys x.1 (record {
+      (λ _. fails_after (expected mark.CloseParen ys) (expect_fails mark.CloseParen ys x.1 (omega arith) (record {
         front = a.front;
         more = λ zs. real (token (k.mark mark.CloseParen)) ∷ zs;
         tree = x.0 ∷ [];
@@ -303,7 +303,7 @@ module _ (d n : ℕ) (inner : In) (sound : SoundInner d inner) (all : FailsInner
   unfolding r.body
   body_fails c xs lt ln = fails_after (Rattle.cc_grammar.proofs.SoundLists.list_sound d n inner sound c n [] 0 xs lt) (fails_map (λ j. j) (λ j l. l) (λ j i w. closing w) (statements_fail c xs lt ln)) (λ b ys p.
       let t = Rattle.cc_grammar.proofs.SoundParts.whole_list p.0 in let m = Rattle.cc_grammar.proofs.MovesDerived.body_moves t in
-      fails_after (expected mark.CloseBrace ys) (expect_fails mark.CloseBrace ys b.1 (record {
+      fails_after (expected mark.CloseBrace ys) (expect_fails mark.CloseBrace ys b.1 (omega arith) (record {
         front = m.front;
         more = λ zs. real (token (k.mark mark.CloseBrace)) ∷ zs;
         tree = b.0;
@@ -318,15 +318,15 @@ module _ (d n : ℕ) (inner : In) (sound : SoundInner d inner) (all : FailsInner
 
   pub function_fails : (xs : Symbols) → 0 < d → reals xs < n → Fails d (λ j i. Begun (UU j) xs i) (s.function d n inner xs)
   unfolding r.function
-  function_fails xs lt ln = fails_after (expected mark.OpenParen xs) (expect_fails mark.OpenParen xs 0 (no_function xs 0)) (λ _ ys o.
+  function_fails xs lt ln = fails_after (expected mark.OpenParen xs) (expect_fails mark.OpenParen xs 0 (omega arith) (no_function xs 0)) (λ _ ys o.
       fails_after (params_of_sound n ys) (fails_map (λ j. j) (λ j l. l) (λ j i w. record {
         front = joined (taken o) w.front;
         more = λ zs. w.more (real (token (k.mark mark.OpenBrace)) ∷ real (token (k.mark mark.CloseBrace)) ∷ zs);
         tree = (w.tree, []);
         holds = λ zs. g.function_body (again o _) (w.holds _) (new_at (k.mark mark.OpenBrace)) g.done (new_at (k.mark mark.CloseBrace));
         first = λ zs. same refl;
-      }) (params_of_fail n ys (omega (arith, at_less o)))) (λ ps zs p. let m = params_move p in
-      fails_after (expected mark.OpenBrace zs) (expect_fails mark.OpenBrace zs 0 (record {
+      }) (params_of_fail n ys (omega arith) (omega (arith, at_less o)))) (λ ps zs p. let m = params_move p in
+      fails_after (expected mark.OpenBrace zs) (expect_fails mark.OpenBrace zs 0 (omega arith) (record {
         front = joined (taken o) m.front;
         more = λ zs. real (token (k.mark mark.OpenBrace)) ∷ real (token (k.mark mark.CloseBrace)) ∷ zs;
         tree = (ps, []);

@@ -41,12 +41,12 @@ has_suffix x s e f q = f (sym e ∙ q)
 a_call : (x : Kind) → is_mark mark.OpenParen x ≡ true → ¬ (suffix_of true x ≡ r.no_suffix)
 a_call x e = has_suffix x r.by_call (ap (suffix_of true) (mark_true mark.OpenParen x e)) (λ q. cc)
 
-own_name_fails : {b : ℕ} {P : ℕ → Symbols → Type 0} (xs : Symbols) (j : ℕ) → P j xs → Fails b P (s.own_name xs)
+own_name_fails : {b : ℕ} {P : ℕ → Symbols → Type 0} (xs : Symbols) (j : ℕ) → j < b → P j xs → Fails b P (s.own_name xs)
 unfolding r.own_name
-own_name_fails {b} {P} xs j h = by (variable_of (look xs).kind) (is_mark mark.OpenParen (look xs).kind) where
+own_name_fails {b} {P} xs j lt h = by (variable_of (look xs).kind) (is_mark mark.OpenParen (look xs).kind) where
   by : (v : Option (List ℕ)) (c : Bool) → Fails b P (s.own_name_by v c xs)
   by None true = fine
-  by None false = fails_here r.a_variable xs j h
+  by None false = fails_here r.a_variable xs j lt h
   by (Some v) c = fine
 
 -- it has come whole
@@ -72,7 +72,7 @@ module _ (d n : ℕ) (inner : In) (sound : SoundInner d inner) (all : FailsInner
         holds = λ zs. g.paren (omega arith) (again c _) (w.holds _) (new_at (k.mark mark.CloseParen));
         first = λ zs. same refl;
       }) (all.expr lt true 0 (rest xs) (omega (arith, at_less c)) (omega arith)))
-      (λ x ys p. let m = e_moves p.0.whole.tree in fails_after (expected mark.CloseParen ys) (expect_fails mark.CloseParen ys (x.1 + 1) (record {
+      (λ x ys p. let m = e_moves p.0.whole.tree in fails_after (expected mark.CloseParen ys) (expect_fails mark.CloseParen ys (x.1 + 1) (omega arith) (record {
         front = joined (taken c) m.front;
         more = λ zs. real (token (k.mark mark.CloseParen)) ∷ zs;
         tree = parenthesised (look xs) x.0;
@@ -106,7 +106,7 @@ module _ (d n : ℕ) (inner : In) (sound : SoundInner d inner) (all : FailsInner
 
   function_expr_fails : (b : Bool) (xs : Symbols) → Reserved word.Function xs (rest xs) → 0 < d → reals xs < n → Fails (suc d) (PE b xs) (s.function_expr d n inner xs)
   unfolding r.function_expr
-  function_expr_fails b xs c lt ln = fails_after (own_name_sound (rest xs)) (own_name_fails (rest xs) 1 (function_begun b 0 c g.no_name (no_function (rest xs) 0))) (λ o ys q.
+  function_expr_fails b xs c lt ln = fails_after (own_name_sound (rest xs)) (own_name_fails (rest xs) 1 (omega arith) (function_begun b 0 c g.no_name (no_function (rest xs) 0))) (λ o ys q.
       fails_after (Rattle.cc_grammar.proofs.SoundLists.function_sound d n inner sound ys lt) (fails_map suc (λ j l. omega arith) (λ j i w. function_begun b j c q w) (function_fails d n inner sound all ys lt (omega (arith, at_less c, own_less q)))) (λ x zs p. fine))
 
   new_begun : {xs ys i : Symbols} (b : Bool) (j : ℕ) → Reserved word.New xs ys → Begun (EE j b 17) ys i → Begun (EE (suc j) b 17) xs i
@@ -162,7 +162,7 @@ module _ (d n : ℕ) (inner : In) (sound : SoundInner d inner) (all : FailsInner
       deeper_fails c (λ lt. function_expr_fails b xs c lt ln) 0 (omega arith) (no_e xs 0 b 17) 1 (function_begun b 0 c g.no_name (no_function (rest xs) 0))
   primary_by_fails b xs x h ln e view.new = let c = consumed xs (k.word word.New) refl e in
       deeper_fails c (λ lt. new_expr_fails b xs c lt ln) 0 (omega arith) (no_e xs 0 b 17) 1 (new_begun b 0 c (no_e (rest xs) 0 b 17))
-  primary_by_fails b xs x h ln e (view.none p q) = fails_here r.an_operand xs 0 (no_e xs 0 b 17)
+  primary_by_fails b xs x h ln e (view.none p q) = fails_here r.an_operand xs 0 (omega arith) (no_e xs 0 b 17)
 
   pub primary_fails : (b : Bool) (xs : Symbols) → reals xs < n → Fails (suc d) (PE b xs) (s.primary d n inner b xs)
   unfolding r.primary
@@ -182,11 +182,11 @@ module _ (d n : ℕ) (inner : In) (sound : SoundInner d inner) (all : FailsInner
     first = λ zs. same (look_kept m.front (e_less t) _);
   }
 
-  dotted_fails : (calls b : Bool) (a : Sized RawExpr) (xs ys : Symbols) → E a.1 b (chains calls) xs a.0 ys → Sign mark.Dot ys (rest ys) → Fails (suc d) (SE calls b xs) (s.dotted d n inner a ys)
+  dotted_fails : (calls b : Bool) (a : Sized RawExpr) (xs ys : Symbols) → a.1 < d → E a.1 b (chains calls) xs a.0 ys → Sign mark.Dot ys (rest ys) → Fails (suc d) (SE calls b xs) (s.dotted d n inner a ys)
   unfolding r.dotted
-  dotted_fails calls b a xs ys t c = by (property_of (look (rest ys)).kind) where
+  dotted_fails calls b a xs ys lt t c = by (property_of (look (rest ys)).kind) where
     by : (v : Option (List ℕ)) → Fails {A = Sized RawExpr} (suc d) (SE calls b xs) (and_then (s.property_by d n inner v (rest ys)) (λ p i. Ok ((raw.member (look ys).place a.0 p.0 p.1, a.1 + 1), i)))
-    by None = fails_here r.a_token (rest ys) (suc a.1) (dot_begun calls b t c)
+    by None = fails_here r.a_token (rest ys) (suc a.1) (omega arith) (dot_begun calls b t c)
     by (Some v) = fine
 
   bracket_begun : (calls b : Bool) {h : ℕ} (j : ℕ) {e : RawExpr} {xs ys i : Symbols} → E h b (chains calls) xs e ys → Sign mark.OpenBracket ys (rest ys) → Begun (EE j true 0) (rest ys) i → SE calls b xs (suc (max h j)) i
@@ -202,7 +202,7 @@ module _ (d n : ℕ) (inner : In) (sound : SoundInner d inner) (all : FailsInner
   unfolding r.bracketed
   bracketed_fails calls b a xs ys ln lt t c = fails_after (sound.expr true 0 (rest ys) (omega arith))
       (fails_map (λ j. suc (max a.1 j)) (λ j l. omega arith) (λ j i w. bracket_begun calls b j t c w) (all.expr (omega arith) true 0 (rest ys) (omega (arith, e_less t, at_less c)) (omega arith)))
-      (λ x zs p. fails_after (expected mark.CloseBracket zs) (expect_fails mark.CloseBracket zs (suc (max a.1 x.1)) (bracket_begun calls b x.1 t c (whole_e p.0.whole.tree))) (λ _ ws q. fine))
+      (λ x zs p. fails_after (expected mark.CloseBracket zs) (expect_fails mark.CloseBracket zs (suc (max a.1 x.1)) (omega arith) (bracket_begun calls b x.1 t c (whole_e p.0.whole.tree))) (λ _ ws q. fine))
 
   call_begun : (b : Bool) {h : ℕ} (j : ℕ) {e : RawExpr} {xs ys i : Symbols} → E h b 16 xs e ys → Sign mark.OpenParen ys (rest ys) → Begun (AA j) (rest ys) i → SE true b xs (suc (max h j)) i
   call_begun b j {e} {ys} t c w = let m = e_moves t in record {
@@ -224,7 +224,7 @@ module _ (d n : ℕ) (inner : In) (sound : SoundInner d inner) (all : FailsInner
       → ((c : Sized RawExpr) (zs : Symbols) → Chained d calls b xs c zs → a.1 < d → a.1 < c.1 → Fails (suc d) (SE calls b xs) (next c zs))
       → Fails (suc d) (SE calls b xs) (s.suffix_by d n inner next a v ys)
   suffix_fails calls b a xs ys next x v ln e q view.dot h f = let c = consumed ys (k.mark mark.Dot) refl e in let t = h.onward (has_suffix (look ys).kind r.by_dot (ap (suffix_of true) e) (λ z. cc)) in
-      deeper_fails c (λ lt. fails_after (dotted_sound d n inner sound calls b a xs ys e t lt) (dotted_fails calls b a xs ys t c) (λ w zs p. f w zs p.0 lt p.1)) a.1 (omega (arith, h.whole.low)) (whole_e h.whole.tree) (suc a.1) (dot_begun calls b t c)
+      deeper_fails c (λ lt. fails_after (dotted_sound d n inner sound calls b a xs ys e t lt) (dotted_fails calls b a xs ys lt t c) (λ w zs p. f w zs p.0 lt p.1)) a.1 (omega (arith, h.whole.low)) (whole_e h.whole.tree) (suc a.1) (dot_begun calls b t c)
   suffix_fails calls b a xs ys next x v ln e q view.bracket h f = let c = consumed ys (k.mark mark.OpenBracket) refl e in let t = h.onward (has_suffix (look ys).kind r.by_bracket (ap (suffix_of true) e) (λ z. cc)) in
       deeper_fails c (λ lt. fails_after (bracketed_sound d n inner sound calls b a xs ys e t lt) (bracketed_fails calls b a xs ys ln lt t c) (λ w zs p. f w zs p.0 lt p.1)) a.1 (omega (arith, h.whole.low)) (whole_e h.whole.tree)
       (suc (max a.1 0)) (bracket_begun calls b 0 t c (no_e (rest ys) 0 true 0))

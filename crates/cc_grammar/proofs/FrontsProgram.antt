@@ -59,7 +59,7 @@ module _ (d n : ℕ) (inner : In) (sound : SoundInner d inner) (all : FailsInner
   stmt_by_fails c xs x v ln e view.throw = throw_fails d n inner sound all c xs ln e
   stmt_by_fails c xs x v ln e view.try = let o = consumed xs (k.word word.Try) refl e in begins c xs {h = 1} o (λ lt. try_fails d n inner sound all c xs o lt ln) _ (try_begun d n inner sound all c 1 o (no_block (rest xs) (g.inside c) 1 (omega arith)))
   stmt_by_fails c xs x v ln e view.declaration = let o = consumed xs (k.word word.Function) refl e in fails_fork c.declares _ _
-      (λ a. begins c xs {h = 0} o (λ lt. declaration_fails d n inner sound all c xs a o lt ln) 1 (declare_word d n inner sound all c a o)) (λ _. stop refl (λ w. cc) 0 (no_t xs c 0))
+      (λ a. begins c xs {h = 0} o (λ lt. declaration_fails d n inner sound all c xs a o lt ln) 1 (declare_word d n inner sound all c a o)) (λ _. stop refl (λ w. cc) 0 (λ _. omega arith) (no_t xs c 0))
   stmt_by_fails c xs x v ln e view.any_statement = fine
   stmt_by_fails c xs x v ln e (view.name {n = w}) = name_fails d n inner sound all c w xs ln e
   stmt_by_fails c xs x v ln e (view.plain f) = plain_fails d n inner sound all c xs ln (ap opens_no_expression e ∙ f)
@@ -147,13 +147,13 @@ list_front {h} {b} {xs} {ys} x = let m = body_moves x in record {
   unclosed = open_part m.front.before brace (subst (λ z. Open z) (m.front.prefix brace) (body_open (m.holds brace (moves.free refl))));
 }
 
-end_fails : {b : ℕ} {P : ℕ → Symbols → Type 0} (xs : Symbols) (j : ℕ) → P j xs → Fails b P (s.expect_end xs)
+end_fails : {b : ℕ} {P : ℕ → Symbols → Type 0} (xs : Symbols) (j : ℕ) → j < b → P j xs → Fails b P (s.expect_end xs)
 unfolding r.expect_end
-end_fails xs j h = fails_choice (is_end (look xs).kind) (λ _. fine) (λ _. fails_here r.a_token xs j h)
+end_fails xs j lt h = fails_choice (is_end (look xs).kind) (λ _. fine) (λ _. fails_here r.a_token xs j lt h)
 
 -- Where it stops, the symbols before are a front; at the depth they are one within the depth, and one with the next token.
 pub program_fails : (n d : ℕ) (xs : Symbols) → reals xs < n → Fails (suc d) (λ j i. FrontAt j xs i) (read_symbols n d xs)
 unfolding read_symbols r.program
 program_fails n d xs ln = fails_after (list_sound (suc d) n (s.reader n d) (reader_sound n d) of_program n [] 0 xs (omega arith))
     (fails_map (λ j. j) (λ j l. l) (λ j i w. ended_front w) (statements_fail (suc d) n (s.reader n d) (reader_sound n d) (reader_fails n d) of_program xs (omega arith) ln))
-    (λ b ys p. fails_after (expected_end ys) (end_fails ys b.1 (list_front (whole_list p.0))) (λ _ zs q. fine))
+    (λ b ys p. fails_after (expected_end ys) (end_fails ys b.1 (omega arith) (list_front (whole_list p.0))) (λ _ zs q. fine))

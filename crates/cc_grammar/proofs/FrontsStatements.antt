@@ -89,13 +89,13 @@ module _ (d n : ℕ) (inner : In) (sound : SoundInner d inner) (all : FailsInner
   abbrev pub ST : Context → Symbols → ℕ → Symbols → Type 0
   ST c xs j i = Begun (TT c j) xs i
 
-  pub simple_fails : (c : Context) (xs : Symbols) (p : Place) (x : Sized RawExpr) (ys : Symbols) → opens_no_expression (look xs).kind ≡ false → E x.1 true 0 xs x.0 ys → Fails (suc d) (ST c xs) (s.simple d n inner p x ys)
-  simple_fails c xs p x ys b t = fails_after (ended ys) (semicolon_fails ys x.1 (simple_begun c b (whole_e t))) (λ _ zs q. fine)
+  pub simple_fails : (c : Context) (xs : Symbols) (p : Place) (x : Sized RawExpr) (ys : Symbols) → x.1 ≤ d → opens_no_expression (look xs).kind ≡ false → E x.1 true 0 xs x.0 ys → Fails (suc d) (ST c xs) (s.simple d n inner p x ys)
+  simple_fails c xs p x ys low b t = fails_after (ended ys) (semicolon_fails ys x.1 (omega arith) (simple_begun c b (whole_e t))) (λ _ zs q. fine)
 
   pub plain_fails : (c : Context) (xs : Symbols) → reals xs < n → opens_no_expression (look xs).kind ≡ false → Fails (suc d) (ST c xs) (s.plain d n inner xs)
   unfolding r.plain
   plain_fails c xs ln b = fails_after (expr_sound d n inner sound true 0 xs (omega arith)) (fails_map (λ j. j) (λ j l. l) (λ j i w. simple_begun c b w) (expr_fails d n inner sound all true 0 xs ln (omega arith)))
-      (λ x ys p. simple_fails c xs (look xs).place x ys b p.whole.tree)
+      (λ x ys p. simple_fails c xs (look xs).place x ys p.whole.low b p.whole.tree)
 
   -- ---- variables, blocks and functions
 
@@ -114,7 +114,7 @@ module _ (d n : ℕ) (inner : In) (sound : SoundInner d inner) (all : FailsInner
       let sounds : SoundExpr (suc d) (s.expr_of d n inner) = record { is = λ b l ys ll. weaken (expr_sound d n inner sound b l ys ll) (λ a zs p. (p.whole.tree, omega (arith, p.whole.low))) } in
       fails_after (declarators_sound (suc d) (s.expr_of d n inner) sounds d n inner true n [] 0 (rest xs) (omega arith))
       (fails_map (λ j. j) (λ j l. l) (λ j i w. vars_begun c j o w) (declarators_fail (suc d) n d inner (s.expr_of d n inner) sounds true (λ l ys lm ll. expr_fails d n inner sound all true l ys lm ll) (omega arith) n [] 0 (rest xs) (omega (arith, at_less o)) (omega (arith, at_less o))))
-      (λ vs ys p. let m = declarators_move (whole_list p) in fails_after (ended ys) (semicolon_fails ys vs.1 (record {
+      (λ vs ys p. let m = declarators_move (whole_list p) in fails_after (ended ys) (semicolon_fails ys vs.1 (omega arith) (record {
         front = joined (taken o) m.front;
         more = λ zs. real (token (k.mark mark.Semicolon)) ∷ zs;
         tree = raw.vars (look xs).place (raw.declarators vs.0) ∷ [];
@@ -149,7 +149,7 @@ module _ (d n : ℕ) (inner : In) (sound : SoundInner d inner) (all : FailsInner
 
   pub declaration_fails : (c : Context) (xs : Symbols) → c.declares ≡ true → Reserved word.Function xs (rest xs) → 0 < d → reals xs < n → Fails (suc d) (ST c xs) (s.declaration d n inner xs)
   unfolding r.declaration
-  declaration_fails c xs a o lt ln = fails_after (read_variable (rest xs)) (variable_fails (rest xs) 1 (declare_word c a o)) (λ v ys q.
+  declaration_fails c xs a o lt ln = fails_after (read_variable (rest xs)) (variable_fails (rest xs) 1 (omega arith) (declare_word c a o)) (λ v ys q.
       fails_after (function_sound d n inner sound ys lt) (fails_map suc (λ j l. omega arith) (λ j i w. declare_begun c j a o q.0 w) (function_fails d n inner sound all ys lt (omega (arith, at_less o, variable_less q.0)))) (λ f zs p. fine))
 
   -- ---- `if`
@@ -247,10 +247,10 @@ module _ (d n : ℕ) (inner : In) (sound : SoundInner d inner) (all : FailsInner
   pub do_while_fails : (c : Context) (xs : Symbols) → Reserved word.Do xs (rest xs) → 0 < d → reals xs < n → Fails (suc d) (ST c xs) (s.do_while d n inner c xs)
   unfolding r.do_while
   do_while_fails c xs o lt ln = fails_after (sound.stmt (in_loop c) (rest xs)) (fails_map (λ j. suc (max j 0)) (λ j l. omega arith) (λ j i w. do_begun c j o w) (all.stmt lt (in_loop c) (rest xs) (omega (arith, at_less o)))) (λ b ys p. let t = p.0.tree in
-      fails_after (expected_word word.While ys) (expect_word_fails word.While ys _ (done_begun c o t)) (λ _ zs u.
+      fails_after (expected_word word.While ys) (expect_word_fails word.While ys _ (omega arith) (done_begun c o t)) (λ _ zs u.
       fails_after (head_sound d n inner sound zs) (fails_map (λ j. suc (max b.1 j)) (λ j l. omega (arith, p.1)) (λ j i w. until_begun c j o t u w) (head_fails d n inner sound all zs lt (omega (arith, at_less o, t_less t, at_less u)))) (λ x us q.
       let m = t_moves t in let h = head_moves d n inner sound all q in
-      fails_after (ended us) (semicolon_fails us (suc (max b.1 x.1)) (record {
+      fails_after (ended us) (semicolon_fails us (suc (max b.1 x.1)) (omega arith) (record {
         front = joined (taken o) (joined m.front (joined (taken u) h.front));
         more = λ zs. real (token (k.mark mark.Semicolon)) ∷ zs;
         tree = raw.do_while (look xs).place (stmts b.0) x.0 ∷ [];
@@ -269,7 +269,7 @@ module _ (d n : ℕ) (inner : In) (sound : SoundInner d inner) (all : FailsInner
 
   pub for_fails : (c : Context) (xs : Symbols) → Reserved word.For xs (rest xs) → 0 < d → reals xs < n → Fails (suc d) (ST c xs) (s.for d n inner c xs)
   unfolding r.for
-  for_fails c xs o lt ln = fails_after (expected mark.OpenParen (rest xs)) (expect_fails mark.OpenParen (rest xs) 1 (for_open c o)) (λ _ ys p. for_head_fails d n inner sound all c xs o p lt ln)
+  for_fails c xs o lt ln = fails_after (expected mark.OpenParen (rest xs)) (expect_fails mark.OpenParen (rest xs) 1 (omega arith) (for_open c o)) (λ _ ys p. for_head_fails d n inner sound all c xs o p lt ln)
 
   -- ---- `switch`
 
@@ -305,6 +305,6 @@ module _ (d n : ℕ) (inner : In) (sound : SoundInner d inner) (all : FailsInner
   pub switch_fails : (c : Context) (xs : Symbols) → Reserved word.Switch xs (rest xs) → 0 < d → reals xs < n → Fails (suc d) (ST c xs) (s.switch d n inner c xs)
   unfolding r.switch
   switch_fails c xs o lt ln = fails_after (head_sound d n inner sound (rest xs)) (fails_map (λ j. suc (max j 0)) (λ j l. omega arith) (λ j i w. switch_begun c j o w) (head_fails d n inner sound all (rest xs) lt (omega (arith, at_less o)))) (λ x ys p.
-      fails_after (expected mark.OpenBrace ys) (expect_fails mark.OpenBrace ys _ (subject_begun c o p)) (λ _ zs q.
+      fails_after (expected mark.OpenBrace ys) (expect_fails mark.OpenBrace ys _ (omega arith) (subject_begun c o p)) (λ _ zs q.
       fails_after (Rattle.cc_grammar.proofs.Fails.any_done (s.clauses d n inner (in_switch c) n false [] 0 zs)) (fails_map (λ j. suc (max x.1 j)) (λ j l. omega (arith, p.low)) (λ j i w. cases_begun c j o p q w)
       (all_clauses_fail d n inner sound all (in_switch c) zs lt (omega (arith, at_less o, head_less d n inner sound all p, at_less q)))) (λ cs ws s. fine)))

@@ -55,7 +55,7 @@ front_at {j} {i} p e f = subst (λ z. FrontIs j z) (append_cancel_right f.before
 
 pub stopped : {d : ℕ} {c : Fault} {xs : Symbols} (p : Symbols) (us : L) {o : Outcome Symbols (Sized (List RawStmt))} → xs ≡ p ++ map real us → Fails (suc d) (λ j i. FrontAt j xs i) o → o ≡ Err (c, map real us) → Stopped d c p us
 stopped p us e fine q = absurd (cc)
-stopped {c} p us e (stop {c = a} {i} l o j h) q =
+stopped {c} p us e (stop {c = a} {i} l o j lt h) q =
     let pairs : ◌≡◌ {A = Fault × Symbols} (a, i) (c, map real us) = cc in
     let same : a ≡ c = ap (λ (z : Fault × Symbols). z.0) pairs in
     let place : i ≡ map real us = ap (λ (z : Fault × Symbols). z.1) pairs in
