@@ -15,7 +15,7 @@ use Rattle.cc_grammar.proofs.Complete.{program_read}
 use Rattle.cc_grammar.proofs.Alike.{is_limit, is_spent}
 use Rattle.cc_grammar.proofs.NoFront.{no_front, unread_there}
 use Rattle.cc_grammar.proofs.Mono.{higher_body}
-use Rattle.cc_grammar.proofs.Fails.{Fails, fine, stop, deep}
+use Rattle.cc_grammar.proofs.Fails.{Fails, fine, stop, deep, is_deletion}
 use Rattle.cc_grammar.proofs.FrontsProgram.{FrontAt, Open, program_fails}
 use Rattle.cc_grammar.proofs.Paired.{is_fresh, Begun, Paired, end_ready, body_ready}
 use Rattle.cc_grammar.proofs.Copies.{L, Copy, end, take, insert, put, put_lexemes, lexemes_real, look_real, Each, each_map, StopsAt, Just, Shut, Bar, Copies, read, Quiet}
@@ -26,14 +26,14 @@ use Rattle.cc_grammar.proofs.TokenFronts.{tail_is, head_is, same_head, same_tail
 
 -- ---- what is known of the symbols before a stop
 
--- They are a front. At the depth they are one within the depth, and one with the next token.
+-- They are a front within the depth, but where a variable is deleted perhaps a higher one. At the depth they are one with the next token.
 pub record Stopped (d : ℕ) (c : Fault) (p : Symbols) (us : L) : Type 0 where
   pub front : IsFront p
   pub unclosed : Open p
   pub unspent : is_spent c.cause ≡ false
   pub placed : c.cause ≡ syntax → c.place ≡ (look_token us).place
   pub placed_deep : is_limit c.cause ≡ true → c.place ≡ (look_token us).place
-  pub within : is_limit c.cause ≡ true → IsFrontWithin d p
+  pub within : is_deletion c.cause ≡ false → IsFrontWithin d p
   pub deeper : is_limit c.cause ≡ true → (t : Lexeme) (vs : L) → us ≡ t ∷ vs → IsFront (p ++ real t ∷ [])
 
 clash : true ≡ false → ⊥
@@ -67,7 +67,7 @@ stopped {c} p us e (stop {c = a} {i} l o j lt h) q =
       unspent = ap (λ (z : Fault). is_spent z.cause) (sym same) ∙ not_spent a.cause l;
       placed = λ m. ap (λ (z : Fault). z.place) (sym same) ∙ o (ap (λ (z : Fault). z.cause) same ∙ m) ∙ ap (λ z. (look z).place) place ∙ ap (λ z. z.place) (look_real us);
       placed_deep = λ m. absurd (limited m);
-      within = λ m. absurd (limited m);
+      within = λ m. higher_within (omega (arith, lt (ap (λ (z : Fault). is_deletion z.cause) same ∙ m))) f.within;
       deeper = λ m t vs f. absurd (limited m);
     }
 stopped {d} {c} {xs} p us e (deep {c = a} {i} {ys} m o j lt h t s u w) q =

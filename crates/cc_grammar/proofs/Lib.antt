@@ -63,4 +63,5 @@ pub mod CopyPrograms
 pub mod SoundTokens
 pub mod TokenFronts
 pub mod Halts
+pub mod FirstFaults
 pub mod CompleteTokens
