@@ -9,10 +9,9 @@ use Rattle.cc_grammar.specs.Laws.{IsText, is_plain, FailsPlainly, IsFirstPlainFa
 use Rattle.cc_grammar.specs.Reading.{Fault, Cause, syntax, depth, spent, refused, read_tokens}
 use Rattle.cc_grammar.proofs.Mono.{higher_body}
 use Rattle.cc_grammar.proofs.Alike.{is_limit, is_spent}
-use Rattle.cc_grammar.proofs.Fails.{is_deletion}
 use Rattle.cc_grammar.proofs.Copies.{L}
 use Rattle.cc_grammar.proofs.TokenFronts.{same_head, same_tail, lexemes_append, part_front, part_front_within}
-use Rattle.cc_grammar.proofs.Halts.{Halt, halt}
+use Rattle.cc_grammar.proofs.Halts.{Halt, halt, is_deletion}
 
 -- ---- the beginnings of a list
 

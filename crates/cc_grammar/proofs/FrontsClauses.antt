@@ -1,6 +1,6 @@
 -- Where reading stops, what came before is a front: the parts of statements.
 use Rattle.std.specs.Prelude.{◌≡◌, ℕ, zero, suc, ◌+◌, ◌<◌, ◌≤◌, max, Bool, true, false, cond, List, [], ◌∷◌, ◌++◌, Ok, Err, Option, Some, None}
-use Rattle.std.proofs.Common.{refl, sym, ap, arith, ◌∙◌, subst}
+use Rattle.std.proofs.Common.{refl, inl, inr, sym, ap, arith, ◌∙◌, subst}
 use Rattle.cc_ast.specs.Syntax.{undefined}
 use Rattle.cc_lexer.specs.declared.token.Mark.{Mark}
 use Rattle.cc_lexer.specs.declared.token.Mark.TheVariants as mark
@@ -27,16 +27,16 @@ use Rattle.cc_grammar.proofs.SoundJumps.{Blocked, block_in_sound}
 use Rattle.cc_grammar.proofs.Moves.{Front, stays, joined, Fits, free, look_kept, kept_fits}
 use Rattle.cc_grammar.proofs.Moves as moves
 use Rattle.cc_grammar.proofs.MovesDerived.{e_moves, declarator_moves, body_moves, t_moves}
-use Rattle.cc_grammar.proofs.Fails.{token, new_at, taken, again, variable_taken, variable_again, First, same, fresh, Begun, EE, TT, no_e, no_t, Fails, fine, stop, fails_after, fails_map, fails_fork, fails_choice, fails_here, expect_fails, variable_fails, FailsInner}
+use Rattle.cc_grammar.proofs.Fails.{token, new_at, taken, again, variable_taken, variable_again, First, same, fresh, Spot, here, due, left, put, Begun, EE, TT, no_e, no_t, Fails, fine, stop, fails_after, fails_map, fails_fork, fails_choice, fails_here, expect_fails, variable_fails, Block, XX, FailsInner}
 use Rattle.cc_grammar.proofs.FrontsLists.{BB, statements_fail}
 use Rattle.cc_grammar.proofs.OnSymbols as s
 
 -- ---- the end of a statement
 
-pub semicolon_fails : {b : ℕ} {P : ℕ → Symbols → Type 0} (xs : Symbols) (j : ℕ) → j < b → P j xs → Fails b P (semicolon_symbol xs)
-semicolon_fails [] j lt h = stop refl (λ _. refl) j (λ _. lt) h
+pub semicolon_fails : {b : ℕ} {P : ℕ → Spot → Type 0} (xs : Symbols) (j : ℕ) → j < b → P j (here xs) → Fails b P (semicolon_symbol xs)
+semicolon_fails [] j lt h = fails_here [] j lt h
 semicolon_fails (inserted ∷ xs) j lt h = fine
-semicolon_fails (real t ∷ xs) j lt h = fails_choice (is_mark mark.Semicolon t.kind) (λ _. fine) (λ _. fails_here r.a_token (real t ∷ xs) j lt h)
+semicolon_fails (real t ∷ xs) j lt h = fails_choice (is_mark mark.Semicolon t.kind) (λ _. fine) (λ _. fails_here (real t ∷ xs) j lt h)
 
 pub end_now : {zs : Symbols} → Ends (real (token (k.mark mark.Semicolon)) ∷ zs) zs
 end_now = g.written (new_at (k.mark mark.Semicolon))
@@ -44,17 +44,17 @@ end_now = g.written (new_at (k.mark mark.Semicolon))
 -- what neither `else` nor `finally` follows
 pub fits_first : {ys us : Symbols} → First ys us → Fits ys us
 fits_first (same e) = moves.same e
-fits_first (fresh x t e) = free (ap (λ z. is_tail z.kind) e ∙ t)
+fits_first (fresh t) = free t
 
 -- whether something has come
 pub data Started {xs i : Symbols} (f : Front xs i) : Type 0 where
-  none : xs ≡ i → Started f
+  none : xs ≡ i → ((zs : Symbols) → f.go zs ≡ zs) → Started f
   some : ((zs : Symbols) → look (f.go zs) ≡ look xs) → Started f
 
 pub started : {xs i : Symbols} (f : Front xs i) → Started f
 started {xs} {i} f = by f.before f.prefix where
   by : (before : Symbols) → ((zs : Symbols) → f.go zs ≡ before ++ zs) → Started f
-  by [] h = none (sym f.is ∙ h i)
+  by [] h = none (sym f.is ∙ h i) h
   by (m ∷ before) h = some (λ zs. ap look (h zs) ∙ sym (ap look (h i)) ∙ ap look f.is)
 
 -- ---- variables
@@ -65,27 +65,36 @@ DD b j v us vs = Declarator j b us v vs
 abbrev pub DS : Bool → ℕ → List RawDeclarator → Symbols → Symbols → Type 0
 DS b j vs us ws = Declarators j b us vs ws
 
-no_declarator : (xs : Symbols) (b : Bool) (j : ℕ) → Begun (DD b j) xs xs
+variable_due : (xs : Symbols) (b : Bool) (j : ℕ) → Begun (DD b j) xs (due k.variable xs)
+variable_due xs b j = record {
+  front = stays xs;
+  more = λ zs. zs;
+  tree = record { variable = record { place = (look xs).place; name = [] }; value = raw.no_expr };
+  holds = λ zs. g.unset (g.any_variable (g.at_token _ refl));
+  first = λ zs. fresh refl;
+}
+
+no_declarator : (xs : Symbols) (b : Bool) (j : ℕ) → Begun (DD b j) xs (here xs)
 no_declarator xs b j = record {
   front = stays xs;
   more = λ zs. real (token (k.due k.variable)) ∷ zs;
   tree = record { variable = record { place = nowhere; name = [] }; value = raw.no_expr };
   holds = λ zs. g.unset (g.any_variable (new_at (k.due k.variable)));
-  first = λ zs. fresh (k.due k.variable) refl refl;
+  first = λ zs. fresh refl;
 }
 
-pub some_declarator : {b : Bool} {j : ℕ} {xs i : Symbols} → Begun (DD b j) xs i → Begun (DS b j) xs i
+pub some_declarator : {b : Bool} {j : ℕ} {xs : Symbols} {i : Spot} → Begun (DD b j) xs i → Begun (DS b j) xs i
 some_declarator w = record { front = w.front; more = w.more; tree = w.tree ∷ []; holds = λ zs. g.last_declarator (w.holds zs); first = w.first }
 
 -- nothing of a list has come
-pub no_declarators : (xs : Symbols) (b : Bool) (j : ℕ) → Begun (DS b j) xs xs
+pub no_declarators : (xs : Symbols) (b : Bool) (j : ℕ) → Begun (DS b j) xs (here xs)
 no_declarators xs b j = some_declarator (no_declarator xs b j)
 
 module _ (c n : ℕ) (d : ℕ) (inner : In) (expr : Bool → ℕ → s.Reader (Sized RawExpr)) (sound : SoundExpr c expr) (b : Bool)
     (fails : (l : ℕ) (xs : Symbols) → reals xs < n → l ≤ 13 → Fails c (λ j i. Begun (EE j b l) xs i) (expr b l xs)) (above : 0 < c) where
   declarator_fails : (xs : Symbols) → reals xs < n → Fails c (λ j i. Begun (DD b j) xs i) (s.declarator d n inner expr b xs)
   unfolding r.declarator
-  declarator_fails xs ln = fails_after (read_variable xs) (variable_fails xs 0 (omega arith) (no_declarator xs b 0)) (λ v ys p. fails_fork (is_mark mark.Equal (look ys).kind) _ _
+  declarator_fails xs ln = fails_after (read_variable xs) (variable_fails xs 0 (omega arith) (no_declarator xs b 0) (variable_due xs b 0)) (λ v ys p. fails_fork (is_mark mark.Equal (look ys).kind) _ _
       (λ e. let o = marked mark.Equal ys e in fails_after (sound.is b 1 (rest ys) (omega arith))
       (fails_map (λ j. j) (λ j l. l) (λ j i w. record {
         front = joined (variable_taken p.0) (joined (taken o) w.front);
@@ -124,13 +133,13 @@ pub record Headed (j : ℕ) (e : RawExpr) (us vs : Symbols) : Type 0 where
 abbrev pub HH : ℕ → RawExpr → Symbols → Symbols → Type 0
 HH j e us vs = Headed j e us vs
 
-pub no_head : (xs : Symbols) (j : ℕ) → Begun (HH j) xs xs
+pub no_head : (xs : Symbols) (j : ℕ) → Begun (HH j) xs (here xs)
 no_head xs j = record {
   front = stays xs;
   more = λ zs. real (token (k.mark mark.OpenParen)) ∷ real (token (k.due k.operand)) ∷ real (token (k.mark mark.CloseParen)) ∷ zs;
   tree = raw.lit nowhere undefined;
   holds = λ zs. record { start = _; finish = _; opening = new_at (k.mark mark.OpenParen); tree = g.operand (new_at (k.due k.operand)); closing = new_at (k.mark mark.CloseParen) };
-  first = λ zs. fresh (k.mark mark.OpenParen) refl refl;
+  first = λ zs. fresh refl;
 }
 
 -- the whole of it, before another list
@@ -144,24 +153,16 @@ OO j e us vs = Optional j us e vs
 abbrev pub KK : Context → ℕ → Bool → List RawCase → Symbols → Symbols → Type 0
 KK c j seen cs us vs = Cases c j seen us cs vs
 
-no_cases : (xs : Symbols) (c : Context) (j : ℕ) (seen : Bool) → Begun (KK c j seen) xs xs
-no_cases xs c j seen = record { front = stays xs; more = λ zs. real (token (k.mark mark.CloseBrace)) ∷ zs; tree = []; holds = λ zs. g.no_case (new_at (k.mark mark.CloseBrace)); first = λ zs. fresh (k.mark mark.CloseBrace) refl refl }
+no_cases : (xs : Symbols) (c : Context) (j : ℕ) (seen : Bool) → Begun (KK c j seen) xs (here xs)
+no_cases xs c j seen = record { front = stays xs; more = λ zs. real (token (k.mark mark.CloseBrace)) ∷ zs; tree = []; holds = λ zs. g.no_case (new_at (k.mark mark.CloseBrace)); first = λ zs. fresh refl }
 
--- a block, that neither `else` nor `finally` follows
-pub record Block (c : Context) (j : ℕ) (b : List RawStmt) (us vs : Symbols) : Type 0 where
-  pub begins : (look us).kind ≡ k.mark mark.OpenBrace
-  pub tree : T c j us b vs
-
-abbrev pub XX : Context → ℕ → List RawStmt → Symbols → Symbols → Type 0
-XX c j b us vs = is_tail (look vs).kind ≡ false → Block c j b us vs
-
-abbrev pub no_block : (xs : Symbols) (c : Context) (j : ℕ) → 0 < j → Begun (XX c j) xs xs
+abbrev pub no_block : (xs : Symbols) (c : Context) (j : ℕ) → 0 < j → Begun (XX c j) xs (here xs)
 no_block xs c j lt = record {
   front = stays xs;
   more = λ zs. real (token (k.mark mark.OpenBrace)) ∷ real (token (k.mark mark.CloseBrace)) ∷ zs;
   tree = [];
   holds = λ zs _. record { begins = refl; tree = g.block {h = 0} lt (new_at (k.mark mark.OpenBrace)) g.done (new_at (k.mark mark.CloseBrace)) };
-  first = λ zs. fresh (k.mark mark.OpenBrace) refl refl;
+  first = λ zs. fresh refl;
 }
 
 abbrev pub GG : Context → ℕ → RawFinally → Symbols → Symbols → Type 0
@@ -173,7 +174,7 @@ CA c j f us vs = is_tail (look vs).kind ≡ false → Catch c j us f vs
 module _ (d n : ℕ) (inner : In) (sound : SoundInner d inner) (all : FailsInner d n inner) where
   -- ---- heads
 
-  head_begun : {j : ℕ} {xs ys i : Symbols} → Sign mark.OpenParen xs ys → Begun (EE j true 0) ys i → Begun (HH j) xs i
+  head_begun : {j : ℕ} {xs ys : Symbols} {i : Spot} → Sign mark.OpenParen xs ys → Begun (EE j true 0) ys i → Begun (HH j) xs i
   head_begun o w = record {
     front = joined (taken o) w.front;
     more = λ zs. w.more (real (token (k.mark mark.CloseParen)) ∷ zs);
@@ -213,7 +214,7 @@ module _ (d n : ℕ) (inner : In) (sound : SoundInner d inner) (all : FailsInner
   body_fits : {ys us : Symbols} → First ys us → Fits ys us
   body_fits h = fits_first h
 
-  test_begun : (c : Context) (seen : Bool) {j : ℕ} {xs ys i : Symbols} → Reserved word.Case xs ys → Begun (EE j true 0) ys i → Begun (KK c j seen) xs i
+  test_begun : (c : Context) (seen : Bool) {j : ℕ} {xs ys : Symbols} {i : Spot} → Reserved word.Case xs ys → Begun (EE j true 0) ys i → Begun (KK c j seen) xs i
   test_begun c seen o w = record {
     front = joined (taken o) w.front;
     more = λ zs. w.more (real (token (k.mark mark.Colon)) ∷ real (token (k.mark mark.CloseBrace)) ∷ zs);
@@ -222,7 +223,7 @@ module _ (d n : ℕ) (inner : In) (sound : SoundInner d inner) (all : FailsInner
     first = λ zs. same refl;
   }
 
-  case_begun : (c : Context) (seen : Bool) {h : ℕ} (j : ℕ) {e : RawExpr} {xs ys zs us i : Symbols} → Reserved word.Case xs ys → E h true 0 ys e zs → Sign mark.Colon zs us → Begun (BB c j) us i → Begun (KK c (max h j) seen) xs i
+  case_begun : (c : Context) (seen : Bool) {h : ℕ} (j : ℕ) {e : RawExpr} {xs ys zs us : Symbols} {i : Spot} → Reserved word.Case xs ys → E h true 0 ys e zs → Sign mark.Colon zs us → Begun (BB c j) us i → Begun (KK c (max h j) seen) xs i
   case_begun c seen {h} j {e} o x p w = let m = e_moves x in record {
     front = joined (taken o) (joined m.front (joined (taken p) w.front));
     more = λ zs. w.more (real (token (k.mark mark.CloseBrace)) ∷ zs);
@@ -231,7 +232,7 @@ module _ (d n : ℕ) (inner : In) (sound : SoundInner d inner) (all : FailsInner
     first = λ zs. same refl;
   }
 
-  more_cases : (c : Context) (seen : Bool) {h u : ℕ} (j : ℕ) {e : RawExpr} {b : List RawStmt} {xs ys zs us vs i : Symbols} → Reserved word.Case xs ys → E h true 0 ys e zs → Sign mark.Colon zs us → Body c u us b vs → Begun (KK c j seen) vs i
+  more_cases : (c : Context) (seen : Bool) {h u : ℕ} (j : ℕ) {e : RawExpr} {b : List RawStmt} {xs ys zs us vs : Symbols} {i : Spot} → Reserved word.Case xs ys → E h true 0 ys e zs → Sign mark.Colon zs us → Body c u us b vs → Begun (KK c j seen) vs i
       → Begun (KK c (max (max h u) j) seen) xs i
   more_cases c seen {h} {u} j {e} {b} o x p y w = let m = e_moves x in let v = body_moves y in record {
     front = joined (taken o) (joined m.front (joined (taken p) (joined v.front w.front)));
@@ -241,7 +242,7 @@ module _ (d n : ℕ) (inner : In) (sound : SoundInner d inner) (all : FailsInner
     first = λ zs. same refl;
   }
 
-  default_word : (c : Context) {xs ys : Symbols} (j : ℕ) → Reserved word.Default xs ys → Begun (KK c j false) xs ys
+  default_word : (c : Context) {xs ys : Symbols} (j : ℕ) → Reserved word.Default xs ys → Begun (KK c j false) xs (here ys)
   default_word c j o = record {
     front = taken o;
     more = λ zs. real (token (k.mark mark.Colon)) ∷ real (token (k.mark mark.CloseBrace)) ∷ zs;
@@ -250,7 +251,7 @@ module _ (d n : ℕ) (inner : In) (sound : SoundInner d inner) (all : FailsInner
     first = λ zs. same refl;
   }
 
-  default_begun : (c : Context) (j : ℕ) {xs ys us i : Symbols} → Reserved word.Default xs ys → Sign mark.Colon ys us → Begun (BB c j) us i → Begun (KK c j false) xs i
+  default_begun : (c : Context) (j : ℕ) {xs ys us : Symbols} {i : Spot} → Reserved word.Default xs ys → Sign mark.Colon ys us → Begun (BB c j) us i → Begun (KK c j false) xs i
   default_begun c j o p w = record {
     front = joined (taken o) (joined (taken p) w.front);
     more = λ zs. w.more (real (token (k.mark mark.CloseBrace)) ∷ zs);
@@ -259,7 +260,7 @@ module _ (d n : ℕ) (inner : In) (sound : SoundInner d inner) (all : FailsInner
     first = λ zs. same refl;
   }
 
-  more_defaults : (c : Context) {u : ℕ} (j : ℕ) {b : List RawStmt} {xs ys us vs i : Symbols} → Reserved word.Default xs ys → Sign mark.Colon ys us → Body c u us b vs → Begun (KK c j true) vs i → Begun (KK c (max u j) false) xs i
+  more_defaults : (c : Context) {u : ℕ} (j : ℕ) {b : List RawStmt} {xs ys us vs : Symbols} {i : Spot} → Reserved word.Default xs ys → Sign mark.Colon ys us → Body c u us b vs → Begun (KK c j true) vs i → Begun (KK c (max u j) false) xs i
   more_defaults c {u} j {b} o p y w = let v = body_moves y in record {
     front = joined (taken o) (joined (taken p) (joined v.front w.front));
     more = w.more;
@@ -271,7 +272,7 @@ module _ (d n : ℕ) (inner : In) (sound : SoundInner d inner) (all : FailsInner
   clause_fails : (c : Context) (next : Bool → List RawCase → ℕ → s.Reader (Sized (List RawCase))) (seen : Bool) (before : List RawCase) (h : ℕ) (xs : Symbols) (x : Kind) (v : Clause) → 0 < d → reals xs < n → (look xs).kind ≡ x → IsClause x v
       → ((seen : Bool) (before : List RawCase) (h : ℕ) (ys : Symbols) → reals ys < reals xs → Fails d (λ j i. Begun (KK c j seen) ys i) (next seen before h ys))
       → Fails d (λ j i. Begun (KK c j seen) xs i) (s.clause_by d n inner next c seen before h v xs)
-  clause_fails c next seen before h xs x v lt ln e view.none f = fails_here r.a_token xs 0 (omega arith) (no_cases xs c 0 seen)
+  clause_fails c next seen before h xs x v lt ln e view.none f = fails_here xs 0 (omega arith) (no_cases xs c 0 seen)
   clause_fails c next seen before h xs x v lt ln e view.close f = fine
   clause_fails c next seen before h xs x v lt ln e view.«case» f = let o = consumed xs (k.word word.Case) refl e in
       fails_after (sound.expr true 0 (rest xs) (omega arith)) (fails_map (λ j. j) (λ j l. l) (λ j i w. test_begun c seen o w) (all.expr lt true 0 (rest xs) (omega (arith, at_less o)) (omega arith))) (λ y ys p. let t = p.0.whole.tree in
@@ -279,7 +280,7 @@ module _ (d n : ℕ) (inner : In) (sound : SoundInner d inner) (all : FailsInner
       fails_after (list_sound d n inner sound c n [] 0 zs (omega arith))
       (fails_map (λ j. max y.1 j) (λ j l. omega (arith, p.1)) (λ j i w. case_begun c seen j o t q w) (statements_fail d n inner sound all c zs lt (omega (arith, at_less o, e_less t, at_less q)))) (λ b us z. let body = whole_list z.0 in
       fails_map (λ j. max (max y.1 b.1) j) (λ j l. omega (arith, p.1, z.0.low)) (λ j i w. more_cases c seen j o t q body w) (f seen _ _ us (omega (arith, at_less o, e_less t, at_less q, body_less body))))))
-  clause_fails c next true before h xs x v lt ln e view.default f = fails_here r.a_token xs 0 (omega arith) (no_cases xs c 0 true)
+  clause_fails c next true before h xs x v lt ln e view.default f = fails_here xs 0 (omega arith) (no_cases xs c 0 true)
   clause_fails c next false before h xs x v lt ln e view.default f = let o = consumed xs (k.word word.Default) refl e in
       fails_after (expected mark.Colon (rest xs)) (expect_fails mark.Colon (rest xs) 0 (omega arith) (default_word c 0 o)) (λ _ zs q.
       fails_after (list_sound d n inner sound c n [] 0 zs (omega arith)) (fails_map (λ j. j) (λ j l. l) (λ j i w. default_begun c j o q w) (statements_fail d n inner sound all c zs lt (omega (arith, at_less o, at_less q)))) (λ b us z. let body = whole_list z.0 in
@@ -295,19 +296,13 @@ module _ (d n : ℕ) (inner : In) (sound : SoundInner d inner) (all : FailsInner
 
   -- ---- the blocks of a `try`
 
-  block_begun : (c : Context) {j : ℕ} {xs i : Symbols} → (look xs).kind ≡ k.mark mark.OpenBrace → Begun (TT c j) xs i → Begun (XX c (max j 1)) xs i
-  block_begun c {j} {xs} {i} e w = by (started w.front) where
-    by : Started w.front → Begun (XX c (max j 1)) xs i
-    by (none q) = subst (λ z. Begun (XX c (max j 1)) xs z) q (no_block xs c (max j 1) (omega arith))
-    by (some kept) = record { front = w.front; more = w.more; tree = w.tree; holds = λ zs f. record { begins = ap (λ z. z.kind) (kept (w.more zs)) ∙ e; tree = higher_t (max j 1) (omega arith) (w.holds zs f) }; first = w.first }
-
   pub block_in_fails : (c : Context) (xs : Symbols) → 1 < d → reals xs < n → Fails d (λ j i. Begun (XX (inside c) j) xs i) (s.block_in d n inner c xs)
   unfolding r.block_in
   block_in_fails c xs lt ln = fails_fork (is_mark mark.OpenBrace (look xs).kind) _ _
-      (λ e. fails_map (λ j. max j 1) (λ j l. omega arith) (λ j i w. block_begun (inside c) (mark_true mark.OpenBrace (look xs).kind e) w) (all.stmt (omega arith) (inside c) xs ln))
-      (λ _. fails_here r.a_token xs 1 (omega arith) (no_block xs (inside c) 1 (omega arith)))
+      (λ e. all.block lt (inside c) xs ln (mark_true mark.OpenBrace (look xs).kind e))
+      (λ _. fails_here xs 1 (omega arith) (no_block xs (inside c) 1 (omega arith)))
 
-  finally_begun : {c : Context} {j : ℕ} {xs ys i : Symbols} → Reserved word.Finally xs ys → Begun (XX c j) ys i → Begun (GG c j) xs i
+  finally_begun : {c : Context} {j : ℕ} {xs ys : Symbols} {i : Spot} → Reserved word.Finally xs ys → Begun (XX c j) ys i → Begun (GG c j) xs i
   finally_begun o w = record { front = joined (taken o) w.front; more = w.more; tree = raw.finally (stmts w.tree); holds = λ zs f. g.finally (again o _) (w.holds zs f).begins (w.holds zs f).tree; first = λ zs. same refl }
 
   pub finally_fails : (c : Context) (xs : Symbols) → 1 < d → reals xs < n → is_word word.Finally (look xs).kind ≡ true → Fails d (λ j i. Begun (GG (inside c) j) xs i) (s.finally d n inner c xs)
@@ -316,7 +311,7 @@ module _ (d n : ℕ) (inner : In) (sound : SoundInner d inner) (all : FailsInner
       fails_after (block_in_sound d n inner sound c (rest xs)) (fails_map (λ j. j) (λ j l. l) (λ j i w. finally_begun o w) (block_in_fails c (rest xs) lt (omega (arith, at_less o)))) (λ b ys p. fine)
 
   -- its word has come, then the parenthesis, then the name
-  catch_word : {c : Context} {xs ys : Symbols} → Reserved word.Catch xs ys → Begun (CA c 1) xs ys
+  catch_word : {c : Context} {xs ys : Symbols} → Reserved word.Catch xs ys → Begun (CA c 1) xs (here ys)
   catch_word {c} {ys} o = let w = no_block ys c 1 (omega arith) in record {
     front = taken o;
     more = λ zs. real (token (k.mark mark.OpenParen)) ∷ real (token (k.due k.variable)) ∷ real (token (k.mark mark.CloseParen)) ∷ w.more zs;
@@ -325,7 +320,7 @@ module _ (d n : ℕ) (inner : In) (sound : SoundInner d inner) (all : FailsInner
     first = λ zs. same refl;
   }
 
-  catch_open : {c : Context} {xs ys zs : Symbols} → Reserved word.Catch xs ys → Sign mark.OpenParen ys zs → Begun (CA c 1) xs zs
+  catch_open : {c : Context} {xs ys zs : Symbols} → Reserved word.Catch xs ys → Sign mark.OpenParen ys zs → Begun (CA c 1) xs (here zs)
   catch_open {c} {ys} o p = let w = no_block ys c 1 (omega arith) in record {
     front = joined (taken o) (taken p);
     more = λ zs. real (token (k.due k.variable)) ∷ real (token (k.mark mark.CloseParen)) ∷ w.more zs;
@@ -334,7 +329,16 @@ module _ (d n : ℕ) (inner : In) (sound : SoundInner d inner) (all : FailsInner
     first = λ zs. same refl;
   }
 
-  catch_name : {c : Context} {v : List ℕ} {xs ys zs us : Symbols} → Reserved word.Catch xs ys → Sign mark.OpenParen ys zs → Variable zs v us → Begun (CA c 1) xs us
+  catch_due : {c : Context} {xs ys zs : Symbols} → Reserved word.Catch xs ys → Sign mark.OpenParen ys zs → Begun (CA c 1) xs (due k.variable zs)
+  catch_due {c} {ys} {zs} o p = let w = no_block ys c 1 (omega arith) in record {
+    front = joined (taken o) (taken p);
+    more = λ us. real (token (k.mark mark.CloseParen)) ∷ w.more us;
+    tree = raw.caught (record { place = (look zs).place; name = [] }) (stmts w.tree);
+    holds = λ us f. g.caught (again o _) (again p _) (g.any_variable (g.at_token _ refl)) (new_at (k.mark mark.CloseParen)) (w.holds us f).begins (w.holds us f).tree;
+    first = λ us. same refl;
+  }
+
+  catch_name : {c : Context} {v : List ℕ} {xs ys zs us : Symbols} → Reserved word.Catch xs ys → Sign mark.OpenParen ys zs → Variable zs v us → Begun (CA c 1) xs (here us)
   catch_name {c} {v} {ys} {zs} o p q = let w = no_block ys c 1 (omega arith) in record {
     front = joined (taken o) (joined (taken p) (variable_taken q));
     more = λ zs. real (token (k.mark mark.CloseParen)) ∷ w.more zs;
@@ -343,7 +347,7 @@ module _ (d n : ℕ) (inner : In) (sound : SoundInner d inner) (all : FailsInner
     first = λ zs. same refl;
   }
 
-  catch_begun : {c : Context} {j : ℕ} {v : List ℕ} {xs ys zs us vs i : Symbols} → Reserved word.Catch xs ys → Sign mark.OpenParen ys zs → Variable zs v us → Sign mark.CloseParen us vs → Begun (XX c j) vs i → Begun (CA c j) xs i
+  catch_begun : {c : Context} {j : ℕ} {v : List ℕ} {xs ys zs us vs : Symbols} {i : Spot} → Reserved word.Catch xs ys → Sign mark.OpenParen ys zs → Variable zs v us → Sign mark.CloseParen us vs → Begun (XX c j) vs i → Begun (CA c j) xs i
   catch_begun {v} {zs} o p q u w = record {
     front = joined (taken o) (joined (taken p) (joined (variable_taken q) (joined (taken u) w.front)));
     more = w.more;
@@ -356,6 +360,6 @@ module _ (d n : ℕ) (inner : In) (sound : SoundInner d inner) (all : FailsInner
   unfolding r.catch
   catch_fails c xs lt ln e = let o = worded word.Catch xs e in
       fails_after (expected mark.OpenParen (rest xs)) (expect_fails mark.OpenParen (rest xs) 1 (omega arith) (catch_word o)) (λ _ ys p.
-      fails_after (read_variable ys) (variable_fails ys 1 (omega arith) (catch_open o p)) (λ v zs q.
+      fails_after (read_variable ys) (variable_fails ys 1 (omega arith) (catch_open o p) (catch_due o p)) (λ v zs q.
       fails_after (expected mark.CloseParen zs) (expect_fails mark.CloseParen zs 1 (omega arith) (catch_name o p q.0)) (λ _ us u.
       fails_after (block_in_sound d n inner sound c us) (fails_map (λ j. j) (λ j l. l) (λ j i w. catch_begun o p q.0 u w) (block_in_fails c us lt (omega (arith, at_less o, at_less p, variable_less q.0, at_less u)))) (λ b ws x. fine))))

@@ -1,11 +1,13 @@
 -- Where reading stops, what came before is a front: expressions.
 use Rattle.std.specs.Prelude.{◌≡◌, ℕ, zero, suc, ◌+◌, ◌<◌, ◌≤◌, max, not, Bool, true, false, cond, nat_lt, ◌==◌, is_some, List, [], ◌∷◌, Ok, Err, Option, Some, None}
-use Rattle.std.proofs.Common.{refl, sym, ap, arith, ◌∙◌, subst, ltb-true, ltb-false, eqb-true}
+use Rattle.std.proofs.Common.{refl, inl, inr, sym, ap, arith, ◌∙◌, subst, ltb-true, ltb-false, eqb-true}
 use Rattle.cc_ast.specs.declared.operator.BinOp.{BinOp}
 use Rattle.cc_ast.specs.declared.operator.UnOp.TheVariants as op
 use Rattle.cc_ast.specs.declared.place.Place.{Place}
 use Rattle.cc_ast.specs.Syntax.{undefined}
+use Rattle.cc_ast.specs.declared.reading.Construct.TheVariants as construct
 use Rattle.cc_lexer.specs.declared.token.Mark.TheVariants as mark
+use Rattle.cc_grammar.specs.declared.word.Word.TheVariants as word
 use Rattle.cc_grammar.specs.Symbols.{Kind, Symbols, real, look, rest, nowhere, is_mark}
 use Rattle.cc_grammar.specs.Symbols as k
 use Rattle.cc_grammar.specs.RawTree.{RawExpr, RawTarget}
@@ -24,92 +26,11 @@ use Rattle.cc_grammar.proofs.SoundParts.{Derived, Operand, SoundInner}
 use Rattle.cc_grammar.proofs.SoundPrimary.{Chained, callable, primary_sound, suffixes_sound}
 use Rattle.cc_grammar.proofs.SoundExpressions.{lowered, operator_at, postfix_sound, prefixed_sound, Climbs, begin_climb, climbed, climb_sound, conditional_sound, assign_sound}
 use Rattle.cc_grammar.proofs.Moves.{Front, joined, look_kept}
+use Rattle.cc_grammar.proofs.Deletions.{Nest, Looks, looks_true, looks_false, opened_looks, nest_found, all_closed, variable_nest, delete_kind, deletes}
 use Rattle.cc_grammar.proofs.MovesDerived.{e_moves}
-use Rattle.cc_grammar.proofs.Fails.{token, new_at, taken, again, First, same, fresh, Begun, EE, no_e, Fails, fine, stop, fails_after, fails_map, fails_fork, fails_choice, fails_here, expect_fails, deeper_fails, FailsInner}
+use Rattle.cc_grammar.proofs.Fails.{token, new_at, taken, again, First, same, fresh, Spot, here, due, left, put, Begun, EE, no_e, e_due, Fails, fine, stop, by_deletion, fails_after, fails_map, fails_fork, fails_choice, fails_here, expect_fails, deeper_fails, FailsInner}
 use Rattle.cc_grammar.proofs.FrontsPrimary.{whole_e, lower_begun, primary_fails, suffixes_fail}
 use Rattle.cc_grammar.proofs.OnSymbols as s
-
--- ---- the look ahead behind `delete`
-
--- so many closing parentheses
-data Closers : ℕ → Symbols → Symbols → Type 0 where
-  closed_all : {xs : Symbols} → Closers 0 xs xs
-  close_one : {m : ℕ} {xs ys zs : Symbols} → Sign mark.CloseParen xs ys → Closers m ys zs → Closers (suc m) xs zs
-
--- a variable in parentheses, and so many that close others
-data Nest : ℕ → Symbols → Symbols → Type 0 where
-  bare : {m : ℕ} {v : List ℕ} {xs ys zs : Symbols} → Variable xs v ys → Closers m ys zs → Nest m xs zs
-  nested : {m : ℕ} {xs ys zs : Symbols} → Sign mark.OpenParen xs ys → Nest (suc m) ys zs → Nest m xs zs
-
-data ClosedLooks (m : ℕ) (xs : Symbols) : Outcome Symbols Bool → Type 0 where
-  closed_true : {j : Symbols} → Closers m xs j → ClosedLooks m xs (Ok (true, j))
-  closed_false : {j : Symbols} → ClosedLooks m xs (Ok (false, j))
-
-data Looks (m : ℕ) (xs : Symbols) : Outcome Symbols Bool → Type 0 where
-  looks_true : {j : Symbols} → Nest m xs j → Looks m xs (Ok (true, j))
-  looks_false : {j : Symbols} → Looks m xs (Ok (false, j))
-
-closed_first : (b : Bool) (xs : Symbols) → ClosedLooks 0 xs (Ok (b, xs))
-closed_first true xs = closed_true closed_all
-closed_first false xs = closed_false
-
-closed_step : {m : ℕ} {xs ys : Symbols} {o : Outcome Symbols Bool} → Sign mark.CloseParen xs ys → ClosedLooks m ys o → ClosedLooks (suc m) xs o
-closed_step c (closed_true h) = closed_true (close_one c h)
-closed_step c closed_false = closed_false
-
-closed_choice : {m : ℕ} {xs : Symbols} (b : Bool) (p q : s.Reader Bool) → (b ≡ true → ClosedLooks m xs (p xs)) → (b ≡ false → ClosedLooks m xs (q xs)) → ClosedLooks m xs (cond b p q xs)
-closed_choice true p q h l = h refl
-closed_choice false p q h l = l refl
-
-closed_looks : (m : ℕ) (xs : Symbols) → ClosedLooks m xs (s.closed m xs)
-unfolding r.closed
-closed_looks zero xs = closed_first (not (goes_on (look xs))) xs
-closed_looks (suc m) xs = closed_choice (is_mark mark.CloseParen (look xs).kind) _ _ (λ e. closed_step (marked mark.CloseParen xs e) (closed_looks m (rest xs))) (λ _. closed_false)
-
-looks_choice : {m : ℕ} {xs : Symbols} (b : Bool) (p q : s.Reader Bool) → (b ≡ true → Looks m xs (p xs)) → (b ≡ false → Looks m xs (q xs)) → Looks m xs (cond b p q xs)
-looks_choice true p q h l = h refl
-looks_choice false p q h l = l refl
-
-looks_in : {m : ℕ} {xs ys : Symbols} {o : Outcome Symbols Bool} → Sign mark.OpenParen xs ys → Looks (suc m) ys o → Looks m xs o
-looks_in c (looks_true h) = looks_true (nested c h)
-looks_in c looks_false = looks_false
-
-looks_at : {m : ℕ} {v : List ℕ} {xs ys : Symbols} {o : Outcome Symbols Bool} → Variable xs v ys → ClosedLooks m ys o → Looks m xs o
-looks_at c (closed_true h) = looks_true (bare c h)
-looks_at c closed_false = looks_false
-
-a_variable : (xs : Symbols) (o : Option (List ℕ)) → variable_of (look xs).kind ≡ o → is_some o ≡ true → (v : List ℕ) × Variable xs v (rest xs)
-a_variable xs (Some v) e f = (v, seen_variable xs v e)
-a_variable xs None e f = let no : false ≡ true = f in absurd (cc)
-
-opened_looks : (m count : ℕ) (xs : Symbols) → reals xs < m → Looks count xs (s.opened m count xs)
-unfolding r.opened
-opened_looks zero count xs lt = absurd (omega arith)
-opened_looks (suc m) count xs lt = looks_choice (is_mark mark.OpenParen (look xs).kind) _ _
-    (λ e. let c = marked mark.OpenParen xs e in looks_in c (opened_looks m (suc count) (rest xs) (omega (arith, at_less c))))
-    (λ _. looks_choice (is_some (variable_of (look xs).kind)) _ _ (λ e. looks_at (a_variable xs (variable_of (look xs).kind) refl e).1 (closed_looks count (rest xs))) (λ _. looks_false))
-
--- the variable as an expression, and the parentheses that close others
-record Found (m : ℕ) (b : Bool) (l : ℕ) (xs zs : Symbols) : Type 0 where
-  height : ℕ
-  tree : RawExpr
-  place : Symbols
-  is : E height b l xs tree place
-  closers : Closers m place zs
-
-found_in : {m : ℕ} {b : Bool} {l : ℕ} {xs ys zs : Symbols} → Sign mark.OpenParen xs ys → Found (suc m) true 0 ys zs → Found m b l xs zs
-found_in {m} {b} {l} {xs} {ys} {zs} c f = by f.closers where
-  by : {ws : Symbols} → Closers (suc m) f.place ws → Found m b l xs ws
-  by (close_one o h) = record { height = suc f.height; tree = parenthesised (look xs) f.tree; place = _; is = g.paren (omega arith) c f.is o; closers = h }
-
-nest_found : {m : ℕ} (b : Bool) (l : ℕ) {xs zs : Symbols} → Nest m xs zs → Found m b l xs zs
-nest_found b l (bare {v} {xs} c h) = record { height = 0; tree = raw.var (g.at xs) v; place = _; is = g.name c; closers = h }
-nest_found b l (nested c h) = found_in c (nest_found true 0 h)
-
-all_closed : {b : Bool} {l : ℕ} {xs zs : Symbols} (f : Found 0 b l xs zs) → E f.height b l xs f.tree zs
-all_closed {b} {l} {xs} f = by f.closers f.is where
-  by : {ys zs : Symbols} → Closers 0 ys zs → E f.height b l xs f.tree ys → E f.height b l xs f.tree zs
-  by closed_all x = x
 
 delete_member : (o : Prefix) (p : Place) (q : Place) (e : RawExpr) (u : Place) (v : List ℕ) → is_delete o ≡ true → prefix_tree o p (raw.member q e u v) ≡ Some (raw.unary p op.Delete (raw.member q e u v))
 delete_member (sign.unary op.Delete) p q e u v t = refl
@@ -119,7 +40,7 @@ delete_member (sign.unary _) p q e u v t = let no : false ≡ true = t in (cc)
 module _ (d n : ℕ) (inner : In) (sound : SoundInner d inner) (all : FailsInner d n inner) where
   -- ---- postfix and unary operators
 
-  abbrev XE : Bool → ℕ → Symbols → ℕ → Symbols → Type 0
+  abbrev XE : Bool → ℕ → Symbols → ℕ → Spot → Type 0
   XE b l xs j i = Begun (EE j b l) xs i
 
   postfix_fails : (b : Bool) (a : Sized RawExpr) (xs ys : Symbols) → Derived d b 15 xs a ys → Fails (suc d) (XE b 13 xs) (s.postfix d n inner a ys)
@@ -134,7 +55,7 @@ module _ (d n : ℕ) (inner : In) (sound : SoundInner d inner) (all : FailsInner
     by None t c e f q = fine
 
   -- with its operand, or with what mends it
-  prefix_begun : (o : Prefix) {b : Bool} (j : ℕ) {xs us i : Symbols} → At (look xs).kind xs us → prefix_of (look xs).kind ≡ Some o → Begun (EE j b 13) us i → Begun (EE (suc j) b 13) xs i
+  prefix_begun : (o : Prefix) {b : Bool} (j : ℕ) {xs us : Symbols} {i : Spot} → At (look xs).kind xs us → prefix_of (look xs).kind ≡ Some o → Begun (EE j b 13) us i → Begun (EE (suc j) b 13) xs i
   prefix_begun o {b} j {xs} {us} {i} c e w = by (prefix_tree o (look xs).place w.tree) refl where
     by : (v : Option RawExpr) → prefix_tree o (look xs).place w.tree ≡ v → Begun (EE (suc j) b 13) xs i
     by (Some f) q = record { front = joined (taken c) w.front; more = w.more; tree = f; holds = λ zs. g.prefix (omega arith) (omega arith) (again c _) e (w.holds zs) q; first = λ zs. same refl }
@@ -146,7 +67,7 @@ module _ (d n : ℕ) (inner : In) (sound : SoundInner d inner) (all : FailsInner
       first = λ zs. same refl;
     }
 
-  wrong_begun : (o : Prefix) {b : Bool} {h : ℕ} {e : RawExpr} {xs us ys : Symbols} → At (look xs).kind xs us → prefix_of (look xs).kind ≡ Some o → E h b 13 us e ys → prefix_tree o (look xs).place e ≡ None → Begun (EE (suc h) b 13) xs ys
+  wrong_begun : (o : Prefix) {b : Bool} {h : ℕ} {e : RawExpr} {xs us ys : Symbols} → At (look xs).kind xs us → prefix_of (look xs).kind ≡ Some o → E h b 13 us e ys → prefix_tree o (look xs).place e ≡ None → Begun (EE (suc h) b 13) xs (here ys)
   wrong_begun o {xs} c e x q = let m = e_moves x in record {
     front = joined (taken c) m.front;
     more = λ zs. real (token (k.due k.remedy)) ∷ zs;
@@ -155,20 +76,24 @@ module _ (d n : ℕ) (inner : In) (sound : SoundInner d inner) (all : FailsInner
     first = λ zs. same refl;
   }
 
+  delete_at : (o : Prefix) {xs us : Symbols} → is_delete o ≡ true → At (look xs).kind xs us → prefix_of (look xs).kind ≡ Some o → At (k.word word.Delete) xs us
+  delete_at o {xs} {us} t c e = let P : Kind → Type 0 = λ z. At z xs us in subst P (delete_kind (look xs).kind o e t) c
+
   prefix_expr_fails : (b : Bool) (o : Prefix) (xs : Symbols) → 0 < d → reals xs < n → prefix_of (look xs).kind ≡ Some o → Fails (suc d) (XE b 13 xs) (s.prefix_expr d n inner b o xs)
   unfolding r.prefix_expr
   prefix_expr_fails b o xs lt ln e = fails_after (sound.expr b 13 (rest xs) (omega arith)) (fails_map suc (λ j l. omega arith) (λ j i w. prefix_begun o j c e w) (all.expr lt b 13 (rest xs) (omega (arith, at_less c)) (omega arith)))
-      (λ a ys p. by a ys (omega (arith, p.0.whole.low, p.1)) p.0.whole.tree (prefix_tree o (look xs).place a.0) refl) where
+      (λ a ys p. by a ys p.1 p.0.whole.tree (prefix_tree o (look xs).place a.0) refl) where
         c : At (look xs).kind xs (rest xs)
         c = found prefix_of xs o refl refl e
 
-        wrong : (x : Prefix) (p : Place) (ys : Symbols) (j : ℕ) → j < suc d → XE b 13 xs j ys → Fails (suc d) (XE b 13 xs) (s.wrong_prefix d n inner x p ys)
-        wrong (sign.step up) p ys j lt h = fails_here r.a_token ys j lt h
-        wrong (sign.unary x) p ys j lt h = stop refl (λ w. cc) j (λ m. cc) h
+        wrong : (x : Prefix) {a : RawExpr} {h : ℕ} (ys : Symbols) (j : ℕ) → j < suc d → x ≡ o → E h b 13 (rest xs) a ys → prefix_tree x (look xs).place a ≡ None → XE b 13 xs j (here ys) → Fails (suc d) (XE b 13 xs) (s.wrong_prefix d n inner x (look xs).place ys)
+        wrong (sign.step up) ys j lt m x q w = fails_here ys j lt w
+        wrong (sign.unary x) {a} ys j lt m t q w = let y = deletes x (look xs).place a q in
+            stop refl (λ w. cc) j (inl lt) (by_deletion refl (delete_at o (ap is_delete (sym m) ∙ y.0) c e) (variable_nest t y.1) 0 (e_due xs 0 b 13)) w
 
         by : (a : Sized RawExpr) (ys : Symbols) → a.1 < d → E a.1 b 13 (rest xs) a.0 ys → (f : Option RawExpr) → prefix_tree o (look xs).place a.0 ≡ f → Fails (suc d) (XE b 13 xs) (s.prefix_by d n inner o (look xs).place a f ys)
-        by a ys low x (Some f) q = fine
-        by a ys low x None q = fails_fork (is_remedy (look ys).kind) _ _ (λ _. fine) (λ _. wrong o (look xs).place ys (suc a.1) (omega arith) (wrong_begun o c e x q))
+        by a ys lt x (Some f) q = fine
+        by a ys lt x None q = fails_fork (is_remedy (look ys).kind) _ _ (λ _. fine) (λ _. wrong o ys (suc a.1) (omega arith) refl x q (wrong_begun o c e x q))
 
   deep_prefix : (b : Bool) (o : Prefix) (xs : Symbols) → reals xs < n → prefix_of (look xs).kind ≡ Some o
       → Fails (suc d) (XE b 13 xs) (cond (nat_lt 0 d) (s.prefix_expr d n inner b o xs) (Err (record { cause = r.depth; place = (look xs).place }, xs)))
@@ -176,7 +101,7 @@ module _ (d n : ℕ) (inner : In) (sound : SoundInner d inner) (all : FailsInner
       deeper_fails c (λ lt. prefix_expr_fails b o xs lt ln e) 0 (omega arith) (no_e xs 0 b 13) 1 (prefix_begun o 0 c e (no_e (rest xs) 0 b 13))
 
   -- where the operand of `delete` is a variable, a dot makes it one that can be deleted
-  delete_begun : (b : Bool) (o : Prefix) {xs us j : Symbols} → is_delete o ≡ true → At (look xs).kind xs us → prefix_of (look xs).kind ≡ Some o → Nest 0 us j → (h : ℕ) × XE b 13 xs h j
+  delete_begun : (b : Bool) (o : Prefix) {xs us j : Symbols} → is_delete o ≡ true → At (look xs).kind xs us → prefix_of (look xs).kind ≡ Some o → Nest 0 us j → (h : ℕ) × XE b 13 xs h (here j)
   delete_begun b o {xs} t c e h = let f = nest_found b 16 h in let x = all_closed f in let m = e_moves x in (
     suc (suc f.height),
     record {
@@ -193,12 +118,12 @@ module _ (d n : ℕ) (inner : In) (sound : SoundInner d inner) (all : FailsInner
   prefixed_fails b o xs ln e = fails_fork (is_delete o) _ _ (λ t. by t (opened_looks n 0 (rest xs) (omega (arith, at_less (found prefix_of xs o refl refl e))))) (λ _. deep_prefix b o xs ln e) where
     by : is_delete o ≡ true → {u : Outcome Symbols Bool} → Looks 0 (rest xs) u
         → Fails (suc d) (XE b 13 xs) (r.unless_deleted Symbols look rest r.semicolon_symbol u (look xs).place (cond (nat_lt 0 d) (s.prefix_expr d n inner b o xs) (Err (record { cause = r.depth; place = (look xs).place }, xs))))
-    by t (looks_true h) = let p = delete_begun b o t (found prefix_of xs o refl refl e) e h in stop refl (λ w. cc) p.0 (λ m. cc) p.1
+    by t (looks_true h) = let p = delete_begun b o t (found prefix_of xs o refl refl e) e h in stop refl (λ w. cc) p.0 (inr refl) (by_deletion refl (delete_at o t (found prefix_of xs o refl refl e) e) h 0 (e_due xs 0 b 13)) p.1
     by t looks_false = deep_prefix b o xs ln e
 
   -- ---- binary operators
 
-  binary_begun : (b : Bool) (l : ℕ) (o : Infix) {h : ℕ} (j : ℕ) {e : RawExpr} {xs ys i : Symbols} → l ≤ level o → E h b (level o) xs e ys → infix_of b (look ys).kind ≡ Some o → Begun (EE j b (level o + 1)) (rest ys) i → XE b (max l 3) xs (suc (max h j)) i
+  binary_begun : (b : Bool) (l : ℕ) (o : Infix) {h : ℕ} (j : ℕ) {e : RawExpr} {xs ys : Symbols} {i : Spot} → l ≤ level o → E h b (level o) xs e ys → infix_of b (look ys).kind ≡ Some o → Begun (EE j b (level o + 1)) (rest ys) i → XE b (max l 3) xs (suc (max h j)) i
   binary_begun b l o j {e} {ys} le t q w = let m = e_moves t in let c = operator_at b ys o q in
       record {
         front = joined m.front (joined (taken c) w.front);
@@ -227,7 +152,7 @@ module _ (d n : ℕ) (inner : In) (sound : SoundInner d inner) (all : FailsInner
   -- ---- what binds less
 
   -- a condition, with the first of its two values that has begun, or both
-  then_begun : (b : Bool) {h : ℕ} (j : ℕ) {e : RawExpr} {xs ys i : Symbols} → E h b 3 xs e ys → Sign mark.Question ys (rest ys) → Begun (EE j true 1) (rest ys) i → XE b 2 xs (suc (max h j)) i
+  then_begun : (b : Bool) {h : ℕ} (j : ℕ) {e : RawExpr} {xs ys : Symbols} {i : Spot} → E h b 3 xs e ys → Sign mark.Question ys (rest ys) → Begun (EE j true 1) (rest ys) i → XE b 2 xs (suc (max h j)) i
   then_begun b j {e} {ys} t c w = let m = e_moves t in record {
     front = joined m.front (joined (taken c) w.front);
     more = λ zs. w.more (real (token (k.mark mark.Colon)) ∷ real (token (k.due k.operand)) ∷ zs);
@@ -236,7 +161,7 @@ module _ (d n : ℕ) (inner : In) (sound : SoundInner d inner) (all : FailsInner
     first = λ zs. same (look_kept m.front (e_less t) _);
   }
 
-  else_begun : (b : Bool) {h u : ℕ} (j : ℕ) {e f : RawExpr} {xs ys zs us i : Symbols} → E h b 3 xs e ys → Sign mark.Question ys (rest ys) → E u true 1 (rest ys) f zs → Sign mark.Colon zs us → Begun (EE j b 1) us i → XE b 2 xs (suc (max (max h u) j)) i
+  else_begun : (b : Bool) {h u : ℕ} (j : ℕ) {e f : RawExpr} {xs ys zs us : Symbols} {i : Spot} → E h b 3 xs e ys → Sign mark.Question ys (rest ys) → E u true 1 (rest ys) f zs → Sign mark.Colon zs us → Begun (EE j b 1) us i → XE b 2 xs (suc (max (max h u) j)) i
   else_begun b j {e} {f} {ys} t c x o w = let m = e_moves t in let v = e_moves x in record {
     front = joined m.front (joined (taken c) (joined v.front (joined (taken o) w.front)));
     more = w.more;
@@ -258,7 +183,7 @@ module _ (d n : ℕ) (inner : In) (sound : SoundInner d inner) (all : FailsInner
       a.1 (omega (arith, h.low)) (lower_begun 2 (omega arith) (λ z. absurd (omega arith)) (whole_e h.tree)) (suc (max a.1 0)) (then_begun b 0 h.tree c (no_e (rest ys) 0 true 1)))
       (λ _. fine)
 
-  assign_begun : (b : Bool) {h : ℕ} (j : ℕ) {e : RawExpr} {t : RawTarget} {o : Option BinOp} {xs ys i : Symbols} → E h b 15 xs e ys → target_of e ≡ Some t → assign_of (look ys).kind ≡ Some o → Begun (EE j b 1) (rest ys) i → XE b 1 xs (suc (max h j)) i
+  assign_begun : (b : Bool) {h : ℕ} (j : ℕ) {e : RawExpr} {t : RawTarget} {o : Option BinOp} {xs ys : Symbols} {i : Spot} → E h b 15 xs e ys → target_of e ≡ Some t → assign_of (look ys).kind ≡ Some o → Begun (EE j b 1) (rest ys) i → XE b 1 xs (suc (max h j)) i
   assign_begun b j {t} {o} {ys} x f e w = let m = e_moves x in let c = found assign_of ys o refl refl e in record {
     front = joined m.front (joined (taken c) w.front);
     more = w.more;
@@ -279,7 +204,7 @@ module _ (d n : ℕ) (inner : In) (sound : SoundInner d inner) (all : FailsInner
     by (Some o) None e f = fine
     by None t e f = fine
 
-  comma_begun : (b : Bool) {h : ℕ} (j : ℕ) {e : RawExpr} {xs ys i : Symbols} → E h b 0 xs e ys → Sign mark.Comma ys (rest ys) → Begun (EE j b 1) (rest ys) i → XE b 0 xs (suc (max h j)) i
+  comma_begun : (b : Bool) {h : ℕ} (j : ℕ) {e : RawExpr} {xs ys : Symbols} {i : Spot} → E h b 0 xs e ys → Sign mark.Comma ys (rest ys) → Begun (EE j b 1) (rest ys) i → XE b 0 xs (suc (max h j)) i
   comma_begun b j {e} {ys} t c w = let m = e_moves t in record {
     front = joined m.front (joined (taken c) w.front);
     more = w.more;

@@ -21,7 +21,7 @@ use Rattle.cc_grammar.proofs.SoundParts.{SoundInner, whole_list}
 use Rattle.cc_grammar.proofs.SoundStatements.{declarators_sound, inner_expr, optional_sound}
 use Rattle.cc_grammar.proofs.Moves.{Front, stays, joined, look_kept}
 use Rattle.cc_grammar.proofs.MovesDerived.{e_moves, declarator_moves, declarators_move, init_moves, optional_moves}
-use Rattle.cc_grammar.proofs.Fails.{token, new_at, taken, again, First, same, fresh, Begun, EE, TT, no_e, no_t, Fails, fine, stop, fails_after, fails_map, fails_fork, fails_choice, fails_here, expect_fails, FailsInner}
+use Rattle.cc_grammar.proofs.Fails.{token, new_at, taken, again, First, same, fresh, Spot, here, due, left, put, Begun, EE, TT, no_e, no_t, Fails, fine, stop, fails_after, fails_map, fails_fork, fails_choice, fails_here, expect_fails, FailsInner}
 use Rattle.cc_grammar.proofs.FrontsClauses.{DS, no_declarators, declarators_fail, OO, optional_fails}
 use Rattle.cc_grammar.proofs.OnSymbols as s
 
@@ -64,11 +64,11 @@ one_of vs v e (g.more_declarators {vs = us} x c m) = let none : us ≡ [] = cc i
 module _ (d n : ℕ) (inner : In) (sound : SoundInner d inner) (all : FailsInner d n inner) where
   -- The parenthesis behind the word has come.
   module _ (c : Context) (xs : Symbols) {ys zs : Symbols} (o : Reserved word.For xs ys) (p : Sign mark.OpenParen ys zs) (lt : 0 < d) (ln : reals xs < n) where
-    abbrev FT : ℕ → Symbols → Type 0
+    abbrev FT : ℕ → Spot → Type 0
     FT j i = Begun (TT c j) xs i
 
     -- the beginning has begun
-    init_begun : {j : ℕ} {i : Symbols} → Begun (λ (a : RawInit) us vs. Init j us a vs) zs i → FT (suc (max (max j (max 0 0)) 0)) i
+    init_begun : {j : ℕ} {i : Spot} → Begun (λ (a : RawInit) us vs. Init j us a vs) zs i → FT (suc (max (max j (max 0 0)) 0)) i
     init_begun w = record {
       front = joined (taken o) (joined (taken p) w.front);
       more = λ us. w.more (real (token (k.mark mark.Semicolon)) ∷ real (token (k.mark mark.Semicolon)) ∷ real (token (k.mark mark.CloseParen)) ∷ real (token (k.due k.statement)) ∷ us);
@@ -77,7 +77,7 @@ module _ (d n : ℕ) (inner : In) (sound : SoundInner d inner) (all : FailsInner
       first = λ us. same refl;
     }
 
-    test_begun : {h : ℕ} (j : ℕ) {a : RawInit} {us vs i : Symbols} → Init h zs a us → Sign mark.Semicolon us vs → Begun (OO j) vs i → FT (suc (max (max h (max j 0)) 0)) i
+    test_begun : {h : ℕ} (j : ℕ) {a : RawInit} {us vs : Symbols} {i : Spot} → Init h zs a us → Sign mark.Semicolon us vs → Begun (OO j) vs i → FT (suc (max (max h (max j 0)) 0)) i
     test_begun j {a} m q w = let u = init_moves m in record {
       front = joined (taken o) (joined (taken p) (joined u.front (joined (taken q) w.front)));
       more = λ us. w.more (real (token (k.mark mark.Semicolon)) ∷ real (token (k.mark mark.CloseParen)) ∷ real (token (k.due k.statement)) ∷ us);
@@ -86,7 +86,7 @@ module _ (d n : ℕ) (inner : In) (sound : SoundInner d inner) (all : FailsInner
       first = λ us. same refl;
     }
 
-    step_begun : {h u : ℕ} (j : ℕ) {a : RawInit} {e : MaybeExpr} {us vs ws ts i : Symbols} → Init h zs a us → Sign mark.Semicolon us vs → Optional u vs e ws → Sign mark.Semicolon ws ts → Begun (OO j) ts i → FT (suc (max (max h (max u j)) 0)) i
+    step_begun : {h u : ℕ} (j : ℕ) {a : RawInit} {e : MaybeExpr} {us vs ws ts : Symbols} {i : Spot} → Init h zs a us → Sign mark.Semicolon us vs → Optional u vs e ws → Sign mark.Semicolon ws ts → Begun (OO j) ts i → FT (suc (max (max h (max u j)) 0)) i
     step_begun j {a} {e} m q x v w = let y = init_moves m in let z = optional_moves x in record {
       front = joined (taken o) (joined (taken p) (joined y.front (joined (taken q) (joined z.front (joined (taken v) w.front)))));
       more = λ us. w.more (real (token (k.mark mark.CloseParen)) ∷ real (token (k.due k.statement)) ∷ us);
@@ -95,7 +95,7 @@ module _ (d n : ℕ) (inner : In) (sound : SoundInner d inner) (all : FailsInner
       first = λ us. same refl;
     }
 
-    for_begun : {h u l : ℕ} (j : ℕ) {a : RawInit} {e f : MaybeExpr} {us vs ws ts rs os i : Symbols} → Init h zs a us → Sign mark.Semicolon us vs → Optional u vs e ws → Sign mark.Semicolon ws ts → Optional l ts f rs → Sign mark.CloseParen rs os
+    for_begun : {h u l : ℕ} (j : ℕ) {a : RawInit} {e f : MaybeExpr} {us vs ws ts rs os : Symbols} {i : Spot} → Init h zs a us → Sign mark.Semicolon us vs → Optional u vs e ws → Sign mark.Semicolon ws ts → Optional l ts f rs → Sign mark.CloseParen rs os
         → Begun (TT (in_loop c) j) os i → FT (suc (max (max h (max u l)) j)) i
     for_begun j {a} {e} {f} m q x v t r w = let y = init_moves m in let z = optional_moves x in let b = optional_moves t in
         record {
@@ -107,7 +107,7 @@ module _ (d n : ℕ) (inner : In) (sound : SoundInner d inner) (all : FailsInner
         }
 
     -- what has come whole
-    whole_init : {h : ℕ} {a : RawInit} {us : Symbols} → Init h zs a us → Begun (OO 0) us us → FT (suc (max (max h (max 0 0)) 0)) us
+    whole_init : {h : ℕ} {a : RawInit} {us : Symbols} → Init h zs a us → Begun (OO 0) us (here us) → FT (suc (max (max h (max 0 0)) 0)) (here us)
     whole_init {a} m w = let u = init_moves m in record {
       front = joined (taken o) (joined (taken p) u.front);
       more = λ us. real (token (k.mark mark.Semicolon)) ∷ real (token (k.mark mark.Semicolon)) ∷ real (token (k.mark mark.CloseParen)) ∷ real (token (k.due k.statement)) ∷ us;
@@ -116,10 +116,10 @@ module _ (d n : ℕ) (inner : In) (sound : SoundInner d inner) (all : FailsInner
       first = λ us. same refl;
     }
 
-    no_optional : (us : Symbols) → Begun (OO 0) us us
-    no_optional us = record { front = stays us; more = λ zs. real (token (k.due k.operand)) ∷ zs; tree = raw.one_expr (raw.lit nowhere undefined); holds = λ zs. g.present (g.operand (new_at (k.due k.operand))); first = λ zs. fresh (k.due k.operand) refl refl }
+    no_optional : (us : Symbols) → Begun (OO 0) us (here us)
+    no_optional us = record { front = stays us; more = λ zs. real (token (k.due k.operand)) ∷ zs; tree = raw.one_expr (raw.lit nowhere undefined); holds = λ zs. g.present (g.operand (new_at (k.due k.operand))); first = λ zs. fresh refl }
 
-    whole_test : {h u : ℕ} {a : RawInit} {e : MaybeExpr} {us vs ws : Symbols} → Init h zs a us → Sign mark.Semicolon us vs → Optional u vs e ws → FT (suc (max (max h (max u 0)) 0)) ws
+    whole_test : {h u : ℕ} {a : RawInit} {e : MaybeExpr} {us vs ws : Symbols} → Init h zs a us → Sign mark.Semicolon us vs → Optional u vs e ws → FT (suc (max (max h (max u 0)) 0)) (here ws)
     whole_test {a} {e} m q x = let y = init_moves m in let z = optional_moves x in record {
       front = joined (taken o) (joined (taken p) (joined y.front (joined (taken q) z.front)));
       more = λ us. real (token (k.mark mark.Semicolon)) ∷ real (token (k.mark mark.CloseParen)) ∷ real (token (k.due k.statement)) ∷ us;
@@ -128,7 +128,7 @@ module _ (d n : ℕ) (inner : In) (sound : SoundInner d inner) (all : FailsInner
       first = λ us. same refl;
     }
 
-    whole_step : {h u l : ℕ} {a : RawInit} {e f : MaybeExpr} {us vs ws ts rs : Symbols} → Init h zs a us → Sign mark.Semicolon us vs → Optional u vs e ws → Sign mark.Semicolon ws ts → Optional l ts f rs → FT (suc (max (max h (max u l)) 0)) rs
+    whole_step : {h u l : ℕ} {a : RawInit} {e f : MaybeExpr} {us vs ws ts rs : Symbols} → Init h zs a us → Sign mark.Semicolon us vs → Optional u vs e ws → Sign mark.Semicolon ws ts → Optional l ts f rs → FT (suc (max (max h (max u l)) 0)) (here rs)
     whole_step {a} {e} {f} m q x v t = let y = init_moves m in let z = optional_moves x in let b = optional_moves t in record {
       front = joined (taken o) (joined (taken p) (joined y.front (joined (taken q) (joined z.front (joined (taken v) b.front)))));
       more = λ us. real (token (k.mark mark.CloseParen)) ∷ real (token (k.due k.statement)) ∷ us;
@@ -150,7 +150,7 @@ module _ (d n : ℕ) (inner : In) (sound : SoundInner d inner) (all : FailsInner
 
     -- ---- `in`
 
-    object_begun : {h : ℕ} (j : ℕ) {t : RawForTarget} {us vs i : Symbols} → Aim h t zs us → Reserved word.In us vs → Begun (EE j true 0) vs i → FT (suc (max (max h j) 0)) i
+    object_begun : {h : ℕ} (j : ℕ) {t : RawForTarget} {us vs : Symbols} {i : Spot} → Aim h t zs us → Reserved word.In us vs → Begun (EE j true 0) vs i → FT (suc (max (max h j) 0)) i
     object_begun j {t} m q w = let u = aim_moves m in record {
       front = joined (taken o) (joined (taken p) (joined u.front (joined (taken q) w.front)));
       more = λ us. w.more (real (token (k.mark mark.CloseParen)) ∷ real (token (k.due k.statement)) ∷ us);
@@ -159,7 +159,7 @@ module _ (d n : ℕ) (inner : In) (sound : SoundInner d inner) (all : FailsInner
       first = λ us. same refl;
     }
 
-    whole_object : {h u : ℕ} {t : RawForTarget} {e : RawExpr} {us vs ws : Symbols} → Aim h t zs us → Reserved word.In us vs → E u true 0 vs e ws → FT (suc (max (max h u) 0)) ws
+    whole_object : {h u : ℕ} {t : RawForTarget} {e : RawExpr} {us vs ws : Symbols} → Aim h t zs us → Reserved word.In us vs → E u true 0 vs e ws → FT (suc (max (max h u) 0)) (here ws)
     whole_object {t} {e} m q x = let u = aim_moves m in let v = e_moves x in record {
       front = joined (taken o) (joined (taken p) (joined u.front (joined (taken q) v.front)));
       more = λ us. real (token (k.mark mark.CloseParen)) ∷ real (token (k.due k.statement)) ∷ us;
@@ -168,7 +168,7 @@ module _ (d n : ℕ) (inner : In) (sound : SoundInner d inner) (all : FailsInner
       first = λ us. same refl;
     }
 
-    in_begun : {h u : ℕ} (j : ℕ) {t : RawForTarget} {e : RawExpr} {us vs ws os i : Symbols} → Aim h t zs us → Reserved word.In us vs → E u true 0 vs e ws → Sign mark.CloseParen ws os → Begun (TT (in_loop c) j) os i → FT (suc (max (max h u) j)) i
+    in_begun : {h u : ℕ} (j : ℕ) {t : RawForTarget} {e : RawExpr} {us vs ws os : Symbols} {i : Spot} → Aim h t zs us → Reserved word.In us vs → E u true 0 vs e ws → Sign mark.CloseParen ws os → Begun (TT (in_loop c) j) os i → FT (suc (max (max h u) j)) i
     in_begun j {t} {e} m q x y w = let u = aim_moves m in let v = e_moves x in record {
       front = joined (taken o) (joined (taken p) (joined u.front (joined (taken q) (joined v.front (joined (taken y) w.front)))));
       more = w.more;

@@ -1,6 +1,6 @@
 -- Where reading stops, what came before is a front: lists and functions.
 use Rattle.std.specs.Prelude.{◌≡◌, ℕ, zero, suc, ◌+◌, ◌<◌, ◌≤◌, max, ◌&&◌, Bool, true, false, is_some, List, [], ◌∷◌, ◌++◌, Ok, Err, Option, Some, None}
-use Rattle.std.proofs.Common.{refl, sym, ap, arith, ◌∙◌, subst}
+use Rattle.std.proofs.Common.{refl, inl, inr, sym, ap, arith, ◌∙◌, subst}
 use Rattle.cc_ast.specs.declared.place.Place.{Place}
 use Rattle.cc_ast.specs.declared.reading.Construct.TheVariants as construct
 use Rattle.cc_ast.specs.Syntax.{undefined}
@@ -16,7 +16,7 @@ use Rattle.cc_grammar.specs.Reading.{Outcome, Sized, is_element, ends_list, vari
 use Rattle.cc_grammar.specs.Reading as r
 use Rattle.cc_grammar.proofs.Marked.{In, consumed, marked, found, expected, read_variable}
 use Rattle.cc_grammar.proofs.Meets.{Done, ok, err}
-use Rattle.cc_grammar.proofs.Views.{element_true}
+use Rattle.cc_grammar.proofs.Views.{mark_true, element_true}
 use Rattle.cc_grammar.proofs.Mono.{higher, higher_field, higher_fields, higher_elements, higher_more, higher_t, higher_body}
 use Rattle.cc_grammar.proofs.Shrinks.{reals, at_less, variable_less, params_less, e_less, field_less, t_less}
 use Rattle.cc_grammar.proofs.SoundParts.{SoundInner, IsKey, is_key, field_tree, params_of_sound}
@@ -24,7 +24,7 @@ use Rattle.cc_grammar.proofs.SoundLists.{key_sound, field_sound, body_sound}
 use Rattle.cc_grammar.proofs.Moves.{Front, stays, joined, Fits, free, look_kept}
 use Rattle.cc_grammar.proofs.Moves as moves
 use Rattle.cc_grammar.proofs.MovesDerived.{e_moves, field_moves, t_moves, params_move}
-use Rattle.cc_grammar.proofs.Fails.{token, new_at, taken, again, variable_taken, variable_again, First, same, fresh, Begun, EE, TT, Fails, fine, stop, fails_after, fails_map, fails_fork, fails_choice, fails_here, expect_fails, variable_fails, FailsInner}
+use Rattle.cc_grammar.proofs.Fails.{token, new_at, taken, again, variable_taken, variable_again, First, same, fresh, Spot, here, due, left, put, Begun, EE, TT, Fails, fine, stop, by_element, by_key, fails_after, fails_map, fails_fork, fails_choice, fails_here, expect_fails, variable_fails, FailsInner}
 use Rattle.cc_grammar.proofs.OnSymbols as s
 
 -- ---- parameters
@@ -32,19 +32,28 @@ use Rattle.cc_grammar.proofs.OnSymbols as s
 abbrev PP : List Named → Symbols → Symbols → Type 0
 PP ps us vs = MoreParams us ps vs
 
-no_params : (xs : Symbols) → Begun PP xs xs
+no_params : (xs : Symbols) → Begun PP xs (here xs)
 no_params xs = record {
   front = stays xs;
   more = λ zs. real (token (k.due k.variable)) ∷ real (token (k.mark mark.CloseParen)) ∷ zs;
   tree = record { place = nowhere; name = [] } ∷ [];
   holds = λ zs. g.last_param (g.any_variable (new_at (k.due k.variable))) (new_at (k.mark mark.CloseParen));
-  first = λ zs. fresh (k.due k.variable) refl refl;
+  first = λ zs. fresh refl;
 }
 
-params_fail : {b : ℕ} (m : ℕ) (before : List Named) (xs : Symbols) → 0 < b → reals xs < m → Fails b (λ _ i. Begun PP xs i) (s.params m before xs)
+param_due : (xs : Symbols) → Begun PP xs (due k.variable xs)
+param_due xs = record {
+  front = stays xs;
+  more = λ zs. real (token (k.mark mark.CloseParen)) ∷ zs;
+  tree = record { place = (look xs).place; name = [] } ∷ [];
+  holds = λ zs. g.last_param (g.any_variable (g.at_token _ refl)) (new_at (k.mark mark.CloseParen));
+  first = λ zs. fresh refl;
+}
+
+params_fail : {b : ℕ} (m : ℕ) (before : List Named) (xs : Symbols) → reals xs < m → 0 < b → Fails b (λ _ i. Begun PP xs i) (s.params m before xs)
 unfolding r.params
-params_fail zero before xs low lt = absurd (omega arith)
-params_fail (suc m) before xs low lt = fails_after (read_variable xs) (variable_fails xs 0 (omega arith) (no_params xs)) (λ v ys p. fails_fork (is_mark mark.Comma (look ys).kind) _ _
+params_fail zero before xs lt some = absurd (omega arith)
+params_fail (suc m) before xs lt some = fails_after (read_variable xs) (variable_fails xs 0 (omega arith) (no_params xs) (param_due xs)) (λ v ys p. fails_fork (is_mark mark.Comma (look ys).kind) _ _
     (λ e. let c = marked mark.Comma ys e in fails_map (λ j. j) (λ j lt. lt) (λ j i w. record {
       front = joined (variable_taken p.0) (joined (taken c) w.front);
       more = w.more;
@@ -52,7 +61,7 @@ params_fail (suc m) before xs low lt = fails_after (read_variable xs) (variable_
       holds = λ zs. g.more_params (variable_again p.0 _) (again c _) (w.holds zs);
       first = λ zs. same refl;
     })
-    (params_fail m _ (rest ys) low (omega (arith, variable_less p.0, at_less c))))
+    (params_fail m _ (rest ys) (omega (arith, variable_less p.0, at_less c)) some))
     (λ _. fails_after (expected mark.CloseParen ys) (expect_fails mark.CloseParen ys 0 (omega arith) (record {
       front = variable_taken p.0;
       more = λ zs. real (token (k.mark mark.CloseParen)) ∷ zs;
@@ -64,10 +73,15 @@ params_fail (suc m) before xs low lt = fails_after (read_variable xs) (variable_
 abbrev PO : List Named → Symbols → Symbols → Type 0
 PO ps us vs = Params us ps vs
 
-pub params_of_fail : {b : ℕ} (m : ℕ) (xs : Symbols) → 0 < b → reals xs < m → Fails b (λ _ i. Begun PO xs i) (s.params_of m xs)
+pub params_of_fail : {b : ℕ} (m : ℕ) (xs : Symbols) → reals xs < m → 0 < b → Fails b (λ _ i. Begun PO xs i) (s.params_of m xs)
 unfolding r.params_of
-params_of_fail m xs low lt = fails_fork (is_mark mark.CloseParen (look xs).kind) _ _ (λ _. fine)
-    (λ _. fails_map (λ j. j) (λ j lt. lt) (λ j i w. record { front = w.front; more = w.more; tree = w.tree; holds = λ zs. g.some_params (w.holds zs); first = w.first }) (params_fail m [] xs low lt))
+params_of_fail m xs lt some = fails_fork (is_mark mark.CloseParen (look xs).kind) _ _ (λ _. fine)
+    (λ _. fails_map (λ j. j) (λ j lt. lt) (λ j i w. record { front = w.front; more = w.more; tree = w.tree; holds = λ zs. g.some_params (w.holds zs); first = w.first }) (params_fail m [] xs lt some))
+
+both_true : (b c : Bool) → (b && c) ≡ true → (b ≡ true) × (c ≡ true)
+both_true true true e = (refl, refl)
+both_true true false e = cc
+both_true false c e = cc
 
 abbrev pub LL : ℕ → List RawExpr → Symbols → Symbols → Type 0
 LL j es us vs = Elements j us es vs
@@ -96,19 +110,19 @@ pub record Closed (c : Context) (j : ℕ) (b : List RawStmt) (us vs : Symbols) :
 abbrev pub CC : Context → ℕ → List RawStmt → Symbols → Symbols → Type 0
 CC c j b us vs = Closed c j b us vs
 
-pub no_body : (xs : Symbols) (c : Context) (j : ℕ) → Begun (CC c j) xs xs
-no_body xs c j = record { front = stays xs; more = λ zs. real (token (k.mark mark.CloseBrace)) ∷ zs; tree = []; holds = λ zs. record { last = _; body = g.done; close = new_at (k.mark mark.CloseBrace) }; first = λ zs. fresh (k.mark mark.CloseBrace) refl refl }
+pub no_body : (xs : Symbols) (c : Context) (j : ℕ) → Begun (CC c j) xs (here xs)
+no_body xs c j = record { front = stays xs; more = λ zs. real (token (k.mark mark.CloseBrace)) ∷ zs; tree = []; holds = λ zs. record { last = _; body = g.done; close = new_at (k.mark mark.CloseBrace) }; first = λ zs. fresh refl }
 
 abbrev pub UU : ℕ → (List Named × List RawStmt) → Symbols → Symbols → Type 0
 UU j p us vs = Function j us p.0 p.1 vs
 
-pub no_function : (xs : Symbols) (j : ℕ) → Begun (UU j) xs xs
+pub no_function : (xs : Symbols) (j : ℕ) → Begun (UU j) xs (here xs)
 no_function xs j = record {
   front = stays xs;
   more = λ zs. real (token (k.mark mark.OpenParen)) ∷ real (token (k.mark mark.CloseParen)) ∷ real (token (k.mark mark.OpenBrace)) ∷ real (token (k.mark mark.CloseBrace)) ∷ zs;
   tree = ([], []);
   holds = λ zs. g.function_body (new_at (k.mark mark.OpenParen)) (g.no_params (new_at (k.mark mark.CloseParen))) (new_at (k.mark mark.OpenBrace)) g.done (new_at (k.mark mark.CloseBrace));
-  first = λ zs. fresh (k.mark mark.OpenParen) refl refl;
+  first = λ zs. fresh refl;
 }
 
 module _ (d n : ℕ) (inner : In) (sound : SoundInner d inner) (all : FailsInner d n inner) where
@@ -127,7 +141,13 @@ module _ (d n : ℕ) (inner : In) (sound : SoundInner d inner) (all : FailsInner
         first = λ zs. same refl;
       })) (λ _ zs q. fine))
       (λ _. fails_fork (is_mark mark.Comma (look xs).kind) _ _
-      (λ _. stop refl (λ w. cc) 0 (λ _. omega arith) (record { front = stays xs; more = λ zs. real (token (k.mark mark.CloseBracket)) ∷ zs; tree = []; holds = λ zs. g.no_element (new_at (k.mark mark.CloseBracket)); first = λ zs. fresh (k.mark mark.CloseBracket) refl refl }))
+      (λ q. stop refl (λ w. cc) 0 (inl (omega arith)) (by_element refl (mark_true mark.Comma _ q) 0 (record {
+        front = stays xs;
+        more = λ zs. real (token (k.mark mark.CloseBracket)) ∷ zs;
+        tree = [];
+        holds = λ zs. g.any_element (g.at_token _ refl) (new_at (k.mark mark.CloseBracket));
+        first = λ zs. fresh refl;
+      })) (record { front = stays xs; more = λ zs. real (token (k.mark mark.CloseBracket)) ∷ zs; tree = []; holds = λ zs. g.no_element (new_at (k.mark mark.CloseBracket)); first = λ zs. fresh refl }))
       (λ _. fails_after (sound.expr true 1 xs (omega arith))
       (fails_map (λ j. j) (λ j l. l) (λ j i w. record {
         front = w.front;
@@ -158,17 +178,17 @@ module _ (d n : ℕ) (inner : In) (sound : SoundInner d inner) (all : FailsInner
 
   -- ---- object literals
 
-  no_field_yet : (xs : Symbols) (j : ℕ) → Begun (FF j) xs xs
+  no_field_yet : (xs : Symbols) (j : ℕ) → Begun (FF j) xs (here xs)
   no_field_yet xs j = record {
     front = stays xs;
     more = λ zs. real (token (k.due k.key)) ∷ real (token (k.mark mark.Colon)) ∷ real (token (k.due k.operand)) ∷ zs;
     tree = record { place = nowhere; key = raw.dotted []; value = raw.lit nowhere undefined };
     holds = λ zs. g.field (new_at (k.due k.key)) refl (new_at (k.mark mark.Colon)) (g.operand (new_at (k.due k.operand)));
-    first = λ zs. fresh (k.due k.key) refl refl;
+    first = λ zs. fresh refl;
   }
 
   -- a key has come
-  key_begun : {x : Kind} {y : RawKey} {xs ys : Symbols} (j : ℕ) → At x xs ys → key_of x ≡ Some y → Begun (FF j) xs ys
+  key_begun : {x : Kind} {y : RawKey} {xs ys : Symbols} (j : ℕ) → At x xs ys → key_of x ≡ Some y → Begun (FF j) xs (here ys)
   key_begun {y} {xs} j c e = record {
     front = taken c;
     more = λ zs. real (token (k.mark mark.Colon)) ∷ real (token (k.due k.operand)) ∷ zs;
@@ -177,12 +197,22 @@ module _ (d n : ℕ) (inner : In) (sound : SoundInner d inner) (all : FailsInner
     first = λ zs. same refl;
   }
 
-  key_fails : {b : ℕ} (xs : Symbols) (v : Option RawKey) → 0 < b → key_of (look xs).kind ≡ v → Fails b (λ j i. Begun (FF j) xs i) (s.key_by d n inner v xs)
-  key_fails xs None low e = fails_here r.a_token xs 0 (omega arith) (no_field_yet xs 0)
-  key_fails xs (Some y) low e = fails_fork (is_accessor (look xs).kind && is_some (key_of (look (rest xs)).kind)) _ _ (λ _. stop refl (λ w. cc) 0 (λ _. omega arith) (key_begun 0 (found key_of xs y refl refl e) e)) (λ _. fine)
+  key_due : (xs : Symbols) (j : ℕ) → Begun (FF j) xs (due k.key xs)
+  key_due xs j = record {
+    front = stays xs;
+    more = λ zs. real (token (k.mark mark.Colon)) ∷ real (token (k.due k.operand)) ∷ zs;
+    tree = record { place = (look xs).place; key = raw.dotted []; value = raw.lit nowhere undefined };
+    holds = λ zs. g.field (g.at_token _ refl) refl (new_at (k.mark mark.Colon)) (g.operand (new_at (k.due k.operand)));
+    first = λ zs. fresh refl;
+  }
+
+  key_fails : {b : ℕ} (xs : Symbols) (v : Option RawKey) → key_of (look xs).kind ≡ v → 0 < b → Fails b (λ j i. Begun (FF j) xs i) (s.key_by d n inner v xs)
+  key_fails xs None e some = fails_here xs 0 (omega arith) (no_field_yet xs 0)
+  key_fails xs (Some y) e some = fails_fork (is_accessor (look xs).kind && is_some (key_of (look (rest xs)).kind)) _ _ 
+      (λ t. let c = found key_of xs y refl refl e in let q = both_true (is_accessor (look xs).kind) _ t in stop refl (λ w. cc) 0 (inl some) (by_key refl c q.0 q.1 0 (key_due xs 0)) (key_begun 0 c e)) (λ _. fine)
 
   -- a key and its colon
-  key_held : {y : Place × RawKey} {xs ys zs i : Symbols} (j : ℕ) → IsKey xs y ys → Sign mark.Colon ys zs → Begun (EE j true 1) zs i → Begun (FF j) xs i
+  key_held : {y : Place × RawKey} {xs ys zs : Symbols} {i : Spot} (j : ℕ) → IsKey xs y ys → Sign mark.Colon ys zs → Begun (EE j true 1) zs i → Begun (FF j) xs i
   key_held {xs} j (is_key {y} c e) o w = record {
     front = joined (taken c) (joined (taken o) w.front);
     more = w.more;
@@ -191,7 +221,7 @@ module _ (d n : ℕ) (inner : In) (sound : SoundInner d inner) (all : FailsInner
     first = λ us. same refl;
   }
 
-  key_there : {y : Place × RawKey} {xs ys : Symbols} (j : ℕ) → IsKey xs y ys → Begun (FF j) xs ys
+  key_there : {y : Place × RawKey} {xs ys : Symbols} (j : ℕ) → IsKey xs y ys → Begun (FF j) xs (here ys)
   key_there j (is_key c e) = key_begun j c e
 
   key_less : {y : Place × RawKey} {xs ys : Symbols} → IsKey xs y ys → reals ys < reals xs
@@ -199,7 +229,7 @@ module _ (d n : ℕ) (inner : In) (sound : SoundInner d inner) (all : FailsInner
 
   field_fails : (xs : Symbols) → 0 < d → reals xs < n → Fails d (λ j i. Begun (FF j) xs i) (s.field d n inner xs)
   unfolding r.field
-  field_fails xs lt ln = fails_after (key_sound d n inner sound xs (key_of (look xs).kind) refl) (key_fails xs (key_of (look xs).kind) (omega arith) refl) (λ y ys q.
+  field_fails xs lt ln = fails_after (key_sound d n inner sound xs (key_of (look xs).kind) refl) (key_fails xs (key_of (look xs).kind) refl lt) (λ y ys q.
       fails_after (expected mark.Colon ys) (expect_fails mark.Colon ys 0 (omega arith) (key_there 0 q)) (λ _ zs c.
       fails_after (sound.expr true 1 zs (omega arith)) (fails_map (λ j. j) (λ j l. l) (λ j i w. key_held j q c w) (all.expr lt true 1 zs (omega (arith, key_less q, at_less c)) (omega arith))) (λ x ws p. fine)))
 
@@ -273,7 +303,7 @@ module _ (d n : ℕ) (inner : In) (sound : SoundInner d inner) (all : FailsInner
   -- ---- statements one behind the other, and functions
 
   -- a statement before others that have begun
-  next_begun : {c : Context} {h : ℕ} {a : List RawStmt} {xs ys i : Symbols} (j : ℕ) → T c h xs a ys → Begun (BB c j) ys i → Begun (BB c (max h j)) xs i
+  next_begun : {c : Context} {h : ℕ} {a : List RawStmt} {xs ys : Symbols} {i : Spot} (j : ℕ) → T c h xs a ys → Begun (BB c j) ys i → Begun (BB c (max h j)) xs i
   next_begun {h} {a} {ys} j x w = let m = t_moves x in record {
     front = joined m.front w.front;
     more = w.more;
@@ -283,7 +313,7 @@ module _ (d n : ℕ) (inner : In) (sound : SoundInner d inner) (all : FailsInner
   } where
     fits : {us : Symbols} → First ys us → Fits ys us
     fits (same e) = moves.same e
-    fits (fresh x t e) = free (ap (λ z. is_tail z.kind) e ∙ t)
+    fits (fresh t) = free t
 
   list_fails : (c : Context) (m : ℕ) (before : List RawStmt) (h : ℕ) (xs : Symbols) → 0 < d → reals xs < m → reals xs < n → Fails d (λ j i. Begun (BB c j) xs i) (s.list d n inner c m before h xs)
   unfolding r.list
@@ -296,7 +326,7 @@ module _ (d n : ℕ) (inner : In) (sound : SoundInner d inner) (all : FailsInner
   pub statements_fail : (c : Context) (xs : Symbols) → 0 < d → reals xs < n → Fails d (λ j i. Begun (BB c j) xs i) (s.list d n inner c n [] 0 xs)
   statements_fail c xs lt ln = list_fails c n [] 0 xs lt ln ln
 
-  closing : {c : Context} {j : ℕ} {xs i : Symbols} → Begun (BB c j) xs i → Begun (CC c j) xs i
+  closing : {c : Context} {j : ℕ} {xs : Symbols} {i : Spot} → Begun (BB c j) xs i → Begun (CC c j) xs i
   closing w = record { front = w.front; more = λ zs. w.more (real (token (k.mark mark.CloseBrace)) ∷ zs); tree = w.tree; holds = λ zs. record { last = _; body = w.holds _ refl; close = new_at (k.mark mark.CloseBrace) }; first = λ zs. w.first _ }
 
   pub body_fails : (c : Context) (xs : Symbols) → 0 < d → reals xs < n → Fails d (λ j i. Begun (CC c j) xs i) (s.body d n inner c xs)
@@ -313,7 +343,7 @@ module _ (d n : ℕ) (inner : In) (sound : SoundInner d inner) (all : FailsInner
         body_first : {xs ys : Symbols} (f : Front xs ys) (zs : Symbols) → First xs (f.go (real (token (k.mark mark.CloseBrace)) ∷ zs))
         body_first {xs} {ys} f zs = by f.before (f.prefix ys) (f.prefix (real (token (k.mark mark.CloseBrace)) ∷ zs)) where
           by : (before : Symbols) → f.go ys ≡ before ++ ys → f.go (real (token (k.mark mark.CloseBrace)) ∷ zs) ≡ before ++ real (token (k.mark mark.CloseBrace)) ∷ zs → First xs (f.go (real (token (k.mark mark.CloseBrace)) ∷ zs))
-          by [] e h = fresh (k.mark mark.CloseBrace) refl (ap look h)
+          by [] e h = fresh (ap (λ z. is_tail (look z).kind) h)
           by (m ∷ before) e h = same (ap look h ∙ sym (ap look e) ∙ ap look f.is)
 
   pub function_fails : (xs : Symbols) → 0 < d → reals xs < n → Fails d (λ j i. Begun (UU j) xs i) (s.function d n inner xs)
@@ -325,7 +355,7 @@ module _ (d n : ℕ) (inner : In) (sound : SoundInner d inner) (all : FailsInner
         tree = (w.tree, []);
         holds = λ zs. g.function_body (again o _) (w.holds _) (new_at (k.mark mark.OpenBrace)) g.done (new_at (k.mark mark.CloseBrace));
         first = λ zs. same refl;
-      }) (params_of_fail n ys (omega arith) (omega (arith, at_less o)))) (λ ps zs p. let m = params_move p in
+      }) (params_of_fail n ys (omega (arith, at_less o)) (omega arith))) (λ ps zs p. let m = params_move p in
       fails_after (expected mark.OpenBrace zs) (expect_fails mark.OpenBrace zs 0 (omega arith) (record {
         front = joined (taken o) m.front;
         more = λ zs. real (token (k.mark mark.OpenBrace)) ∷ real (token (k.mark mark.CloseBrace)) ∷ zs;

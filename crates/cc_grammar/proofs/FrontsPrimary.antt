@@ -1,6 +1,6 @@
 -- Where reading stops, what came before is a front: primary expressions, and what goes on with them by dots, brackets and calls.
 use Rattle.std.specs.Prelude.{◌≡◌, ℕ, zero, suc, ◌+◌, ◌<◌, ◌≤◌, max, Bool, true, false, cond, nat_lt, List, [], ◌∷◌, Ok, Err, Option, Some, None}
-use Rattle.std.proofs.Common.{refl, sym, ap, arith, ◌∙◌, subst, ltb-true}
+use Rattle.std.proofs.Common.{refl, inl, inr, sym, ap, arith, ◌∙◌, subst, ltb-true}
 use Rattle.cc_ast.specs.Syntax.{undefined}
 use Rattle.cc_lexer.specs.declared.token.Mark.TheVariants as mark
 use Rattle.cc_grammar.specs.declared.word.Word.TheVariants as word
@@ -23,7 +23,7 @@ use Rattle.cc_grammar.proofs.SoundParts.{Derived, SoundInner, own_name_sound}
 use Rattle.cc_grammar.proofs.SoundPrimary.{chains, stands, Chained, primary_sound, dotted_sound, bracketed_sound, called_sound}
 use Rattle.cc_grammar.proofs.Moves.{Front, stays, joined, look_kept}
 use Rattle.cc_grammar.proofs.MovesDerived.{e_moves, own_moves}
-use Rattle.cc_grammar.proofs.Fails.{token, new_at, taken, again, First, same, fresh, Begun, EE, no_e, Fails, fine, stop, fails_after, fails_map, fails_fork, fails_choice, fails_here, expect_fails, deeper_fails, FailsInner}
+use Rattle.cc_grammar.proofs.Fails.{token, new_at, taken, again, First, same, fresh, Spot, here, due, left, put, Begun, EE, no_e, e_due, name_due, Fails, fine, stop, variable_missing, operand_missing, fails_after, fails_map, fails_fork, fails_choice, fails_here, expect_fails, deeper_fails, FailsInner}
 use Rattle.cc_grammar.proofs.FrontsLists.{AA, UU, no_function, all_elements_fail, all_fields_fail, arguments_of_fail, function_fails}
 use Rattle.cc_grammar.proofs.OnSymbols as s
 
@@ -41,25 +41,25 @@ has_suffix x s e f q = f (sym e ∙ q)
 a_call : (x : Kind) → is_mark mark.OpenParen x ≡ true → ¬ (suffix_of true x ≡ r.no_suffix)
 a_call x e = has_suffix x r.by_call (ap (suffix_of true) (mark_true mark.OpenParen x e)) (λ q. cc)
 
-own_name_fails : {b : ℕ} {P : ℕ → Symbols → Type 0} (xs : Symbols) (j : ℕ) → j < b → P j xs → Fails b P (s.own_name xs)
+own_name_fails : {b : ℕ} {P : ℕ → Spot → Type 0} (xs : Symbols) (j : ℕ) → j < b → P j (here xs) → P j (due k.variable xs) → Fails b P (s.own_name xs)
 unfolding r.own_name
-own_name_fails {b} {P} xs j lt h = by (variable_of (look xs).kind) (is_mark mark.OpenParen (look xs).kind) where
+own_name_fails {b} {P} xs j lt h u = by (variable_of (look xs).kind) (is_mark mark.OpenParen (look xs).kind) where
   by : (v : Option (List ℕ)) (c : Bool) → Fails b P (s.own_name_by v c xs)
   by None true = fine
-  by None false = fails_here r.a_variable xs j lt h
+  by None false = variable_missing xs j lt h u
   by (Some v) c = fine
 
 -- it has come whole
-pub whole_e : {h l : ℕ} {b : Bool} {xs ys : Symbols} {e : RawExpr} → E h b l xs e ys → Begun (EE h b l) xs ys
+pub whole_e : {h l : ℕ} {b : Bool} {xs ys : Symbols} {e : RawExpr} → E h b l xs e ys → Begun (EE h b l) xs (here ys)
 whole_e {e} x = let m = e_moves x in record { front = m.front; more = λ zs. zs; tree = e; holds = m.holds; first = λ zs. same (look_kept m.front (e_less x) zs) }
 
-pub lower_begun : {j l : ℕ} {b : Bool} {xs i : Symbols} (m : ℕ) → m ≤ l → ¬ (m ≡ 16) → Begun (EE j b l) xs i → Begun (EE j b m) xs i
+pub lower_begun : {j l : ℕ} {b : Bool} {xs : Symbols} {i : Spot} (m : ℕ) → m ≤ l → ¬ (m ≡ 16) → Begun (EE j b l) xs i → Begun (EE j b m) xs i
 lower_begun m le ne w = record { front = w.front; more = w.more; tree = w.tree; holds = λ zs. lower m le ne (w.holds zs); first = w.first }
 
 module _ (d n : ℕ) (inner : In) (sound : SoundInner d inner) (all : FailsInner d n inner) where
   -- ---- primary expressions
 
-  abbrev PE : Bool → Symbols → ℕ → Symbols → Type 0
+  abbrev PE : Bool → Symbols → ℕ → Spot → Type 0
   PE b xs j i = Begun (EE j b 17) xs i
 
   parentheses_fail : (b : Bool) (xs : Symbols) → Sign mark.OpenParen xs (rest xs) → 0 < d → reals xs < n → Fails (suc d) (PE b xs) (s.parentheses d n inner xs)
@@ -95,7 +95,7 @@ module _ (d n : ℕ) (inner : In) (sound : SoundInner d inner) (all : FailsInner
       (λ x ys p. fine)
 
   -- a function, behind its word
-  function_begun : {o : Option Named} {xs ys zs i : Symbols} (b : Bool) (j : ℕ) → Reserved word.Function xs ys → OwnName ys o zs → Begun (UU j) zs i → Begun (EE (suc j) b 17) xs i
+  function_begun : {o : Option Named} {xs ys zs : Symbols} {i : Spot} (b : Bool) (j : ℕ) → Reserved word.Function xs ys → OwnName ys o zs → Begun (UU j) zs i → Begun (EE (suc j) b 17) xs i
   function_begun {o} {xs} b j c w u = let m = own_moves w in record {
     front = joined (taken c) (joined m.front u.front);
     more = u.more;
@@ -104,12 +104,23 @@ module _ (d n : ℕ) (inner : In) (sound : SoundInner d inner) (all : FailsInner
     first = λ zs. same refl;
   }
 
+  -- whose name is due
+  function_named : {xs ys : Symbols} (b : Bool) → Reserved word.Function xs ys → Begun (EE 1 b 17) xs (due k.variable ys)
+  function_named {xs} {ys} b c = record {
+    front = taken c;
+    more = λ zs. real (token (k.mark mark.OpenParen)) ∷ real (token (k.mark mark.CloseParen)) ∷ real (token (k.mark mark.OpenBrace)) ∷ real (token (k.mark mark.CloseBrace)) ∷ zs;
+    tree = raw.fun (look xs).place (Some (record { place = (look ys).place; name = [] })) [] (stmts []);
+    holds = λ zs. g.function {h = 0} (omega arith) (again c _) (g.own_name (g.any_variable (g.at_token _ refl)))
+        (g.function_body (new_at (k.mark mark.OpenParen)) (g.no_params (new_at (k.mark mark.CloseParen))) (new_at (k.mark mark.OpenBrace)) g.done (new_at (k.mark mark.CloseBrace)));
+    first = λ zs. same refl;
+  }
+
   function_expr_fails : (b : Bool) (xs : Symbols) → Reserved word.Function xs (rest xs) → 0 < d → reals xs < n → Fails (suc d) (PE b xs) (s.function_expr d n inner xs)
   unfolding r.function_expr
-  function_expr_fails b xs c lt ln = fails_after (own_name_sound (rest xs)) (own_name_fails (rest xs) 1 (omega arith) (function_begun b 0 c g.no_name (no_function (rest xs) 0))) (λ o ys q.
+  function_expr_fails b xs c lt ln = fails_after (own_name_sound (rest xs)) (own_name_fails (rest xs) 1 (omega arith) (function_begun b 0 c g.no_name (no_function (rest xs) 0)) (function_named b c)) (λ o ys q.
       fails_after (Rattle.cc_grammar.proofs.SoundLists.function_sound d n inner sound ys lt) (fails_map suc (λ j l. omega arith) (λ j i w. function_begun b j c q w) (function_fails d n inner sound all ys lt (omega (arith, at_less c, own_less q)))) (λ x zs p. fine))
 
-  new_begun : {xs ys i : Symbols} (b : Bool) (j : ℕ) → Reserved word.New xs ys → Begun (EE j b 17) ys i → Begun (EE (suc j) b 17) xs i
+  new_begun : {xs ys : Symbols} {i : Spot} (b : Bool) (j : ℕ) → Reserved word.New xs ys → Begun (EE j b 17) ys i → Begun (EE (suc j) b 17) xs i
   new_begun {xs} b j c w = record { front = joined (taken c) w.front; more = w.more; tree = raw.new (look xs).place w.tree raw.no_exprs; holds = λ zs. g.new (omega arith) (λ q. omega arith) (omega arith) (again c _) (w.holds zs); first = λ zs. same refl }
 
   new_expr_fails : (b : Bool) (xs : Symbols) → Reserved word.New xs (rest xs) → 0 < d → reals xs < n → Fails (suc d) (PE b xs) (s.new_expr d n inner b xs)
@@ -162,7 +173,7 @@ module _ (d n : ℕ) (inner : In) (sound : SoundInner d inner) (all : FailsInner
       deeper_fails c (λ lt. function_expr_fails b xs c lt ln) 0 (omega arith) (no_e xs 0 b 17) 1 (function_begun b 0 c g.no_name (no_function (rest xs) 0))
   primary_by_fails b xs x h ln e view.new = let c = consumed xs (k.word word.New) refl e in
       deeper_fails c (λ lt. new_expr_fails b xs c lt ln) 0 (omega arith) (no_e xs 0 b 17) 1 (new_begun b 0 c (no_e (rest xs) 0 b 17))
-  primary_by_fails b xs x h ln e (view.none p q) = fails_here r.an_operand xs 0 (omega arith) (no_e xs 0 b 17)
+  primary_by_fails b xs x h ln e (view.none p q) = operand_missing xs 0 (omega arith) (no_e xs 0 b 17) (e_due xs 0 b 17) (name_due xs 0 b 17)
 
   pub primary_fails : (b : Bool) (xs : Symbols) → reals xs < n → Fails (suc d) (PE b xs) (s.primary d n inner b xs)
   unfolding r.primary
@@ -170,10 +181,10 @@ module _ (d n : ℕ) (inner : In) (sound : SoundInner d inner) (all : FailsInner
 
   -- ---- dots, brackets and calls
 
-  abbrev pub SE : Bool → Bool → Symbols → ℕ → Symbols → Type 0
+  abbrev pub SE : Bool → Bool → Symbols → ℕ → Spot → Type 0
   SE calls b xs j i = Begun (EE j b (stands calls)) xs i
 
-  dot_begun : (calls b : Bool) {h : ℕ} {e : RawExpr} {xs ys : Symbols} → E h b (chains calls) xs e ys → Sign mark.Dot ys (rest ys) → SE calls b xs (suc h) (rest ys)
+  dot_begun : (calls b : Bool) {h : ℕ} {e : RawExpr} {xs ys : Symbols} → E h b (chains calls) xs e ys → Sign mark.Dot ys (rest ys) → SE calls b xs (suc h) (here (rest ys))
   dot_begun calls b {e} {ys} t c = let m = e_moves t in record {
     front = joined m.front (taken c);
     more = λ zs. real (token (k.name [])) ∷ zs;
@@ -182,14 +193,14 @@ module _ (d n : ℕ) (inner : In) (sound : SoundInner d inner) (all : FailsInner
     first = λ zs. same (look_kept m.front (e_less t) _);
   }
 
-  dotted_fails : (calls b : Bool) (a : Sized RawExpr) (xs ys : Symbols) → a.1 < d → E a.1 b (chains calls) xs a.0 ys → Sign mark.Dot ys (rest ys) → Fails (suc d) (SE calls b xs) (s.dotted d n inner a ys)
+  dotted_fails : (calls b : Bool) (a : Sized RawExpr) (xs ys : Symbols) → E a.1 b (chains calls) xs a.0 ys → Sign mark.Dot ys (rest ys) → a.1 < d → Fails (suc d) (SE calls b xs) (s.dotted d n inner a ys)
   unfolding r.dotted
-  dotted_fails calls b a xs ys lt t c = by (property_of (look (rest ys)).kind) where
+  dotted_fails calls b a xs ys t c lt = by (property_of (look (rest ys)).kind) where
     by : (v : Option (List ℕ)) → Fails {A = Sized RawExpr} (suc d) (SE calls b xs) (and_then (s.property_by d n inner v (rest ys)) (λ p i. Ok ((raw.member (look ys).place a.0 p.0 p.1, a.1 + 1), i)))
-    by None = fails_here r.a_token (rest ys) (suc a.1) (omega arith) (dot_begun calls b t c)
+    by None = fails_here (rest ys) (suc a.1) (omega arith) (dot_begun calls b t c)
     by (Some v) = fine
 
-  bracket_begun : (calls b : Bool) {h : ℕ} (j : ℕ) {e : RawExpr} {xs ys i : Symbols} → E h b (chains calls) xs e ys → Sign mark.OpenBracket ys (rest ys) → Begun (EE j true 0) (rest ys) i → SE calls b xs (suc (max h j)) i
+  bracket_begun : (calls b : Bool) {h : ℕ} (j : ℕ) {e : RawExpr} {xs ys : Symbols} {i : Spot} → E h b (chains calls) xs e ys → Sign mark.OpenBracket ys (rest ys) → Begun (EE j true 0) (rest ys) i → SE calls b xs (suc (max h j)) i
   bracket_begun calls b j {e} {ys} t c w = let m = e_moves t in record {
     front = joined m.front (joined (taken c) w.front);
     more = λ zs. w.more (real (token (k.mark mark.CloseBracket)) ∷ zs);
@@ -204,7 +215,7 @@ module _ (d n : ℕ) (inner : In) (sound : SoundInner d inner) (all : FailsInner
       (fails_map (λ j. suc (max a.1 j)) (λ j l. omega arith) (λ j i w. bracket_begun calls b j t c w) (all.expr (omega arith) true 0 (rest ys) (omega (arith, e_less t, at_less c)) (omega arith)))
       (λ x zs p. fails_after (expected mark.CloseBracket zs) (expect_fails mark.CloseBracket zs (suc (max a.1 x.1)) (omega arith) (bracket_begun calls b x.1 t c (whole_e p.0.whole.tree))) (λ _ ws q. fine))
 
-  call_begun : (b : Bool) {h : ℕ} (j : ℕ) {e : RawExpr} {xs ys i : Symbols} → E h b 16 xs e ys → Sign mark.OpenParen ys (rest ys) → Begun (AA j) (rest ys) i → SE true b xs (suc (max h j)) i
+  call_begun : (b : Bool) {h : ℕ} (j : ℕ) {e : RawExpr} {xs ys : Symbols} {i : Spot} → E h b 16 xs e ys → Sign mark.OpenParen ys (rest ys) → Begun (AA j) (rest ys) i → SE true b xs (suc (max h j)) i
   call_begun b j {e} {ys} t c w = let m = e_moves t in record {
     front = joined m.front (joined (taken c) w.front);
     more = w.more;
@@ -224,13 +235,13 @@ module _ (d n : ℕ) (inner : In) (sound : SoundInner d inner) (all : FailsInner
       → ((c : Sized RawExpr) (zs : Symbols) → Chained d calls b xs c zs → a.1 < d → a.1 < c.1 → Fails (suc d) (SE calls b xs) (next c zs))
       → Fails (suc d) (SE calls b xs) (s.suffix_by d n inner next a v ys)
   suffix_fails calls b a xs ys next x v ln e q view.dot h f = let c = consumed ys (k.mark mark.Dot) refl e in let t = h.onward (has_suffix (look ys).kind r.by_dot (ap (suffix_of true) e) (λ z. cc)) in
-      deeper_fails c (λ lt. fails_after (dotted_sound d n inner sound calls b a xs ys e t lt) (dotted_fails calls b a xs ys lt t c) (λ w zs p. f w zs p.0 lt p.1)) a.1 (omega (arith, h.whole.low)) (whole_e h.whole.tree) (suc a.1) (dot_begun calls b t c)
+      deeper_fails c (λ lt. fails_after (dotted_sound d n inner sound calls b a xs ys e t lt) (dotted_fails calls b a xs ys t c lt) (λ w zs p. f w zs p.0 lt p.1)) a.1 (omega (arith, h.whole.low)) (whole_e h.whole.tree) (suc a.1) (dot_begun calls b t c)
   suffix_fails calls b a xs ys next x v ln e q view.bracket h f = let c = consumed ys (k.mark mark.OpenBracket) refl e in let t = h.onward (has_suffix (look ys).kind r.by_bracket (ap (suffix_of true) e) (λ z. cc)) in
       deeper_fails c (λ lt. fails_after (bracketed_sound d n inner sound calls b a xs ys e t lt) (bracketed_fails calls b a xs ys ln lt t c) (λ w zs p. f w zs p.0 lt p.1)) a.1 (omega (arith, h.whole.low)) (whole_e h.whole.tree)
       (suc (max a.1 0)) (bracket_begun calls b 0 t c (no_e (rest ys) 0 true 0))
   suffix_fails true b a xs ys next x v ln e q view.call h f = let c = consumed ys (k.mark mark.OpenParen) refl e in let t = h.onward (has_suffix (look ys).kind r.by_call (ap (suffix_of true) e) (λ z. cc)) in
       deeper_fails c (λ lt. fails_after (called_sound d n inner sound b a xs ys e t lt) (called_fails b a xs ys ln lt t c) (λ w zs p. f w zs p.0 lt p.1)) a.1 (omega (arith, h.whole.low)) (whole_e h.whole.tree)
-      (suc (max a.1 0)) (call_begun b 0 t c (record { front = stays (rest ys); more = λ zs. real (token (k.mark mark.CloseParen)) ∷ zs; tree = []; holds = λ zs. g.no_argument (new_at (k.mark mark.CloseParen)); first = λ zs. fresh (k.mark mark.CloseParen) refl refl }))
+      (suc (max a.1 0)) (call_begun b 0 t c (record { front = stays (rest ys); more = λ zs. real (token (k.mark mark.CloseParen)) ∷ zs; tree = []; holds = λ zs. g.no_argument (new_at (k.mark mark.CloseParen)); first = λ zs. fresh refl }))
   suffix_fails false b a xs ys next x v ln e q view.call h f = let no : r.no_suffix ≡ r.by_call = q in absurd (cc)
   suffix_fails calls b a xs ys next x v ln e q view.none h f = fine
 

@@ -11,6 +11,7 @@ use Rattle.cc_grammar.specs.Grammar as g
 use Rattle.cc_grammar.specs.Grammar.{Context, of_program, At, T, Body, is_tail, opens_no_expression}
 use Rattle.cc_grammar.specs.Laws.{is_last}
 use Rattle.cc_grammar.specs.Fronts.{Derives, IsFrontWithin, IsFront, is_end}
+use Rattle.cc_grammar.specs.Faults.{any}
 use Rattle.cc_grammar.specs.Reading.{Outcome, Sized, Fault, Start, and_then, start_of, read_symbols, refused, depth}
 use Rattle.cc_grammar.specs.Reading as r
 use Rattle.cc_grammar.proofs.Marked.{In, consumed, expected_end}
@@ -18,16 +19,17 @@ use Rattle.cc_grammar.proofs.Meets.{Done, ok, err}
 use Rattle.cc_grammar.proofs.Views.{IsStart, start_is}
 use Rattle.cc_grammar.proofs.Views as view
 use Rattle.cc_grammar.proofs.Shrinks.{reals, at_less}
+use Rattle.cc_grammar.proofs.Steps.{kind_at}
 use Rattle.cc_grammar.proofs.SoundParts.{SoundInner, nothing_inside, whole_list}
-use Rattle.cc_grammar.proofs.SoundLists.{list_sound}
+use Rattle.cc_grammar.proofs.SoundLists.{list_sound, body_sound}
 use Rattle.cc_grammar.proofs.Sound.{reader_sound}
 use Rattle.cc_grammar.proofs.Moves.{Front, stays, joined}
 use Rattle.cc_grammar.proofs.Moves as moves
 use Rattle.cc_grammar.proofs.MovesDerived.{body_moves}
 use Rattle.cc_grammar.proofs.Paired.{Paired, body_ready}
 use Rattle.cc_grammar.proofs.Alike.{is_limit}
-use Rattle.cc_grammar.proofs.Fails.{token, new_at, taken, again, First, same, fresh, Begun, EE, TT, no_e, no_t, Fails, fine, stop, deep, fails_after, fails_map, fails_fork, fails_choice, fails_here, deeper_fails, FailsInner}
-use Rattle.cc_grammar.proofs.FrontsLists.{BB, statements_fail, no_function}
+use Rattle.cc_grammar.proofs.Fails.{token, new_at, taken, again, First, same, fresh, Spot, here, due, left, put, Begun, EE, TT, no_e, no_t, Fails, fine, stop, by_statement, t_due, deep, fails_after, fails_map, fails_fork, fails_choice, fails_here, deeper_fails, XX, FailsInner}
+use Rattle.cc_grammar.proofs.FrontsLists.{BB, CC, no_body, body_fails, statements_fail, no_function}
 use Rattle.cc_grammar.proofs.FrontsPrimary.{callee_fails}
 use Rattle.cc_grammar.proofs.FrontsExpressions.{expr_fails}
 use Rattle.cc_grammar.proofs.FrontsClauses.{no_head, no_block}
@@ -36,11 +38,11 @@ use Rattle.cc_grammar.proofs.FrontsJumps.{continue_fails, break_fails, return_fa
 use Rattle.cc_grammar.proofs.OnSymbols as s
 
 module _ (d n : ℕ) (inner : In) (sound : SoundInner d inner) (all : FailsInner d n inner) where
-  abbrev PT : Context → Symbols → ℕ → Symbols → Type 0
+  abbrev PT : Context → Symbols → ℕ → Spot → Type 0
   PT c xs j i = Begun (TT c j) xs i
 
   -- a statement that is deeper by 1, at its first token
-  begins : (c : Context) (xs : Symbols) {x : Kind} {h : ℕ} {o : Outcome Symbols (Sized (List RawStmt))} → At x xs (rest xs) → (h < d → Fails (suc d) (PT c xs) o) → (u : ℕ) → PT c xs u (rest xs)
+  begins : (c : Context) (xs : Symbols) {x : Kind} {h : ℕ} {o : Outcome Symbols (Sized (List RawStmt))} → At x xs (rest xs) → (h < d → Fails (suc d) (PT c xs) o) → (u : ℕ) → PT c xs u (here (rest xs))
       → Fails (suc d) (PT c xs) (cond (nat_lt h d) o (Err (record { cause = depth; place = (look xs).place }, xs)))
   begins c xs o f u w = deeper_fails o f 0 (omega arith) (no_t xs c 0) u w
 
@@ -59,7 +61,7 @@ module _ (d n : ℕ) (inner : In) (sound : SoundInner d inner) (all : FailsInner
   stmt_by_fails c xs x v ln e view.throw = throw_fails d n inner sound all c xs ln e
   stmt_by_fails c xs x v ln e view.try = let o = consumed xs (k.word word.Try) refl e in begins c xs {h = 1} o (λ lt. try_fails d n inner sound all c xs o lt ln) _ (try_begun d n inner sound all c 1 o (no_block (rest xs) (g.inside c) 1 (omega arith)))
   stmt_by_fails c xs x v ln e view.declaration = let o = consumed xs (k.word word.Function) refl e in fails_fork c.declares _ _
-      (λ a. begins c xs {h = 0} o (λ lt. declaration_fails d n inner sound all c xs a o lt ln) 1 (declare_word d n inner sound all c a o)) (λ _. stop refl (λ w. cc) 0 (λ _. omega arith) (no_t xs c 0))
+      (λ a. begins c xs {h = 0} o (λ lt. declaration_fails d n inner sound all c xs a o lt ln) 1 (declare_word d n inner sound all c a o)) (λ _. stop refl (λ w. cc) 0 (inl (omega arith)) (by_statement refl e 0 (t_due xs c 0)) (no_t xs c 0))
   stmt_by_fails c xs x v ln e view.any_statement = fine
   stmt_by_fails c xs x v ln e (view.name {n = w}) = name_fails d n inner sound all c w xs ln e
   stmt_by_fails c xs x v ln e (view.plain f) = plain_fails d n inner sound all c xs ln (ap opens_no_expression e ∙ f)
@@ -68,15 +70,31 @@ module _ (d n : ℕ) (inner : In) (sound : SoundInner d inner) (all : FailsInner
   unfolding r.stmt_of
   stmt_fails c xs ln = stmt_by_fails c xs (look xs).kind (start_of (look xs).kind) ln refl (start_is (look xs).kind)
 
+-- a block, as such
+block_word : (c : Context) (j : ℕ) {xs ys : Symbols} {i : Spot} → At (k.mark mark.OpenBrace) xs ys → Begun (CC (g.inside c) j) ys i → Begun (XX c (suc j)) xs i
+block_word c j o w = record { front = joined (taken o) w.front; more = w.more; tree = w.tree; holds = λ zs f. record { begins = kind_at o; tree = g.block (omega arith) (again o _) (w.holds zs).body (w.holds zs).close }; first = λ zs. same refl }
+
+open_block : (d n : ℕ) (inner : In) (c : Context) (xs : Symbols) → (look xs).kind ≡ k.mark mark.OpenBrace → s.stmt_of d n inner c xs ≡ cond (nat_lt 0 d) (s.block d n inner c xs) (Err (record { cause = depth; place = (look xs).place }, xs))
+unfolding r.stmt_of
+open_block d n inner c xs e = ap (λ v. s.stmt_by d n inner c v xs) (ap start_of e)
+
+block_fails_there : (d n : ℕ) (inner : In) (sound : SoundInner d inner) (all : FailsInner d n inner) (c : Context) (xs : Symbols) → reals xs < n → 0 < d → (look xs).kind ≡ k.mark mark.OpenBrace → Fails (suc d) (λ j i. Begun (XX c j) xs i) (s.stmt_of d n inner c xs)
+unfolding r.block
+block_fails_there d n inner sound all c xs ln lt e = let o = consumed xs (k.mark mark.OpenBrace) refl e in
+    subst (λ (u : Outcome Symbols (Sized (List RawStmt))). Fails (suc d) (λ j i. Begun (XX c j) xs i) u) (sym (open_block d n inner c xs e))
+    (deeper_fails {h = 0} o (λ l. fails_after (body_sound d n inner sound (g.inside c) (rest xs) l) (fails_map suc (λ j l. omega arith) (λ j i w. block_word c j o w) (body_fails d n inner sound all (g.inside c) (rest xs) l (omega (arith, at_less o)))) (λ b ys p. fine))
+    1 (omega arith) (no_block xs c 1 (omega arith)) 1 (block_word c 0 o (no_body (rest xs) (g.inside c) 0)))
+
 one_more : (d n : ℕ) (inner : In) (sound : SoundInner d inner) (all : FailsInner d n inner) → FailsInner (suc d) n (record { expr = s.expr_of d n inner; stmt = s.stmt_of d n inner })
 one_more d n inner sound all = record {
   expr = λ lt b l xs ln ll. expr_fails d n inner sound all b l xs ln ll;
   callee = λ lt b xs ln. callee_fails d n inner sound all b xs ln;
   stmt = λ lt c xs ln. stmt_fails d n inner sound all c xs ln;
+  block = λ lt c xs ln e. block_fails_there d n inner sound all c xs ln (omega arith) e;
 }
 
 none_fails : (n : ℕ) → FailsInner 0 n s.no_depth
-none_fails n = record { expr = λ lt b l xs ln ll. absurd (omega arith); callee = λ lt b xs ln. absurd (omega arith); stmt = λ lt c xs ln. absurd (omega arith) }
+none_fails n = record { expr = λ lt b l xs ln ll. absurd (omega arith); callee = λ lt b xs ln. absurd (omega arith); stmt = λ lt c xs ln. absurd (omega arith); block = λ lt c xs ln e. absurd (omega arith) }
 
 pub reader_fails : (n d : ℕ) → FailsInner (suc d) n (s.reader n d)
 unfolding r.reader
@@ -116,26 +134,38 @@ body_open : {h : ℕ} {b : List RawStmt} {xs : Symbols} → Body of_program h xs
 body_open {xs} x = let m = body_moves x in let e : m.front.before ++ brace ≡ xs = sym (m.front.prefix brace) ∙ m.front.is in
     subst (λ z. Open z) e (paired_open m.front.before (subst (λ z. Paired z) (sym e) (body_ready x (record { begun = refl; paired = (inl refl, tt) })).paired))
 
+-- the front, with the part that is due
+abbrev pub with_due : Symbols → Spot → Symbols
+with_due before (here ys) = before
+with_due before (due p ys) = before ++ any p (look ys) ∷ []
+
 -- A list that is a front, and what follows it.
-pub record FrontAt (j : ℕ) (xs i : Symbols) : Type 0 where
+pub record FrontAt (j : ℕ) (xs : Symbols) (i : Spot) : Type 0 where
   pub before : Symbols
-  pub is : xs ≡ before ++ i
-  pub front : IsFrontWithin j before
+  pub is : xs ≡ before ++ left i
+  pub front : IsFrontWithin j (with_due before i)
   pub unclosed : Open before
 
-ended_front : {j : ℕ} {xs i : Symbols} → Begun (BB of_program j) xs i → FrontAt j xs i
+abbrev pub FrontOf : Symbols → ℕ → Spot → Type 0
+FrontOf xs j i = FrontAt j xs i
+
+put_due : (before : Symbols) (i : Spot) (zs : Symbols) → before ++ put i zs ≡ with_due before i ++ zs
+put_due before (here ys) zs = refl
+put_due before (due p ys) zs = sym (append_assoc before (any p (look ys) ∷ []) zs)
+
+ended_front : {j : ℕ} {xs : Symbols} {i : Spot} → Begun (BB of_program j) xs i → FrontAt j xs i
 ended_front {j} {xs} {i} w = record {
   before = w.front.before;
-  is = sym w.front.is ∙ w.front.prefix i;
+  is = sym w.front.is ∙ w.front.prefix (left i);
   front = record {
     more = w.more (real (token k.end) ∷ []);
     tree = w.tree;
-    derives = subst (λ z. Derives j z w.tree) (w.front.prefix (w.more (real (token k.end) ∷ []))) (record { last = real (token k.end) ∷ []; body = w.holds (real (token k.end) ∷ []) refl; ends = new_at k.end });
+    derives = subst (λ z. Derives j z w.tree) (w.front.prefix (put i (w.more (real (token k.end) ∷ []))) ∙ put_due w.front.before i _) (record { last = real (token k.end) ∷ []; body = w.holds (real (token k.end) ∷ []) refl; ends = new_at k.end });
   };
-  unclosed = open_part w.front.before (w.more brace) (subst (λ z. Open z) (w.front.prefix (w.more brace)) (body_open (w.holds brace refl)));
+  unclosed = open_part w.front.before (put i (w.more brace)) (subst (λ z. Open z) (w.front.prefix (put i (w.more brace))) (body_open (w.holds brace refl)));
 }
 
-list_front : {h : ℕ} {b : List RawStmt} {xs ys : Symbols} → Body of_program h xs b ys → FrontAt h xs ys
+list_front : {h : ℕ} {b : List RawStmt} {xs ys : Symbols} → Body of_program h xs b ys → FrontAt h xs (here ys)
 list_front {h} {b} {xs} {ys} x = let m = body_moves x in record {
   before = m.front.before;
   is = sym m.front.is ∙ m.front.prefix ys;
@@ -147,12 +177,12 @@ list_front {h} {b} {xs} {ys} x = let m = body_moves x in record {
   unclosed = open_part m.front.before brace (subst (λ z. Open z) (m.front.prefix brace) (body_open (m.holds brace (moves.free refl))));
 }
 
-end_fails : {b : ℕ} {P : ℕ → Symbols → Type 0} (xs : Symbols) (j : ℕ) → j < b → P j xs → Fails b P (s.expect_end xs)
+end_fails : {b : ℕ} {P : ℕ → Spot → Type 0} (xs : Symbols) (j : ℕ) → j < b → P j (here xs) → Fails b P (s.expect_end xs)
 unfolding r.expect_end
-end_fails xs j lt h = fails_choice (is_end (look xs).kind) (λ _. fine) (λ _. fails_here r.a_token xs j lt h)
+end_fails xs j lt h = fails_choice (is_end (look xs).kind) (λ _. fine) (λ _. fails_here xs j lt h)
 
 -- Where it stops, the symbols before are a front; at the depth they are one within the depth, and one with the next token.
-pub program_fails : (n d : ℕ) (xs : Symbols) → reals xs < n → Fails (suc d) (λ j i. FrontAt j xs i) (read_symbols n d xs)
+pub program_fails : (n d : ℕ) (xs : Symbols) → reals xs < n → Fails (suc d) (FrontOf xs) (read_symbols n d xs)
 unfolding read_symbols r.program
 program_fails n d xs ln = fails_after (list_sound (suc d) n (s.reader n d) (reader_sound n d) of_program n [] 0 xs (omega arith))
     (fails_map (λ j. j) (λ j l. l) (λ j i w. ended_front w) (statements_fail (suc d) n (s.reader n d) (reader_sound n d) (reader_fails n d) of_program xs (omega arith) ln))

@@ -31,48 +31,67 @@ use Rattle.cc_grammar.proofs.SoundJumps.{Blocked, block_in_sound, catch_sound, f
 use Rattle.cc_grammar.proofs.Moves.{Front, stays, joined, Fits, look_kept, kept_fits, no_tail}
 use Rattle.cc_grammar.proofs.Moves as moves
 use Rattle.cc_grammar.proofs.MovesDerived.{e_moves, t_moves, declarators_move, catch_moves}
-use Rattle.cc_grammar.proofs.Fails.{token, new_at, taken, again, variable_taken, variable_again, First, same, fresh, Begun, EE, TT, no_e, no_t, Fails, fine, stop, deep, at_is, fails_after, fails_map, fails_fork, fails_choice, fails_here, expect_fails, expect_word_fails, variable_fails, deeper_fails, FailsInner}
+use Rattle.cc_grammar.proofs.Fails.{token, new_at, taken, again, variable_taken, variable_again, First, same, fresh, Spot, here, due, left, put, Begun, EE, TT, no_e, no_t, Fails, fine, stop, deep, at_is, fails_after, fails_map, fails_fork, fails_choice, fails_here, expect_fails, expect_word_fails, variable_fails, deeper_fails, FailsInner}
 use Rattle.cc_grammar.proofs.FrontsLists.{CC, no_body, body_fails, UU, no_function, function_fails}
 use Rattle.cc_grammar.proofs.FrontsPrimary.{whole_e, callee_fails}
 use Rattle.cc_grammar.proofs.FrontsExpressions.{expr_fails, after_head_fails}
-use Rattle.cc_grammar.proofs.FrontsClauses.{semicolon_fails, end_now, fits_first, Started, none, some, started, DS, no_declarators, declarators_fail, HH, no_head, head_fails, head_moves, head_less, KK, all_clauses_fail, XX, no_block, block_in_fails, GG, finally_fails, CA, catch_fails}
+use Rattle.cc_grammar.proofs.FrontsClauses.{semicolon_fails, end_now, fits_first, Started, none, some, started, DS, no_declarators, declarators_fail, HH, no_head, head_fails, head_moves, head_less, KK, all_clauses_fail, no_block, block_in_fails, GG, finally_fails, CA, catch_fails}
 use Rattle.cc_grammar.proofs.FrontsFor.{for_head_fails}
 use Rattle.cc_grammar.proofs.OnSymbols as s
 
 -- ---- expression statements
 
-pub simple_begun : (c : Context) {j : ℕ} {xs i : Symbols} → opens_no_expression (look xs).kind ≡ false → Begun (EE j true 0) xs i → Begun (TT c j) xs i
+-- nothing has come, but perhaps a part is due
+from_nothing : (c : Context) {j : ℕ} {xs : Symbols} {i : Spot} (w : Begun (EE j true 0) xs i) → ((zs : Symbols) → w.front.go zs ≡ zs) → Begun (TT c j) xs i
+from_nothing c {j} {i = here ys} w u = record {
+  front = w.front;
+  more = λ zs. real (token (k.due k.statement)) ∷ zs;
+  tree = [];
+  holds = λ zs _. subst (λ l. T c j l [] zs) (sym (u _)) (g.any_statement (new_at (k.due k.statement)));
+  first = λ zs. fresh (ap (λ l. is_tail (look l).kind) (u _));
+}
+from_nothing c {j} {i = due p ys} w u = record {
+  front = w.front;
+  more = λ zs. w.more (real (token (k.mark mark.Semicolon)) ∷ zs);
+  tree = raw.simple (look ys).place w.tree ∷ [];
+  holds = λ zs _. subst (λ (z : Lexeme). T c j (w.front.go (put (due p ys) (w.more (real (token (k.mark mark.Semicolon)) ∷ zs)))) (raw.simple z.place w.tree ∷ []) zs) (ap look (u _))
+      (g.simple (ap (λ l. opens_no_expression (look l).kind) (u _)) (w.holds _) end_now);
+  first = λ zs. fresh (ap (λ l. is_tail (look l).kind) (u _));
+}
+
+pub simple_begun : (c : Context) {j : ℕ} {xs : Symbols} {i : Spot} → opens_no_expression (look xs).kind ≡ false → Begun (EE j true 0) xs i → Begun (TT c j) xs i
 simple_begun c {j} {xs} {i} b w = by (started w.front) where
   by : Started w.front → Begun (TT c j) xs i
-  by (none q) = subst (λ z. Begun (TT c j) xs z) q (no_t xs c j)
+  by (none q u) = from_nothing c w u
   by (some kept) = record {
     front = w.front;
     more = λ zs. w.more (real (token (k.mark mark.Semicolon)) ∷ zs);
     tree = raw.simple (look xs).place w.tree ∷ [];
-    holds = λ zs _. subst (λ (z : Lexeme). T c j (w.front.go (w.more (real (token (k.mark mark.Semicolon)) ∷ zs))) (raw.simple z.place w.tree ∷ []) zs) (kept _)
+    holds = λ zs _. subst (λ (z : Lexeme). T c j (w.front.go (put i (w.more (real (token (k.mark mark.Semicolon)) ∷ zs)))) (raw.simple z.place w.tree ∷ []) zs) (kept _)
         (g.simple (ap (λ z. opens_no_expression z.kind) (kept _) ∙ b) (w.holds _) end_now);
     first = λ zs. w.first _;
   }
 
 -- An expression that has begun, behind a token that allows no line end.
-pub record OnLine (j : ℕ) (xs i : Symbols) : Type 0 where
+pub record OnLine (j : ℕ) (xs : Symbols) (i : Spot) : Type 0 where
   pub begun : Begun (EE j true 0) xs i
-  pub line : (zs : Symbols) → (look (begun.front.go (begun.more zs))).after_line ≡ false
+  pub line : (zs : Symbols) → (look (begun.front.go (put i (begun.more zs)))).after_line ≡ false
 
-pub on_line : {j : ℕ} {xs i : Symbols} → (look xs).after_line ≡ false → Begun (EE j true 0) xs i → OnLine j xs i
-on_line {j} {xs} {i} e w = by (started w.front) where
-  by : Started w.front → OnLine j xs i
-  by (none q) = subst (λ z. OnLine j xs z) q (record {
+pub on_line : {j : ℕ} {xs : Symbols} {i : Spot} → (look xs).after_line ≡ false → Begun (EE j true 0) xs i → OnLine j xs i
+on_line {j} {xs} {i} e w = by i w (started w.front) where
+  by : (i : Spot) (w : Begun (EE j true 0) xs i) → Started w.front → OnLine j xs i
+  by i w (some kept) = record { begun = w; line = λ zs. ap (λ z. z.after_line) (kept (put i (w.more zs))) ∙ e }
+  by (due p ys) w (none q u) = record { begun = w; line = λ zs. ap (λ l. (look l).after_line) (u _) ∙ ap (λ l. (look l).after_line) (sym q) ∙ e }
+  by (here ys) w (none q u) = record {
     begun = record {
-      front = stays xs;
+      front = w.front;
       more = λ zs. real (token (k.due k.operand)) ∷ zs;
       tree = raw.lit nowhere undefined;
-      holds = λ zs. g.operand (new_at (k.due k.operand));
-      first = λ zs. fresh (k.due k.operand) refl refl;
+      holds = λ zs. subst (λ l. E j true 0 l (raw.lit nowhere undefined) zs) (sym (u _)) (g.operand (new_at (k.due k.operand)));
+      first = λ zs. fresh (ap (λ l. is_tail (look l).kind) (u _));
     };
-    line = λ zs. refl;
-  })
-  by (some kept) = record { begun = w; line = λ zs. ap (λ z. z.after_line) (kept (w.more zs)) ∙ e }
+    line = λ zs. ap (λ l. (look l).after_line) (u _);
+  }
 
 no_else : (x : Kind) → is_tail x ≡ false → is_word word.Else x ≡ false
 no_else x e = no_tail word.Else x refl e
@@ -86,20 +105,20 @@ first_label [] e = let no : false ≡ true = e in absurd (cc)
 first_label (l ∷ ls) e = (l, ap (λ b. b || is_among l ls) ((bytes_eq-Decides l l).1 refl))
 
 module _ (d n : ℕ) (inner : In) (sound : SoundInner d inner) (all : FailsInner d n inner) where
-  abbrev pub ST : Context → Symbols → ℕ → Symbols → Type 0
+  abbrev pub ST : Context → Symbols → ℕ → Spot → Type 0
   ST c xs j i = Begun (TT c j) xs i
 
-  pub simple_fails : (c : Context) (xs : Symbols) (p : Place) (x : Sized RawExpr) (ys : Symbols) → x.1 ≤ d → opens_no_expression (look xs).kind ≡ false → E x.1 true 0 xs x.0 ys → Fails (suc d) (ST c xs) (s.simple d n inner p x ys)
-  simple_fails c xs p x ys low b t = fails_after (ended ys) (semicolon_fails ys x.1 (omega arith) (simple_begun c b (whole_e t))) (λ _ zs q. fine)
+  pub simple_fails : (c : Context) (xs : Symbols) (p : Place) (x : Sized RawExpr) (ys : Symbols) → opens_no_expression (look xs).kind ≡ false → E x.1 true 0 xs x.0 ys → x.1 ≤ d → Fails (suc d) (ST c xs) (s.simple d n inner p x ys)
+  simple_fails c xs p x ys b t le = fails_after (ended ys) (semicolon_fails ys x.1 (omega arith) (simple_begun c b (whole_e t))) (λ _ zs q. fine)
 
   pub plain_fails : (c : Context) (xs : Symbols) → reals xs < n → opens_no_expression (look xs).kind ≡ false → Fails (suc d) (ST c xs) (s.plain d n inner xs)
   unfolding r.plain
   plain_fails c xs ln b = fails_after (expr_sound d n inner sound true 0 xs (omega arith)) (fails_map (λ j. j) (λ j l. l) (λ j i w. simple_begun c b w) (expr_fails d n inner sound all true 0 xs ln (omega arith)))
-      (λ x ys p. simple_fails c xs (look xs).place x ys p.whole.low b p.whole.tree)
+      (λ x ys p. simple_fails c xs (look xs).place x ys b p.whole.tree p.whole.low)
 
   -- ---- variables, blocks and functions
 
-  vars_begun : (c : Context) (j : ℕ) {xs ys i : Symbols} → Reserved word.Var xs ys → Begun (DS true j) ys i → ST c xs j i
+  vars_begun : (c : Context) (j : ℕ) {xs ys : Symbols} {i : Spot} → Reserved word.Var xs ys → Begun (DS true j) ys i → ST c xs j i
   vars_begun c j {xs} o w = record {
     front = joined (taken o) w.front;
     more = λ zs. w.more (real (token (k.mark mark.Semicolon)) ∷ zs);
@@ -122,14 +141,14 @@ module _ (d n : ℕ) (inner : In) (sound : SoundInner d inner) (all : FailsInner
         first = λ zs. same refl;
       })) (λ _ zs q. fine))
 
-  pub block_begun : (c : Context) (j : ℕ) {xs ys i : Symbols} → Sign mark.OpenBrace xs ys → Begun (CC (inside c) j) ys i → ST c xs (suc j) i
+  pub block_begun : (c : Context) (j : ℕ) {xs ys : Symbols} {i : Spot} → Sign mark.OpenBrace xs ys → Begun (CC (inside c) j) ys i → ST c xs (suc j) i
   block_begun c j o w = record { front = joined (taken o) w.front; more = w.more; tree = w.tree; holds = λ zs _. g.block (omega arith) (again o _) (w.holds zs).body (w.holds zs).close; first = λ zs. same refl }
 
   pub block_fails : (c : Context) (xs : Symbols) → Sign mark.OpenBrace xs (rest xs) → 0 < d → reals xs < n → Fails (suc d) (ST c xs) (s.block d n inner c xs)
   unfolding r.block
   block_fails c xs o lt ln = fails_after (body_sound d n inner sound (inside c) (rest xs) lt) (fails_map suc (λ j l. omega arith) (λ j i w. block_begun c j o w) (body_fails d n inner sound all (inside c) (rest xs) lt (omega (arith, at_less o)))) (λ b ys p. fine)
 
-  declare_begun : (c : Context) (j : ℕ) {v : List ℕ} {xs ys zs i : Symbols} → c.declares ≡ true → Reserved word.Function xs ys → Variable ys v zs → Begun (UU j) zs i → ST c xs (suc j) i
+  declare_begun : (c : Context) (j : ℕ) {v : List ℕ} {xs ys zs : Symbols} {i : Spot} → c.declares ≡ true → Reserved word.Function xs ys → Variable ys v zs → Begun (UU j) zs i → ST c xs (suc j) i
   declare_begun c j {v} {xs} {ys} a o q w = record {
     front = joined (taken o) (joined (variable_taken q) w.front);
     more = w.more;
@@ -138,7 +157,7 @@ module _ (d n : ℕ) (inner : In) (sound : SoundInner d inner) (all : FailsInner
     first = λ zs. same refl;
   }
 
-  pub declare_word : (c : Context) {xs ys : Symbols} → c.declares ≡ true → Reserved word.Function xs ys → ST c xs 1 ys
+  pub declare_word : (c : Context) {xs ys : Symbols} → c.declares ≡ true → Reserved word.Function xs ys → ST c xs 1 (here ys)
   declare_word c {xs} a o = record {
     front = taken o;
     more = λ zs. real (token (k.due k.variable)) ∷ real (token (k.mark mark.OpenParen)) ∷ real (token (k.mark mark.CloseParen)) ∷ real (token (k.mark mark.OpenBrace)) ∷ real (token (k.mark mark.CloseBrace)) ∷ zs;
@@ -147,14 +166,24 @@ module _ (d n : ℕ) (inner : In) (sound : SoundInner d inner) (all : FailsInner
     first = λ zs. same refl;
   }
 
+  -- whose name is due
+  declare_name : (c : Context) {xs ys : Symbols} → c.declares ≡ true → Reserved word.Function xs ys → ST c xs 1 (due k.variable ys)
+  declare_name c {xs} {ys} a o = record {
+    front = taken o;
+    more = λ zs. real (token (k.mark mark.OpenParen)) ∷ real (token (k.mark mark.CloseParen)) ∷ real (token (k.mark mark.OpenBrace)) ∷ real (token (k.mark mark.CloseBrace)) ∷ zs;
+    tree = raw.fun_decl (look xs).place (record { place = (look ys).place; name = [] }) [] (stmts []) ∷ [];
+    holds = λ zs _. g.declare {h = 0} a (omega arith) (again o _) (g.any_variable (g.at_token _ refl)) (g.function_body (new_at (k.mark mark.OpenParen)) (g.no_params (new_at (k.mark mark.CloseParen))) (new_at (k.mark mark.OpenBrace)) g.done (new_at (k.mark mark.CloseBrace)));
+    first = λ zs. same refl;
+  }
+
   pub declaration_fails : (c : Context) (xs : Symbols) → c.declares ≡ true → Reserved word.Function xs (rest xs) → 0 < d → reals xs < n → Fails (suc d) (ST c xs) (s.declaration d n inner xs)
   unfolding r.declaration
-  declaration_fails c xs a o lt ln = fails_after (read_variable (rest xs)) (variable_fails (rest xs) 1 (omega arith) (declare_word c a o)) (λ v ys q.
+  declaration_fails c xs a o lt ln = fails_after (read_variable (rest xs)) (variable_fails (rest xs) 1 (omega arith) (declare_word c a o) (declare_name c a o)) (λ v ys q.
       fails_after (function_sound d n inner sound ys lt) (fails_map suc (λ j l. omega arith) (λ j i w. declare_begun c j a o q.0 w) (function_fails d n inner sound all ys lt (omega (arith, at_less o, variable_less q.0)))) (λ f zs p. fine))
 
   -- ---- `if`
 
-  pub condition_begun : (c : Context) (j : ℕ) {xs ys i : Symbols} → Reserved word.If xs ys → Begun (HH j) ys i → ST c xs (suc (max j 0)) i
+  pub condition_begun : (c : Context) (j : ℕ) {xs ys : Symbols} {i : Spot} → Reserved word.If xs ys → Begun (HH j) ys i → ST c xs (suc (max j 0)) i
   condition_begun c j {xs} o w = record {
     front = joined (taken o) w.front;
     more = λ zs. w.more (real (token (k.due k.statement)) ∷ zs);
@@ -163,23 +192,23 @@ module _ (d n : ℕ) (inner : In) (sound : SoundInner d inner) (all : FailsInner
     first = λ zs. same refl;
   }
 
-  then_begun : (c : Context) {x : Sized RawExpr} (j : ℕ) {xs ys zs i : Symbols} → Reserved word.If xs ys → InParens d n inner sound ys x zs → Begun (TT (inside c) j) zs i → ST c xs (suc (max x.1 j)) i
-  then_begun c {x} j {xs} o p w = let m = head_moves d n inner sound all p in record {
+  then_begun : (c : Context) {x : Sized RawExpr} (j : ℕ) {xs ys zs : Symbols} {i : Spot} → Reserved word.If xs ys → InParens d n inner sound ys x zs → Begun (TT (inside c) j) zs i → ST c xs (suc (max x.1 j)) i
+  then_begun c {x} j {xs} {i} o p w = let m = head_moves d n inner sound all p in record {
     front = joined (taken o) (joined m.front w.front);
     more = w.more;
     tree = raw.if (look xs).place x.0 (stmts w.tree) raw.no_stmts ∷ [];
-    holds = λ zs f. let h = m.holds (w.front.go (w.more zs)) in g.if_only (omega arith) (omega arith) (again o _) h.opening h.tree h.closing (w.holds zs f) (no_else (look zs).kind f);
+    holds = λ zs f. let h = m.holds (w.front.go (put i (w.more zs))) in g.if_only (omega arith) (omega arith) (again o _) h.opening h.tree h.closing (w.holds zs f) (no_else (look zs).kind f);
     first = λ zs. same refl;
   }
 
-  else_begun : (c : Context) {x : Sized RawExpr} {a : Sized (List RawStmt)} (j : ℕ) {xs ys zs us vs i : Symbols} → Reserved word.If xs ys → InParens d n inner sound ys x zs → T (inside c) a.1 zs a.0 us → Reserved word.Else us vs → Begun (TT (inside c) j) vs i
+  else_begun : (c : Context) {x : Sized RawExpr} {a : Sized (List RawStmt)} (j : ℕ) {xs ys zs us vs : Symbols} {i : Spot} → Reserved word.If xs ys → InParens d n inner sound ys x zs → T (inside c) a.1 zs a.0 us → Reserved word.Else us vs → Begun (TT (inside c) j) vs i
       → ST c xs (suc (max x.1 (max a.1 j))) i
-  else_begun c {x} {a} j {xs} {us} o p t u w = let m = head_moves d n inner sound all p in let v = t_moves t in
+  else_begun c {x} {a} j {xs} {us} {i} o p t u w = let m = head_moves d n inner sound all p in let v = t_moves t in
       record {
         front = joined (taken o) (joined m.front (joined v.front (joined (taken u) w.front)));
         more = w.more;
         tree = raw.if (look xs).place x.0 (stmts a.0) (stmts w.tree) ∷ [];
-        holds = λ zs f. let h = m.holds (v.front.go (real (look us) ∷ w.front.go (w.more zs))) in g.if_else (omega arith) (omega arith) (omega arith) (again o _) h.opening h.tree h.closing (v.holds _ (moves.same refl)) (again u _) (w.holds zs f);
+        holds = λ zs f. let h = m.holds (v.front.go (real (look us) ∷ w.front.go (put i (w.more zs)))) in g.if_else (omega arith) (omega arith) (omega arith) (again o _) h.opening h.tree h.closing (v.holds _ (moves.same refl)) (again u _) (w.holds zs f);
         first = λ zs. same refl;
       }
 
@@ -194,7 +223,7 @@ module _ (d n : ℕ) (inner : In) (sound : SoundInner d inner) (all : FailsInner
 
   -- ---- loops
 
-  pub loop_begun : (c : Context) (j : ℕ) {xs ys i : Symbols} → Reserved word.While xs ys → Begun (HH j) ys i → ST c xs (suc (max j 0)) i
+  pub loop_begun : (c : Context) (j : ℕ) {xs ys : Symbols} {i : Spot} → Reserved word.While xs ys → Begun (HH j) ys i → ST c xs (suc (max j 0)) i
   loop_begun c j {xs} o w = record {
     front = joined (taken o) w.front;
     more = λ zs. w.more (real (token (k.due k.statement)) ∷ zs);
@@ -203,12 +232,12 @@ module _ (d n : ℕ) (inner : In) (sound : SoundInner d inner) (all : FailsInner
     first = λ zs. same refl;
   }
 
-  while_begun : (c : Context) {x : Sized RawExpr} (j : ℕ) {xs ys zs i : Symbols} → Reserved word.While xs ys → InParens d n inner sound ys x zs → Begun (TT (in_loop c) j) zs i → ST c xs (suc (max x.1 j)) i
-  while_begun c {x} j {xs} o p w = let m = head_moves d n inner sound all p in record {
+  while_begun : (c : Context) {x : Sized RawExpr} (j : ℕ) {xs ys zs : Symbols} {i : Spot} → Reserved word.While xs ys → InParens d n inner sound ys x zs → Begun (TT (in_loop c) j) zs i → ST c xs (suc (max x.1 j)) i
+  while_begun c {x} j {xs} {i} o p w = let m = head_moves d n inner sound all p in record {
     front = joined (taken o) (joined m.front w.front);
     more = w.more;
     tree = raw.while (look xs).place x.0 (stmts w.tree) ∷ [];
-    holds = λ zs f. let h = m.holds (w.front.go (w.more zs)) in g.while (omega arith) (omega arith) (again o _) h.opening h.tree h.closing (w.holds zs f);
+    holds = λ zs f. let h = m.holds (w.front.go (put i (w.more zs))) in g.while (omega arith) (omega arith) (again o _) h.opening h.tree h.closing (w.holds zs f);
     first = λ zs. same refl;
   }
 
@@ -217,7 +246,7 @@ module _ (d n : ℕ) (inner : In) (sound : SoundInner d inner) (all : FailsInner
   while_fails c xs o lt ln = fails_after (head_sound d n inner sound (rest xs)) (fails_map (λ j. suc (max j 0)) (λ j l. omega arith) (λ j i w. loop_begun c j o w) (head_fails d n inner sound all (rest xs) lt (omega (arith, at_less o)))) (λ x ys p.
       fails_after (sound.stmt (in_loop c) ys) (fails_map (λ j. suc (max x.1 j)) (λ j l. omega (arith, p.low)) (λ j i w. while_begun c j o p w) (all.stmt lt (in_loop c) ys (omega (arith, at_less o, head_less d n inner sound all p)))) (λ b zs q. fine))
 
-  pub do_begun : (c : Context) (j : ℕ) {xs ys i : Symbols} → Reserved word.Do xs ys → Begun (TT (in_loop c) j) ys i → ST c xs (suc (max j 0)) i
+  pub do_begun : (c : Context) (j : ℕ) {xs ys : Symbols} {i : Spot} → Reserved word.Do xs ys → Begun (TT (in_loop c) j) ys i → ST c xs (suc (max j 0)) i
   do_begun c j {xs} o w = record {
     front = joined (taken o) w.front;
     more = λ zs. w.more (real (token (k.word word.While)) ∷ real (token (k.mark mark.OpenParen)) ∷ real (token (k.due k.operand)) ∷ real (token (k.mark mark.CloseParen)) ∷ real (token (k.mark mark.Semicolon)) ∷ zs);
@@ -226,7 +255,7 @@ module _ (d n : ℕ) (inner : In) (sound : SoundInner d inner) (all : FailsInner
     first = λ zs. same refl;
   }
 
-  done_begun : (c : Context) {b : Sized (List RawStmt)} {xs ys zs : Symbols} → Reserved word.Do xs ys → T (in_loop c) b.1 ys b.0 zs → ST c xs (suc (max b.1 0)) zs
+  done_begun : (c : Context) {b : Sized (List RawStmt)} {xs ys zs : Symbols} → Reserved word.Do xs ys → T (in_loop c) b.1 ys b.0 zs → ST c xs (suc (max b.1 0)) (here zs)
   done_begun c {b} {xs} o t = let m = t_moves t in record {
     front = joined (taken o) m.front;
     more = λ zs. real (token (k.word word.While)) ∷ real (token (k.mark mark.OpenParen)) ∷ real (token (k.due k.operand)) ∷ real (token (k.mark mark.CloseParen)) ∷ real (token (k.mark mark.Semicolon)) ∷ zs;
@@ -235,7 +264,7 @@ module _ (d n : ℕ) (inner : In) (sound : SoundInner d inner) (all : FailsInner
     first = λ zs. same refl;
   }
 
-  until_begun : (c : Context) {b : Sized (List RawStmt)} (j : ℕ) {xs ys zs us i : Symbols} → Reserved word.Do xs ys → T (in_loop c) b.1 ys b.0 zs → Reserved word.While zs us → Begun (HH j) us i → ST c xs (suc (max b.1 j)) i
+  until_begun : (c : Context) {b : Sized (List RawStmt)} (j : ℕ) {xs ys zs us : Symbols} {i : Spot} → Reserved word.Do xs ys → T (in_loop c) b.1 ys b.0 zs → Reserved word.While zs us → Begun (HH j) us i → ST c xs (suc (max b.1 j)) i
   until_begun c {b} j {xs} o t u w = let m = t_moves t in record {
     front = joined (taken o) (joined m.front (joined (taken u) w.front));
     more = λ zs. w.more (real (token (k.mark mark.Semicolon)) ∷ zs);
@@ -258,7 +287,7 @@ module _ (d n : ℕ) (inner : In) (sound : SoundInner d inner) (all : FailsInner
         first = λ zs. same refl;
       })) (λ _ ws e. fine))))
 
-  pub for_open : (c : Context) {xs ys : Symbols} → Reserved word.For xs ys → ST c xs 1 ys
+  pub for_open : (c : Context) {xs ys : Symbols} → Reserved word.For xs ys → ST c xs 1 (here ys)
   for_open c {xs} o = record {
     front = taken o;
     more = λ zs. real (token (k.mark mark.OpenParen)) ∷ real (token (k.mark mark.Semicolon)) ∷ real (token (k.mark mark.Semicolon)) ∷ real (token (k.mark mark.CloseParen)) ∷ real (token (k.due k.statement)) ∷ zs;
@@ -273,7 +302,7 @@ module _ (d n : ℕ) (inner : In) (sound : SoundInner d inner) (all : FailsInner
 
   -- ---- `switch`
 
-  pub switch_begun : (c : Context) (j : ℕ) {xs ys i : Symbols} → Reserved word.Switch xs ys → Begun (HH j) ys i → ST c xs (suc (max j 0)) i
+  pub switch_begun : (c : Context) (j : ℕ) {xs ys : Symbols} {i : Spot} → Reserved word.Switch xs ys → Begun (HH j) ys i → ST c xs (suc (max j 0)) i
   switch_begun c j {xs} o w = record {
     front = joined (taken o) w.front;
     more = λ zs. w.more (real (token (k.mark mark.OpenBrace)) ∷ real (token (k.mark mark.CloseBrace)) ∷ zs);
@@ -283,7 +312,7 @@ module _ (d n : ℕ) (inner : In) (sound : SoundInner d inner) (all : FailsInner
     first = λ zs. same refl;
   }
 
-  subject_begun : (c : Context) {x : Sized RawExpr} {xs ys zs : Symbols} → Reserved word.Switch xs ys → InParens d n inner sound ys x zs → ST c xs (suc (max x.1 0)) zs
+  subject_begun : (c : Context) {x : Sized RawExpr} {xs ys zs : Symbols} → Reserved word.Switch xs ys → InParens d n inner sound ys x zs → ST c xs (suc (max x.1 0)) (here zs)
   subject_begun c {x} {xs} o p = let m = head_moves d n inner sound all p in record {
     front = joined (taken o) m.front;
     more = λ zs. real (token (k.mark mark.OpenBrace)) ∷ real (token (k.mark mark.CloseBrace)) ∷ zs;
@@ -293,12 +322,12 @@ module _ (d n : ℕ) (inner : In) (sound : SoundInner d inner) (all : FailsInner
     first = λ zs. same refl;
   }
 
-  cases_begun : (c : Context) {x : Sized RawExpr} (j : ℕ) {xs ys zs us i : Symbols} → Reserved word.Switch xs ys → InParens d n inner sound ys x zs → Sign mark.OpenBrace zs us → Begun (KK (in_switch c) j false) us i → ST c xs (suc (max x.1 j)) i
-  cases_begun c {x} j {xs} {zs = ws} o p q w = let m = head_moves d n inner sound all p in record {
+  cases_begun : (c : Context) {x : Sized RawExpr} (j : ℕ) {xs ys zs us : Symbols} {i : Spot} → Reserved word.Switch xs ys → InParens d n inner sound ys x zs → Sign mark.OpenBrace zs us → Begun (KK (in_switch c) j false) us i → ST c xs (suc (max x.1 j)) i
+  cases_begun c {x} j {xs} {zs = ws} {i} o p q w = let m = head_moves d n inner sound all p in record {
     front = joined (taken o) (joined m.front (joined (taken q) w.front));
     more = w.more;
     tree = raw.switch (look xs).place x.0 (cases w.tree) ∷ [];
-    holds = λ zs f. let h = m.holds (real (look ws) ∷ w.front.go (w.more zs)) in g.switch (omega arith) (omega arith) (again o _) h.opening h.tree h.closing (again q _) (w.holds zs);
+    holds = λ zs f. let h = m.holds (real (look ws) ∷ w.front.go (put i (w.more zs))) in g.switch (omega arith) (omega arith) (again o _) h.opening h.tree h.closing (again q _) (w.holds zs);
     first = λ zs. same refl;
   }
 

@@ -2,6 +2,7 @@
 use Rattle.std.specs.Prelude.{◌≡◌, ℕ, suc, ◌+◌, ◌<◌, ◌≤◌, max, Bool, true, false, List, [], ◌∷◌, ◌++◌, map, length, Ok, Err, ◌⊎◌}
 use Rattle.std.proofs.Common.{refl, sym, ap, ◌∙◌, subst, arith, append_assoc, append-nil, inl, inr}
 use Rattle.std.proofs.lemmas.List.{append_cancel_right}
+use Rattle.cc_ast.specs.declared.reading.Construct.TheVariants as construct
 use Rattle.cc_lexer.specs.declared.token.Mark.TheVariants as mark
 use Rattle.cc_grammar.specs.Symbols.{Kind, Lexeme, Symbol, Symbols, real, inserted, look, lexemes_of, is_mark}
 use Rattle.cc_grammar.specs.RawTree.{RawStmt}
@@ -15,8 +16,8 @@ use Rattle.cc_grammar.proofs.Complete.{program_read}
 use Rattle.cc_grammar.proofs.Alike.{is_limit, is_spent}
 use Rattle.cc_grammar.proofs.NoFront.{no_front, unread_there}
 use Rattle.cc_grammar.proofs.Mono.{higher_body}
-use Rattle.cc_grammar.proofs.Fails.{Fails, fine, stop, deep, is_deletion}
-use Rattle.cc_grammar.proofs.FrontsProgram.{FrontAt, Open, program_fails}
+use Rattle.cc_grammar.proofs.Fails.{Why, Fails, fine, stop, deep, here}
+use Rattle.cc_grammar.proofs.FrontsProgram.{FrontAt, FrontOf, Open, program_fails}
 use Rattle.cc_grammar.proofs.Paired.{is_fresh, Begun, Paired, end_ready, body_ready}
 use Rattle.cc_grammar.proofs.Copies.{L, Copy, end, take, insert, put, put_lexemes, lexemes_real, look_real, Each, each_map, StopsAt, Just, Shut, Bar, Copies, read, Quiet}
 use Rattle.cc_grammar.proofs.Copies as copies
@@ -25,6 +26,11 @@ use Rattle.cc_grammar.proofs.SoundTokens.{begun_behind, no_limit}
 use Rattle.cc_grammar.proofs.TokenFronts.{tail_is, head_is, same_head, same_tail, nothing_some, lexemes_append, put_front, shorter, first_token, higher_within, justified_before}
 
 -- ---- what is known of the symbols before a stop
+
+-- a deleted variable, behind which the front may be higher
+abbrev pub is_deletion : Cause → Bool
+is_deletion (refused construct.DeleteName) = true
+is_deletion _ = false
 
 -- They are a front within the depth, but where a variable is deleted perhaps a higher one. At the depth they are one with the next token.
 pub record Stopped (d : ℕ) (c : Fault) (p : Symbols) (us : L) : Type 0 where
@@ -35,6 +41,7 @@ pub record Stopped (d : ℕ) (c : Fault) (p : Symbols) (us : L) : Type 0 where
   pub placed_deep : is_limit c.cause ≡ true → c.place ≡ (look_token us).place
   pub within : is_deletion c.cause ≡ false → IsFrontWithin d p
   pub deeper : is_limit c.cause ≡ true → (t : Lexeme) (vs : L) → us ≡ t ∷ vs → IsFront (p ++ real t ∷ [])
+  pub why : is_limit c.cause ≡ false → Why (FrontOf (p ++ map real us)) c (map real us)
 
 clash : true ≡ false → ⊥
 clash e = cc
@@ -50,12 +57,16 @@ record FrontIs (j : ℕ) (p : Symbols) : Type 0 where
   within : IsFrontWithin j p
   unclosed : Open p
 
-front_at : {j : ℕ} {xs i : Symbols} (p : Symbols) → xs ≡ p ++ i → FrontAt j xs i → FrontIs j p
+front_at : {j : ℕ} {xs i : Symbols} (p : Symbols) → xs ≡ p ++ i → FrontAt j xs (here i) → FrontIs j p
 front_at {j} {i} p e f = subst (λ z. FrontIs j z) (append_cancel_right f.before p i (sym f.is ∙ e)) (record { within = f.front; unclosed = f.unclosed })
 
-pub stopped : {d : ℕ} {c : Fault} {xs : Symbols} (p : Symbols) (us : L) {o : Outcome Symbols (Sized (List RawStmt))} → xs ≡ p ++ map real us → Fails (suc d) (λ j i. FrontAt j xs i) o → o ≡ Err (c, map real us) → Stopped d c p us
+low_front : {d j : ℕ} {p : Symbols} {c : Cause} → IsFrontWithin j p → is_deletion c ≡ false → (j < suc d) ⊎ (c ≡ refused construct.DeleteName) → IsFrontWithin d p
+low_front f m (inl lt) = higher_within (omega arith) f
+low_front f m (inr e) = absurd (clash (sym (ap is_deletion e) ∙ m))
+
+pub stopped : {d : ℕ} {c : Fault} {xs : Symbols} (p : Symbols) (us : L) {o : Outcome Symbols (Sized (List RawStmt))} → xs ≡ p ++ map real us → Fails (suc d) (FrontOf xs) o → o ≡ Err (c, map real us) → Stopped d c p us
 stopped p us e fine q = absurd (cc)
-stopped {c} p us e (stop {c = a} {i} l o j lt h) q =
+stopped {c} {xs} p us e (stop {c = a} {i} l o j lt w h) q =
     let pairs : ◌≡◌ {A = Fault × Symbols} (a, i) (c, map real us) = cc in
     let same : a ≡ c = ap (λ (z : Fault × Symbols). z.0) pairs in
     let place : i ≡ map real us = ap (λ (z : Fault × Symbols). z.1) pairs in
@@ -67,8 +78,11 @@ stopped {c} p us e (stop {c = a} {i} l o j lt h) q =
       unspent = ap (λ (z : Fault). is_spent z.cause) (sym same) ∙ not_spent a.cause l;
       placed = λ m. ap (λ (z : Fault). z.place) (sym same) ∙ o (ap (λ (z : Fault). z.cause) same ∙ m) ∙ ap (λ z. (look z).place) place ∙ ap (λ z. z.place) (look_real us);
       placed_deep = λ m. absurd (limited m);
-      within = λ m. higher_within (omega (arith, lt (ap (λ (z : Fault). is_deletion z.cause) same ∙ m))) f.within;
+      within = λ m. low_front f.within (ap (λ (z : Fault). is_deletion z.cause) same ∙ m) lt;
       deeper = λ m t vs f. absurd (limited m);
+      why = λ _. let y = subst (λ z. Why (FrontOf z) a i) e w in
+          let z = let P : Fault → Type 0 = λ x. Why (FrontOf (p ++ map real us)) x i in subst P same y in
+          let P : Symbols → Type 0 = λ x. Why (FrontOf (p ++ map real us)) c x in subst P place z;
     }
 stopped {d} {c} {xs} p us e (deep {c = a} {i} {ys} m o j lt h t s u w) q =
     let pairs : ◌≡◌ {A = Fault × Symbols} (a, i) (c, map real us) = cc in
@@ -86,6 +100,7 @@ stopped {d} {c} {xs} p us e (deep {c = a} {i} {ys} m o j lt h t s u w) q =
       deeper = λ _ v vs f. let both : real t ∷ ys ≡ real v ∷ map real vs = s ∙ place ∙ ap (λ (l : L). map real l) f in
           let token : real t ≡ real v = head_is (real t) (real v) ys (map real vs) both in
           record { height = u; within = (front_at (p ++ real v ∷ []) (e ∙ ap (λ l. p ++ l) (ap (λ (l : L). map real l) f ∙ ap (λ l. real v ∷ l) (sym (tail_is (real t) (real v) ys (map real vs) both))) ∙ sym (append_assoc p (real v ∷ []) ys)) w).within };
+      why = λ f. absurd (clash (ap is_limit (sym m) ∙ ap (λ (z : Fault). is_limit z.cause) same ∙ f));
     }
 
 -- ---- a text goes on there

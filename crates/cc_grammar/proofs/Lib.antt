@@ -39,6 +39,7 @@ pub mod AlikeStatements
 pub mod NoFront
 pub mod Moves
 pub mod MovesDerived
+pub mod Deletions
 pub mod Fails
 pub mod FrontsLists
 pub mod FrontsPrimary
@@ -64,4 +65,5 @@ pub mod SoundTokens
 pub mod TokenFronts
 pub mod Halts
 pub mod FirstFaults
+pub mod Refusals
 pub mod CompleteTokens

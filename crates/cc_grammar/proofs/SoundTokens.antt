@@ -54,7 +54,18 @@ begun_behind [] after p = p.0
 begun_behind (real t ∷ before) after p = begun_behind before after p.1
 begun_behind (inserted ∷ before) after p = begun_behind before after p.1
 
-shown_copy : {ts us : L} (c : Copy ts us) (xs after : Symbols) → look xs ≡ look_token us → after ≡ put c xs → Begun after → look after ≡ look_token ts
+-- a token stands first
+abbrev pub Led : Symbols → Type 0
+Led [] = ⊥
+Led (real t ∷ xs) = Unit {0}
+Led (inserted ∷ xs) = ⊥
+
+pub led : (xs : Symbols) → Begun xs → Led xs
+led [] b = b
+led (real t ∷ xs) b = tt
+led (inserted ∷ xs) b = b
+
+shown_copy : {ts us : L} (c : Copy ts us) (xs after : Symbols) → look xs ≡ look_token us → after ≡ put c xs → Led after → look after ≡ look_token ts
 shown_copy end xs after l e b = ap look e ∙ l
 shown_copy (take t c) xs after l e b = ap look e
 shown_copy (insert o c) xs [] l e b = absurd b
@@ -71,15 +82,19 @@ stopped : (turns d : ℕ) (before : Symbols) (t : Lexeme) (vs : L) → StopsAt (
 stopped turns d before t vs e = no_front turns d before (real t) (map real vs) (fault r.a_token t) (no_limit (refused_kind t.kind) None) e
 
 -- The insertions of the reader of tokens are justified.
-pub justified : (turns d : ℕ) {ts us : L} (w : Copy ts us) (xs : Symbols) → ((b a : Symbols) → xs ≡ b ++ (inserted ∷ a) → ⊥) → look xs ≡ look_token us → Just (read_symbols turns d) w → Paired (put w xs) → Justified (put w xs)
-justified turns d {us} w xs n l j p before after e = by after (at_insertion (StopsAt (read_symbols turns d)) w xs n j before after e) (begun_behind before after (subst (λ ys. Paired ys) e p)) where
+pub justified_by : (turns d : ℕ) {ts us : L} (w : Copy ts us) (xs : Symbols) → ((b a : Symbols) → xs ≡ b ++ (inserted ∷ a) → ⊥) → look xs ≡ look_token us → Just (read_symbols turns d) w
+    → ((b a : Symbols) → put w xs ≡ b ++ (inserted ∷ a) → Led a) → Justified (put w xs)
+justified_by turns d {us} w xs n l j p before after e = by after (at_insertion (StopsAt (read_symbols turns d)) w xs n j before after e) (p before after e) where
   offered : (tokens : L) (t : Lexeme) → t ≡ look_token tokens → offends (look_token tokens) ≡ true → StopsAt (read_symbols turns d) tokens (before ++ map real tokens) → (after : Symbols) → Offends before (real t ∷ after)
   offered [] t q o h after = absurd (cc)
   offered (u ∷ vs) t q o h after = subst (λ (s : Lexeme). Offends before (real s ∷ after)) (sym q) (offending u o (stopped turns d before u vs h))
-  by : (after : Symbols) → Inserted (StopsAt (read_symbols turns d)) before after us xs → Begun after → Offends before after
+  by : (after : Symbols) → Inserted (StopsAt (read_symbols turns d)) before after us xs → Led after → Offends before after
   by [] i b = absurd b
   by (inserted ∷ after) i b = absurd b
   by (real t ∷ after) i b = offered i.tokens t (shown_copy i.copy xs (real t ∷ after) l i.is b) i.offends_there i.holds after
+
+pub justified : (turns d : ℕ) {ts us : L} (w : Copy ts us) (xs : Symbols) → ((b a : Symbols) → xs ≡ b ++ (inserted ∷ a) → ⊥) → look xs ≡ look_token us → Just (read_symbols turns d) w → Paired (put w xs) → Justified (put w xs)
+justified turns d w xs n l j p = justified_by turns d w xs n l j (λ b a q. led a (begun_behind b a (subst (λ v. Paired v) q p)))
 
 -- the whole list
 ended_at : (d : ℕ) (xs : Symbols) (b : Sized (List RawStmt)) (ys : Symbols) (o : Outcome Symbols (Sized (List RawStmt))) → Done (λ b ys. Ended d xs b ys) o → o ≡ Ok (b, ys) → Ended d xs b ys

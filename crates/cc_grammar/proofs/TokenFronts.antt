@@ -63,12 +63,12 @@ higher_within {d} le f = record { more = f.more; tree = f.tree; derives = record
 
 -- ---- parts of justified lists
 
-abbrev Filled : Symbols → Type 0
+abbrev pub Filled : Symbols → Type 0
 Filled [] = ⊥
 Filled (m ∷ xs) = Unit {0}
 
 -- something stands behind each insertion
-abbrev Closed : Symbols → Type 0
+abbrev pub Closed : Symbols → Type 0
 Closed [] = Unit {0}
 Closed (real t ∷ xs) = Closed xs
 Closed (inserted ∷ xs) = Filled xs × Closed xs
@@ -83,7 +83,7 @@ offends_first h [] b e f = absurd f
 offends_first {before} (offending t o s) (real u ∷ after) b e f = subst (λ (w : Lexeme). Offends before (real w ∷ after)) (real_is t u (head_is _ _ _ _ e)) (offending t o s)
 offends_first (offending t o s) (inserted ∷ after) b e f = absurd (not_real t (head_is _ _ _ _ e))
 
-justified_part : (a b : Symbols) → Closed a → Justified (a ++ b) → Justified a
+pub justified_part : (a b : Symbols) → Closed a → Justified (a ++ b) → Justified a
 justified_part a b c j before after e =
     offends_first (j before (after ++ b) (ap (λ z. z ++ b) e ∙ append_assoc before (inserted ∷ after) b)) after b refl (filled_behind before after (subst (λ z. Closed z) e c))
 
