@@ -1,12 +1,11 @@
 -- Where reading stops, but not at a refused construct, the fault is there, and none of syntax or depth comes first.
-use Rattle.std.specs.Prelude.{◌≡◌, ℕ, zero, suc, ◌+◌, ◌<◌, ◌≤◌, Bool, true, false, List, [], ◌∷◌, ◌++◌, length, Err, ◌⊎◌}
+use Rattle.std.specs.Prelude.{◌≡◌, ℕ, ◌<◌, ◌≤◌, true, false, [], ◌∷◌, ◌++◌, length}
 use Rattle.std.proofs.Common.{refl, sym, ap, ◌∙◌, subst, arith, append_assoc, append-nil, length-append, inl, inr}
-use Rattle.cc_grammar.specs.Symbols.{Lexeme, Symbols, real, lexemes_of}
-use Rattle.cc_grammar.specs.RawTree.{RawStmt}
-use Rattle.cc_grammar.specs.Fronts.{Derives, IsFront, IsFrontWithin, Justified, ReadsWithin}
+use Rattle.cc_grammar.specs.Symbols.{Lexeme, real, lexemes_of}
+use Rattle.cc_grammar.specs.Fronts.{Derives, IsFrontWithin, Justified}
 use Rattle.cc_grammar.specs.Faults.{TokensFront, TokensFrontWithin, Splits, WrongAt, TooDeepAt, FaultAt, rank}
-use Rattle.cc_grammar.specs.Laws.{IsText, is_plain, FailsPlainly, IsFirstPlainFault, HasNoPlainFault}
-use Rattle.cc_grammar.specs.Reading.{Fault, Cause, syntax, depth, spent, refused, read_tokens}
+use Rattle.cc_grammar.specs.Laws.{is_plain, IsFirstPlainFault, HasNoPlainFault}
+use Rattle.cc_grammar.specs.Reading.{Fault, Cause, syntax, depth, spent, refused}
 use Rattle.cc_grammar.proofs.Mono.{higher_body}
 use Rattle.cc_grammar.proofs.Alike.{is_limit, is_spent}
 use Rattle.cc_grammar.proofs.Copies.{L}

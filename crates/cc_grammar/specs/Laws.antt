@@ -1,6 +1,5 @@
 -- The laws of the reading function.
-use Rattle.std.specs.Prelude.{◌≡◌, ℕ, ◌<◌, ◌≤◌, ◌+◌, ◌*◌, List, [], ◌∷◌, ◌++◌, length, Bool, true, false, Ok, Err}
-use Rattle.cc_ast.specs.declared.reading.Construct.{Construct}
+use Rattle.std.specs.Prelude.{◌≡◌, ℕ, ◌<◌, ◌≤◌, ◌*◌, List, [], ◌∷◌, length, Bool, true, false, Ok, Err}
 use Rattle.cc_grammar.specs.Symbols.{Kind, Lexeme}
 use Rattle.cc_grammar.specs.Symbols as k
 use Rattle.cc_grammar.specs.RawTree.{RawStmt, stmts}
