@@ -76,7 +76,7 @@ reading {turns} {d} {h} {ts} {b} text lt p le q (copy.stop {c} {us} w e j k z) =
   by : Halt d ts c → ⊥
   by s =
       let part = part_front_within p.symbols [] (subst (λ z. Justified z) (sym (append-nil p.symbols)) p.justified) (lexemes_of s.before ++ s.token ∷ []) s.after (p.tokens ∙ s.tokens) d
-          (record { more = []; tree = b; derives = subst (λ z. Derives d z b) (sym (append-nil p.symbols)) (record { last = p.derives.last; body = higher_body d le p.derives.body; ends = p.derives.ends }) }) in
+      (record { more = []; tree = b; derives = subst (λ z. Derives d z b) (sym (append-nil p.symbols)) (record { last = p.derives.last; body = higher_body d le p.derives.body; ends = p.derives.ends }) }) in
       s.none d part.symbols part.front part.justified (inr (omega arith)) part.tokens
 
 pub complete : IsComplete

@@ -237,6 +237,7 @@ delete_spares d turns inner sound n o w xs e = after (sound.expr n 13 xs (omega 
   refused : (o : Prefix) (p : Place) (ys : Symbols) → Done (λ _ _. (m : ℕ) → reals xs < m → Spared m xs) (s.wrong_prefix d turns inner o p ys)
   refused (sign.step up) p ys = err
   refused (sign.unary o) p ys = err
+
   by : (a : Sized RawExpr) (ys : Symbols) → E a.1 n 13 xs a.0 ys → (f : Option RawExpr) → prefix_tree o w.place a.0 ≡ f → Done (λ _ _. (m : ℕ) → reals xs < m → Spared m xs) (s.prefix_by d turns inner o w.place a f ys)
   by a ys x (Some f) q = ok (λ m lt. spared m lt x (λ v. absurd (delete_tree o w.place a.0 f e q v)))
   by a ys x None q = meets.fork (is_remedy (look ys).kind) _ _ (λ z. ok (λ m lt. spared m lt x (λ _. remedied (consumed ys (k.due k.remedy) refl (remedy_true _ z))))) (λ _. refused o w.place ys)

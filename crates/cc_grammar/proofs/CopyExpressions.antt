@@ -90,7 +90,7 @@ module _ (d turns : ℕ) (inner : In) (outer : t.In) (alike : CopyInner inner ou
   unfolding r.postfix
   postfix_copy a ts = subst (λ o. Copies true Quiet (s.postfix d turns inner a) ts o) (sym (steps_same_token a (step_of (look_token ts).kind) (target_of a.0) (look_token ts).after_line ts))
       (same_copies (s.postfix d turns inner a) quiet (decide (λ w. steps (step_of w.kind) (target_of a.0) w.after_line) (stepping a) (stepping_token a) ts quiet (λ v _. stepping_copy a (target_of a.0) ts v))
-        (λ xs _. steps_same a (step_of (look xs).kind) (target_of a.0) (look xs).after_line xs))
+      (λ xs _. steps_same a (step_of (look xs).kind) (target_of a.0) (look xs).after_line xs))
 
   -- ---- unary operators
 
@@ -131,8 +131,11 @@ module _ (d turns : ℕ) (inner : In) (outer : t.In) (alike : CopyInner inner ou
     guarded_bar {vs} c v e l b n o = by (s.opened turns 0 (put v (inserted ∷ map real vs))) refl (opened_last turns 0 v l e) where
       by : (u : Outcome Symbols Bool) → s.opened turns 0 (put v (inserted ∷ map real vs)) ≡ u → AtLast (map real vs) u → (is_mark mark.Colon (look_token vs).kind ≡ true) ⊎ Shut (Guarded (put v (inserted ∷ map real vs))) (map real vs)
       by u q denied = bar_by (unless_answered (put v (inserted ∷ map real vs)) u q answers) (b n o)
-      by u q accepted = inr (record { fault = record { cause = r.refused construct.DeleteName; place = w.place }; no_limit = refl;
-        is = ap (λ x. r.unless_deleted Symbols look rest r.semicolon_symbol x w.place (main (put v (inserted ∷ map real vs)))) q })
+      by u q accepted = inr (record {
+        fault = record { cause = r.refused construct.DeleteName; place = w.place };
+        no_limit = refl;
+        is = ap (λ x. r.unless_deleted Symbols look rest r.semicolon_symbol x w.place (main (put v (inserted ∷ map real vs)))) q;
+      })
 
     allowed_copy : {os : L} {o : Outcome L (Sized RawExpr)} → t.opened turns 0 us ≡ Ok (false, os) → ((xs : Symbols) → Done (λ _ _. (m : ℕ) → reals xs < m → Spared m xs) (main xs))
         → Copies true Quiet main us o → Copies true Quiet Guarded us o
@@ -150,7 +153,7 @@ module _ (d turns : ℕ) (inner : In) (outer : t.In) (alike : CopyInner inner ou
   -- with a depth that is enough, or not
   by_depth : (n : Bool) (o : Prefix) (w : Lexeme) (us : L) (c : Bool) → is_delete o ≡ true
       → Head true true Quiet (λ xs. r.unless_deleted Symbols look rest r.semicolon_symbol (s.opened turns 0 xs) w.place (cond c (s.prefix_expr d turns inner n o (real w ∷ xs)) (Err (record { cause = r.depth; place = w.place }, real w ∷ xs)))) w us
-        (r.unless_deleted L look_token rest_tokens r.semicolon_token (t.opened turns 0 us) w.place (cond c (t.prefix_expr d turns outer n o (w ∷ us)) (Err (record { cause = r.depth; place = w.place }, w ∷ us))))
+      (r.unless_deleted L look_token rest_tokens r.semicolon_token (t.opened turns 0 us) w.place (cond c (t.prefix_expr d turns outer n o (w ∷ us)) (Err (record { cause = r.depth; place = w.place }, w ∷ us))))
   by_depth n o w us true e = guarded_copy w us _ (t.opened turns 0 us) refl (opened_looks turns 0 us)
       (λ vs q. goes (allowed_copy w us _ q (λ xs. delete_spares d turns inner sound n o w xs e) (prefix_expr_copy n o w us)))
   by_depth n o w us false e = guarded_copy w us _ (t.opened turns 0 us) refl (opened_looks turns 0 us)
@@ -199,8 +202,8 @@ module _ (d turns : ℕ) (inner : In) (outer : t.In) (alike : CopyInner inner ou
       → Copies true Quiet (λ xs. s.climb_by d turns inner again n l a (infix_of n (look xs).kind) xs) ts (t.climb_by d turns outer onward n l a (infix_of n (look_token ts).kind) ts)
   climb_by_copy n l a again onward ts f = subst (λ o. Copies true Quiet (λ xs. s.climb_by d turns inner again n l a (infix_of n (look xs).kind) xs) ts o) (sym (climbs_same_token onward n l a (infix_of n (look_token ts).kind) ts))
       (same_copies (λ xs. s.climb_by d turns inner again n l a (infix_of n (look xs).kind) xs) quiet
-        (decide (λ w. binds l (infix_of n w.kind)) (climbing again n a) (climbing_token onward n a) ts quiet (λ v _. climbing_copy n l a again onward ts f v))
-        (λ xs _. climbs_same again n l a (infix_of n (look xs).kind) xs))
+      (decide (λ w. binds l (infix_of n w.kind)) (climbing again n a) (climbing_token onward n a) ts quiet (λ v _. climbing_copy n l a again onward ts f v))
+      (λ xs _. climbs_same again n l a (infix_of n (look xs).kind) xs))
 
   pub climb_copy : (n : Bool) (l m : ℕ) (a : Sized RawExpr) (ts : L) → Copies true Quiet (s.climb d turns inner n l m a) ts (t.climb d turns outer n l m a ts)
   unfolding r.climb
@@ -272,7 +275,7 @@ module _ (d turns : ℕ) (inner : In) (outer : t.In) (alike : CopyInner inner ou
   unfolding r.assign
   assign_copy n a ts = subst (λ o. Copies true Quiet (s.assign d turns inner n a) ts o) (sym (assigns_same_token n a (assign_of (look_token ts).kind) (target_of a.0) ts))
       (same_copies (s.assign d turns inner n a) quiet (decide (λ w. assigns (assign_of w.kind) (target_of a.0)) (assigning n a) (assigning_token n a) ts quiet (λ v _. assigning_copy n a (target_of a.0) ts v))
-        (λ xs _. assigns_same n a (assign_of (look xs).kind) (target_of a.0) xs))
+      (λ xs _. assigns_same n a (assign_of (look xs).kind) (target_of a.0) xs))
 
   comma_copy : (n : Bool) (a : Sized RawExpr) (again : Sized RawExpr → s.Reader (Sized RawExpr)) (onward : Sized RawExpr → t.Reader (Sized RawExpr)) (ts : L)
       → ((b : Sized RawExpr) (us : L) → Copies true Quiet (again b) us (onward b us))
@@ -307,6 +310,7 @@ module _ (d turns : ℕ) (inner : In) (outer : t.In) (alike : CopyInner inner ou
   expr_bar n l xs = by (l == 17) where
     head : Shut (s.primary d turns inner n (inserted ∷ xs)) xs
     head = primary_bar d turns inner outer alike bars some n xs
+
     by : (c : Bool) → Shut (cond {A = s.Reader (Sized RawExpr)} c (λ i. and_then (s.primary d turns inner n i) (s.suffixes d turns inner false (suc d))) (λ i. s.expr_by d turns inner n l (prefix_of (look i).kind) i) (inserted ∷ xs)) xs
     by true = shut_after _ head
     by false = shut_after _ head

@@ -152,7 +152,7 @@ module _ (d turns : ℕ) (inner : In) (outer : t.In) (alike : CopyInner inner ou
   unfolding r.try
   try_copy c w us = goes (copies_after _ _ quiet (started (block_in_copy c us)) (copies_first _ _ (λ b xs. record { fault = r.fault r.a_token k.semicolon; no_limit = refl; is = refl }) (λ b. halts_end refl)
       (λ b v vs. split (is_word word.Catch v.kind) _ _ _ _ (λ _. goes_after _ _ quiet (catch_copy c v vs) (λ f os. after_catch_copy c w.place b f os))
-        (λ _. split (is_word word.Finally v.kind) _ _ _ _ (λ _. goes (copies_after _ _ quiet (finally_copy c v vs) (λ g os. copies_pure false _ os))) (λ _. halts refl tt)))))
+      (λ _. split (is_word word.Finally v.kind) _ _ _ _ (λ _. goes (copies_after _ _ quiet (finally_copy c v vs) (λ g os. copies_pure false _ os))) (λ _. halts refl tt)))))
 
   -- ---- declarations
 

@@ -21,7 +21,7 @@ use Rattle.cc_grammar.proofs.OnTokens as t
 -- behind a part of a list: a comma and more, or what closes the list
 pub comma_or : {A : Type 0} (late : Bool) (m : Mark) (p : Symbols → Outcome Symbols A) (P : L → Outcome L A) (a : A) (us : L) → ((vs : L) → Starts late Quiet p vs (P vs))
     → Copies late Quiet (λ xs. cond {A = Symbols → Outcome Symbols A} (is_mark mark.Comma (look xs).kind) (λ i. p (rest i)) (λ i. and_then (s.expect m i) (λ _ j. Ok (a, j))) xs) us
-      (cond {A = L → Outcome L A} (is_mark mark.Comma (look_token us).kind) (λ i. P (rest_tokens i)) (λ i. and_then (t.expect m i) (λ _ j. Ok (a, j))) us)
+    (cond {A = L → Outcome L A} (is_mark mark.Comma (look_token us).kind) (λ i. P (rest_tokens i)) (λ i. and_then (t.expect m i) (λ _ j. Ok (a, j))) us)
 comma_or late m p P a us again = fork (λ t. is_mark mark.Comma t.kind) _ _ _ _ us quiet
     (λ e. by_taking absent (λ t vs _. goes (started (again vs))))
     (λ _. by_token (starts_after _ _ quiet (expects late m us) (λ _ vs. copies_pure late a vs)) (bars_after (s.expect m) _ (expect_bar m)))
@@ -77,9 +77,9 @@ module _ (d turns : ℕ) (inner : In) (outer : t.In) (alike : CopyInner inner ou
   elements_copy (suc m) before h (t ∷ us) = starts (split (is_mark mark.CloseBracket t.kind) _ _ _ _
       (λ e. goes (copies_pure true (before, h) us))
       (λ _. split (is_element t.kind) _ _ _ _
-        (λ e. goes (copies_after _ _ quiet (started (expects true mark.CloseBracket us)) (λ _ vs. copies_pure true (before, h) vs)))
-        (λ _. split (is_mark mark.Comma t.kind) _ _ _ _ (λ _. halts refl tt)
-          (λ _. goes_after _ _ quiet (head_of_start (alike.expr true 1 (t ∷ us))) (λ x us. comma_or true mark.CloseBracket _ _ _ us (elements_copy m (before ++ x.0 ∷ []) (max h x.1))))))) (elements_bar m before h)
+      (λ e. goes (copies_after _ _ quiet (started (expects true mark.CloseBracket us)) (λ _ vs. copies_pure true (before, h) vs)))
+      (λ _. split (is_mark mark.Comma t.kind) _ _ _ _ (λ _. halts refl tt)
+      (λ _. goes_after _ _ quiet (head_of_start (alike.expr true 1 (t ∷ us))) (λ x us. comma_or true mark.CloseBracket _ _ _ us (elements_copy m (before ++ x.0 ∷ []) (max h x.1))))))) (elements_bar m before h)
 
   no_accessor : (b : Bool) → (b && false) ≡ false
   no_accessor true = refl

@@ -67,7 +67,7 @@ unfolding r.reader
 reader_copy turns zero lt = record { copy = more_copy 0 turns s.no_depth t.no_depth none_copy no_bars lt nothing_inside; bars = more_bars 0 turns s.no_depth t.no_depth none_copy no_bars lt nothing_inside }
 reader_copy turns (suc d) lt = let p = reader_copy turns d lt in record {
   copy = more_copy (suc d) turns (s.reader turns d) (t.reader turns d) p.copy (λ _. p.bars) lt (reader_sound turns d);
-  bars = more_bars (suc d) turns (s.reader turns d) (t.reader turns d) p.copy (λ _. p.bars) lt (reader_sound turns d)
+  bars = more_bars (suc d) turns (s.reader turns d) (t.reader turns d) p.copy (λ _. p.bars) lt (reader_sound turns d);
 }
 
 -- What the reader of tokens does, the reader of symbols does.

@@ -111,8 +111,8 @@ module _ (d turns : ℕ) (inner : In) (outer : t.In) (alike : CopyInner inner ou
   for_copy c w us = goes (copies_after _ _ quiet (started (expects false mark.OpenParen us)) (copies_first _ _ (λ _. bars_after (inner.expr false 0) _ (bars.expr false 0))
       (λ _. at_end _ (starts_after _ _ quiet (relaxed_start false (alike.expr false 0 [])) (λ x os. value_copy c w.place x os)) refl)
       (λ _ v vs. split (is_word word.Var v.kind) _ _ _ _
-        (λ _. goes (copies_after _ _ quiet (relaxed false (started (declarators_copy d turns inner outer inner.expr outer.expr (record { is = alike.expr }) false turns [] 0 vs)))
-          (λ ds os. decide (λ w. is_word word.In w.kind) (s.for_vars_by d turns inner c w.place ds.0 ds.1) (t.for_vars_by d turns outer c w.place ds.0 ds.1) os quiet (λ b _. for_vars_copy c w.place ds.0 ds.1 os b))))
-        (λ _. split (is_mark mark.Semicolon v.kind) _ _ _ _
-          (λ _. head_of_start (for_rest_copy c w.place (raw.no_init, 0) (v ∷ vs)))
-          (λ _. goes_after _ _ quiet (head_of_start (relaxed_start false (alike.expr false 0 (v ∷ vs)))) (λ x os. value_copy c w.place x os))))))
+      (λ _. goes (copies_after _ _ quiet (relaxed false (started (declarators_copy d turns inner outer inner.expr outer.expr (record { is = alike.expr }) false turns [] 0 vs)))
+      (λ ds os. decide (λ w. is_word word.In w.kind) (s.for_vars_by d turns inner c w.place ds.0 ds.1) (t.for_vars_by d turns outer c w.place ds.0 ds.1) os quiet (λ b _. for_vars_copy c w.place ds.0 ds.1 os b))))
+      (λ _. split (is_mark mark.Semicolon v.kind) _ _ _ _
+      (λ _. head_of_start (for_rest_copy c w.place (raw.no_init, 0) (v ∷ vs)))
+      (λ _. goes_after _ _ quiet (head_of_start (relaxed_start false (alike.expr false 0 (v ∷ vs)))) (λ x os. value_copy c w.place x os))))))

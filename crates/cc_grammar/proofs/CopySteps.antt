@@ -237,6 +237,7 @@ pub fork_shows : {A : Type 0} {late : Bool} (b : Lexeme → Bool) (a : A) (q : S
 fork_shows {late} b a q Q ts n z h = by (b (look_token ts)) refl where
   quietly : (xs : Symbols) → Shut (cond (b (look (inserted ∷ xs))) (λ i. Ok (a, i)) q (inserted ∷ xs)) xs
   quietly xs = shut_by (ap (λ v. cond v (λ i. Ok (a, i)) q (inserted ∷ xs)) n) (z xs)
+
   by : (v : Bool) → b (look_token ts) ≡ v → Copies late Shows (λ xs. cond (b (look xs)) (λ i. Ok (a, i)) q xs) ts (cond v (λ i. Ok (a, i)) Q ts)
   by true e = read end (λ xs f. ap (λ v. cond v (λ i. Ok (a, i)) q xs) (ap b f.1 ∙ e)) tt (kept_end late ts) (shuts (λ xs _. quietly xs))
   by false e = same_copies (λ xs. cond (b (look xs)) (λ i. Ok (a, i)) q xs) shows (h e) (λ xs l. ap (λ v. cond v (λ i. Ok (a, i)) q xs) (silent b false ts e n xs l))

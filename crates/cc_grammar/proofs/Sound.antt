@@ -56,7 +56,7 @@ one_more : (d turns : ℕ) (inner : In) (sound : SoundInner d inner)
 one_more d turns inner sound = record {
   expr = λ n l xs b. weaken (expr_sound d turns inner sound n l xs b) (λ a ys p. (record { whole = deep p.whole; stopped = p.stopped }, omega (arith, p.whole.low)));
   callee = λ n xs. weaken (callee_sound d turns inner sound n xs) (λ a ys p. (record { whole = deep p.whole; member = p.member; stopped = p.stopped }, omega (arith, p.whole.low)));
-  stmt = λ c xs. weaken (stmt_sound d turns inner sound c xs) (λ b ys p. (record { tree = p.tree; low = omega (arith, p.low) }, omega (arith, p.low)))
+  stmt = λ c xs. weaken (stmt_sound d turns inner sound c xs) (λ b ys p. (record { tree = p.tree; low = omega (arith, p.low) }, omega (arith, p.low)));
 }
 
 pub reader_sound : (turns d : ℕ) → SoundInner (suc d) (r.reader Symbols look rest semicolon_symbol turns d)

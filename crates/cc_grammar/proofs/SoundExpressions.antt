@@ -32,6 +32,7 @@ module _ (d turns : ℕ) (inner : In) (sound : SoundInner d inner) where
   postfix_sound n a xs ys h = by (step_of (look ys).kind) (target_of a.0) (look ys).after_line refl refl refl where
     same : Derived d n 13 xs a ys
     same = lowered 13 (omega arith) (λ q. omega arith) h
+
     by : (o : Option Bool) (t : Option RawTarget) (b : Bool) → step_of (look ys).kind ≡ o → target_of a.0 ≡ t → (look ys).after_line ≡ b
         → Done (λ b zs. Derived d n 13 xs b zs) (r.postfix_by Symbols look rest semicolon_symbol d turns inner a o t b ys)
     by (Some up) (Some t) false e f q = branch (nat_lt a.1 d) (λ lt. ok (record { tree = g.postfix (omega arith) (omega arith) h.tree f q (found step_of ys up refl refl e) e; low = omega (arith, ltb-true _ _ lt) })) (λ _. err)
@@ -44,9 +45,11 @@ module _ (d turns : ℕ) (inner : In) (sound : SoundInner d inner) where
   prefix_expr_sound n o xs e = after (sound.expr n 13 (rest xs) (omega arith)) (λ a ys p. by a ys p.0.whole.tree p.1 (prefix_tree o (look xs).place a.0) refl) where
     c : At (look xs).kind xs (rest xs)
     c = found prefix_of xs o refl refl e
+
     refused : (o : Prefix) (p : Place) (ys : Symbols) → Done (λ a ys. Derived d n 13 xs a ys) (r.wrong_prefix Symbols look rest semicolon_symbol d turns inner o p ys)
     refused (Rattle.cc_grammar.specs.Signs.step up) p ys = err
     refused (Rattle.cc_grammar.specs.Signs.unary o) p ys = err
+
     by : (a : Sized RawExpr) (ys : Symbols) → E a.1 n 13 (rest xs) a.0 ys → a.1 < d → (f : Option RawExpr) → prefix_tree o (look xs).place a.0 ≡ f
         → Done (λ a ys. Derived d n 13 xs a ys) (r.prefix_by Symbols look rest semicolon_symbol d turns inner o (look xs).place a f ys)
     by a ys x lt (Some f) q = ok (record { tree = g.prefix (omega arith) (omega arith) c e x q; low = omega arith })
@@ -75,14 +78,14 @@ module _ (d turns : ℕ) (inner : In) (sound : SoundInner d inner) where
   pub begin_climb : (n : Bool) (l : ℕ) (xs : Symbols) (a : Sized RawExpr) (ys : Symbols) → l ≤ 13 → Derived d n 13 xs a ys → Climbs n l xs a ys
   begin_climb n l xs a ys b h = record {
     whole = lowered (max l 3) (omega arith) (λ q. omega arith) h;
-    next = λ o _ _. lower (level o) (omega (arith, bounded o)) (λ q. omega (arith, bounded o)) h.tree
+    next = λ o _ _. lower (level o) (omega (arith, bounded o)) (λ q. omega (arith, bounded o)) h.tree;
   }
 
   pub climbed : (n : Bool) (l : ℕ) (xs : Symbols) (a : Sized RawExpr) (ys : Symbols) (o : Infix) → infix_of n (look ys).kind ≡ Some o → l ≤ level o → a.1 < d → Climbs n l xs a ys
       → (b : Sized RawExpr) (zs : Symbols) → Operand d n (level o + 1) (rest ys) b zs → b.1 < d → Climbs n l xs (infix_tree o (look ys).place a.0 b.0, max a.1 b.1 + 1) zs
   climbed n l xs a ys o e m lt h b zs p lu = record {
     whole = record { tree = g.binary (omega (arith, above o)) (omega arith) (omega arith) (h.next o e m) (operator_at n ys o e) e p.whole.tree; low = omega arith };
-    next = λ q f k. g.binary (omega (arith, p.stopped (omega (arith, above o)) q f)) (omega arith) (omega arith) (h.next o e m) (operator_at n ys o e) e p.whole.tree
+    next = λ q f k. g.binary (omega (arith, p.stopped (omega (arith, above o)) q f)) (omega arith) (omega arith) (h.next o e m) (operator_at n ys o e) e p.whole.tree;
   }
 
   turn_sound : (n : Bool) (l : ℕ) (xs : Symbols) (a : Sized RawExpr) (ys : Symbols) (again : Sized RawExpr → Symbols → Outcome Symbols (Sized RawExpr)) (o : Option Infix) → infix_of n (look ys).kind ≡ o → Climbs n l xs a ys
@@ -92,7 +95,7 @@ module _ (d turns : ℕ) (inner : In) (sound : SoundInner d inner) where
   turn_sound n l xs a ys again (Some o) e h f = fork (nat_lt (level o) l) _ _
       (λ lt. ok (h.whole, (λ p q. let same : o ≡ p = cc in rw (← same) (ltb-true _ _ lt))))
       (λ ge. branch (nat_lt a.1 d) (λ lt. after (sound.expr n (level o + 1) (rest ys) (omega (arith, bounded o))) (λ b zs p.
-        f _ zs (climbed n l xs a ys o e (ltb-false _ _ ge) (ltb-true _ _ lt) h b zs p.0 p.1))) (λ _. err))
+      f _ zs (climbed n l xs a ys o e (ltb-false _ _ ge) (ltb-true _ _ lt) h b zs p.0 p.1))) (λ _. err))
 
   pub climb_sound : (n : Bool) (l m : ℕ) (xs : Symbols) (a : Sized RawExpr) (ys : Symbols) → Climbs n l xs a ys
       → Done (λ b zs. Derived d n (max l 3) xs b zs × Stopped n l zs) (r.climb Symbols look rest semicolon_symbol d turns inner n l m a ys)
@@ -106,7 +109,7 @@ module _ (d turns : ℕ) (inner : In) (sound : SoundInner d inner) where
   unfolding r.conditional
   conditional_sound n a xs ys h = fork (is_mark mark.Question (look ys).kind) _ _
       (λ e. branch (nat_lt a.1 d) (λ lt. after (sound.expr true 1 (rest ys) (omega arith)) (λ x zs p. after (expected mark.Colon zs) (λ _ us c. after (sound.expr n 1 us (omega arith)) (λ y ws q.
-        ok (record { tree = g.conditional (omega arith) (omega arith) (omega arith) (omega arith) h.tree (marked mark.Question ys e) p.0.whole.tree c q.0.whole.tree; low = omega (arith, ltb-true _ _ lt, p.1, q.1) }))))) (λ _. err))
+      ok (record { tree = g.conditional (omega arith) (omega arith) (omega arith) (omega arith) h.tree (marked mark.Question ys e) p.0.whole.tree c q.0.whole.tree; low = omega (arith, ltb-true _ _ lt, p.1, q.1) }))))) (λ _. err))
       (λ _. ok (lowered 2 (omega arith) (λ q. omega arith) h))
 
   pub assign_sound : (n : Bool) (a : Sized RawExpr) (xs ys : Symbols) → Derived d n 2 xs a ys → Done (λ b zs. Derived d n 1 xs b zs) (r.assign Symbols look rest semicolon_symbol d turns inner n a ys)
@@ -114,6 +117,7 @@ module _ (d turns : ℕ) (inner : In) (sound : SoundInner d inner) where
   assign_sound n a xs ys h = by (assign_of (look ys).kind) (target_of a.0) refl refl where
     same : Derived d n 1 xs a ys
     same = lowered 1 (omega arith) (λ q. omega arith) h
+
     by : (o : Option (Option BinOp)) (t : Option RawTarget) → assign_of (look ys).kind ≡ o → target_of a.0 ≡ t
         → Done (λ b zs. Derived d n 1 xs b zs) (r.assign_by Symbols look rest semicolon_symbol d turns inner n a o t ys)
     by (Some o) (Some t) e f = branch (nat_lt a.1 d) (λ lt. after (sound.expr n 1 (rest ys) (omega arith)) (λ b zs p.
@@ -137,14 +141,14 @@ module _ (d turns : ℕ) (inner : In) (sound : SoundInner d inner) where
   unfolding r.after_unary
   after_unary_sound n l a xs ys b h = after (climb_sound n l (suc d) xs a ys (begin_climb n l xs a ys b h)) (λ x zs p.
       after {P = λ y us. Derived d n (max l 2) xs y us × (4 ≤ l → Stopped n l us)} (fork (nat_lt l 3) _ _
-        (λ lt. weaken (conditional_sound n x xs zs (lowered 3 (omega arith) (λ q. omega arith) p.0)) (λ y us q. (lowered (max l 2) (omega (arith, ltb-true _ _ lt)) (λ s. omega arith) q, (λ s. absurd (omega (arith, ltb-true _ _ lt))))))
-        (λ ge. ok (lowered (max l 2) (omega arith) (λ q. omega arith) p.0, (λ _. p.1)))) (λ y us q.
+      (λ lt. weaken (conditional_sound n x xs zs (lowered 3 (omega arith) (λ q. omega arith) p.0)) (λ y us q. (lowered (max l 2) (omega (arith, ltb-true _ _ lt)) (λ s. omega arith) q, (λ s. absurd (omega (arith, ltb-true _ _ lt))))))
+      (λ ge. ok (lowered (max l 2) (omega arith) (λ q. omega arith) p.0, (λ _. p.1)))) (λ y us q.
       after {P = λ z vs. Derived d n (max l 1) xs z vs × (4 ≤ l → Stopped n l vs)} (fork (nat_lt l 2) _ _
-        (λ lt. weaken (assign_sound n y xs us (lowered 2 (omega arith) (λ s. omega arith) q.0)) (λ z vs s. (lowered (max l 1) (omega (arith, ltb-true _ _ lt)) (λ o. omega arith) s, (λ o. absurd (omega (arith, ltb-true _ _ lt))))))
-        (λ ge. ok (lowered (max l 1) (omega arith) (λ s. omega arith) q.0, q.1))) (λ z vs s.
+      (λ lt. weaken (assign_sound n y xs us (lowered 2 (omega arith) (λ s. omega arith) q.0)) (λ z vs s. (lowered (max l 1) (omega (arith, ltb-true _ _ lt)) (λ o. omega arith) s, (λ o. absurd (omega (arith, ltb-true _ _ lt))))))
+      (λ ge. ok (lowered (max l 1) (omega arith) (λ s. omega arith) q.0, q.1))) (λ z vs s.
       fork (l == 0) _ _
-        (λ e. let zeroth : l ≡ 0 = eqb-true _ _ e in weaken (commas_sound n (suc d) z xs vs (lowered 0 (omega arith) (λ o. omega arith) s.0)) (λ x os o. record { whole = rw zeroth o; stopped = λ t. absurd (omega arith) }))
-        (λ _. ok (record { whole = lowered l (omega arith) (λ o. omega arith) s.0; stopped = s.1 })))))
+      (λ e. let zeroth : l ≡ 0 = eqb-true _ _ e in weaken (commas_sound n (suc d) z xs vs (lowered 0 (omega arith) (λ o. omega arith) s.0)) (λ x os o. record { whole = rw zeroth o; stopped = λ t. absurd (omega arith) }))
+      (λ _. ok (record { whole = lowered l (omega arith) (λ o. omega arith) s.0; stopped = s.1 })))))
 
   pub after_head_sound : (n : Bool) (l : ℕ) (a : Sized RawExpr) (xs ys : Symbols) → l ≤ 13 → Chained d false n xs a ys → Done (λ b zs. Operand d n l xs b zs) (r.after_head Symbols look rest semicolon_symbol d turns inner n l a ys)
   unfolding r.after_head

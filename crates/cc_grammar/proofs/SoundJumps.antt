@@ -47,13 +47,23 @@ module _ (d turns : ℕ) (inner : In) (sound : SoundInner d inner) where
   clause_sound c again seen before h xs x s e view.close lt f = ok (record { more = []; tree = g.no_case (consumed xs _ refl e); is = sym (append-nil before); above = omega arith; low = lt })
   clause_sound c again seen before h xs x s e (view.«case») lt f = after (sound.expr true 0 (rest xs) (omega arith)) (λ y ys p. after (expected mark.Colon ys) (λ _ zs q. after (list_sound d turns inner sound c turns [] 0 zs (omega arith)) (λ b us t.
       let one : RawCase = record { test = raw.one_expr y.0; body = b.0 } in weaken (f seen (before ++ one ∷ []) (max h (max y.1 b.1)) us (omega (arith, p.1, t.0.low))) (λ z ws w.
-        record { more = one ∷ w.more; tree = g.«case» (consumed xs _ refl e) (higher _ (omega (arith, w.above)) p.0.whole.tree) q (higher_body _ (omega (arith, w.above)) (whole_list t.0)) w.tree;
-          is = w.is ∙ append_assoc before (one ∷ []) w.more; above = omega (arith, w.above); low = w.low }))))
+      record {
+        more = one ∷ w.more;
+        tree = g.«case» (consumed xs _ refl e) (higher _ (omega (arith, w.above)) p.0.whole.tree) q (higher_body _ (omega (arith, w.above)) (whole_list t.0)) w.tree;
+        is = w.is ∙ append_assoc before (one ∷ []) w.more;
+        above = omega (arith, w.above);
+        low = w.low;
+      }))))
   clause_sound c again true before h xs x s e view.default lt f = err
   clause_sound c again false before h xs x s e view.default lt f = after (expected mark.Colon (rest xs)) (λ _ zs q. after (list_sound d turns inner sound c turns [] 0 zs (omega arith)) (λ b us t.
       let one : RawCase = record { test = raw.no_expr; body = b.0 } in weaken (f true (before ++ one ∷ []) (max h b.1) us (omega (arith, t.0.low))) (λ z ws w.
-        record { more = one ∷ w.more; tree = g.default (consumed xs _ refl e) q (higher_body _ (omega (arith, w.above)) (whole_list t.0)) w.tree;
-          is = w.is ∙ append_assoc before (one ∷ []) w.more; above = omega (arith, w.above); low = w.low })))
+      record {
+        more = one ∷ w.more;
+        tree = g.default (consumed xs _ refl e) q (higher_body _ (omega (arith, w.above)) (whole_list t.0)) w.tree;
+        is = w.is ∙ append_assoc before (one ∷ []) w.more;
+        above = omega (arith, w.above);
+        low = w.low;
+      })))
 
   clauses_sound : (c : Context) (m : ℕ) (seen : Bool) (before : List RawCase) (h : ℕ) (xs : Symbols) → h < d
       → Done (λ x ys. EndsWith (λ i us vs ws. Cases c i seen us vs ws) d before h xs x ys) (r.clauses Symbols look rest semicolon_symbol d turns inner c m seen before h xs)
@@ -94,13 +104,13 @@ module _ (d turns : ℕ) (inner : In) (sound : SoundInner d inner) where
   return_sound c xs e = fork c.returns _ _ (λ s. fork (ends_return (look (rest xs))) _ _
       (λ _. after (ended (rest xs)) (λ _ ys p. ok (record { tree = g.return s (consumed xs _ refl e) p; low = omega arith })))
       (λ f. after (expr_sound d turns inner sound true 0 (rest xs) (omega arith)) (λ x ys p. after (ended ys) (λ _ zs q.
-        ok (record { tree = g.return_value s (consumed xs _ refl e) (same_line _ _ _ _ _ f) p.whole.tree q; low = p.whole.low }))))) (λ _. err)
+      ok (record { tree = g.return_value s (consumed xs _ refl e) (same_line _ _ _ _ _ f) p.whole.tree q; low = p.whole.low }))))) (λ _. err)
 
   pub throw_sound : (c : Context) (xs : Symbols) → (look xs).kind ≡ k.word word.Throw → Done (λ b ys. Told d c xs b ys) (r.throw Symbols look rest semicolon_symbol d turns inner xs)
   unfolding r.throw
   throw_sound c xs e = fork (look (rest xs)).after_line _ _ (λ _. err)
       (λ f. after (expr_sound d turns inner sound true 0 (rest xs) (omega arith)) (λ x ys p. after (ended ys) (λ _ zs q.
-        ok (record { tree = g.throw (consumed xs _ refl e) f p.whole.tree q; low = p.whole.low }))))
+      ok (record { tree = g.throw (consumed xs _ refl e) f p.whole.tree q; low = p.whole.low }))))
 
   -- ---- names
 
@@ -109,9 +119,11 @@ module _ (d turns : ℕ) (inner : In) (sound : SoundInner d inner) where
   begins_with_name_sound c n xs e = by (refused_name n) (is_mark mark.Colon (look (rest xs)).kind) refl refl where
     s : At (k.name n) xs (rest xs)
     s = consumed xs (k.name n) refl e
+
     labels : is_mark mark.Colon (look (rest xs)).kind ≡ true → Done (λ b ys. Told d c xs b ys) (cond (is_among n c.labels) (r.fail Symbols look rest semicolon_symbol r.a_token) (λ i. cond (nat_lt 0 d) (Rattle.cc_grammar.specs.Reading.and_then (inner.stmt (labelled n c) (rest i)) (λ b i. Ok ((raw.label (look xs).place n (stmts b.0) ∷ [], b.1 + 1), i))) (Err (record { cause = r.depth; place = (look i).place }, i))) (rest xs))
     labels q = fork (is_among n c.labels) _ _ (λ _. err) (λ a. branch (nat_lt 0 d) (λ _. after (sound.stmt (labelled n c) (rest (rest xs))) (λ b ys p.
         ok (record { tree = g.label (omega arith) s (marked mark.Colon (rest xs) q) a p.0.tree; low = omega (arith, p.1) }))) (λ _. err))
+
     by : (o : Option Construct) (b : Bool) → refused_name n ≡ o → is_mark mark.Colon (look (rest xs)).kind ≡ b
         → Done (λ b ys. Told d c xs b ys) (r.name_by Symbols look rest semicolon_symbol d turns inner c (look xs).place n o b (rest xs))
     by None true f q = labels q
@@ -145,13 +157,13 @@ module _ (d turns : ℕ) (inner : In) (sound : SoundInner d inner) where
   unfolding r.try r.after_catch
   try_sound c xs e = after (block_in_sound c (rest xs)) (λ b ys p. fork (is_word word.Catch (look ys).kind) _ _
       (λ q. after (catch_sound c ys q) (λ f zs s. fork (is_word word.Finally (look zs).kind) _ _
-        (λ t. after (finally_sound c zs t) (λ o ws w.
-          ok (record { tree = g.try_both (omega arith) (omega arith) (omega arith) (consumed xs _ refl e) p.begins p.tree s.0 w.0; low = omega (arith, p.low, s.1, w.1) })))
-        (λ t. ok (record { tree = g.try_catch (omega arith) (omega arith) (consumed xs _ refl e) p.begins p.tree s.0 t; low = omega (arith, p.low, s.1) }))))
+      (λ t. after (finally_sound c zs t) (λ o ws w.
+      ok (record { tree = g.try_both (omega arith) (omega arith) (omega arith) (consumed xs _ refl e) p.begins p.tree s.0 w.0; low = omega (arith, p.low, s.1, w.1) })))
+      (λ t. ok (record { tree = g.try_catch (omega arith) (omega arith) (consumed xs _ refl e) p.begins p.tree s.0 t; low = omega (arith, p.low, s.1) }))))
       (λ _. fork (is_word word.Finally (look ys).kind) _ _
-        (λ t. after (finally_sound c ys t) (λ o ws w.
-          ok (record { tree = g.try_finally (omega arith) (omega arith) (consumed xs _ refl e) p.begins p.tree w.0; low = omega (arith, p.low, w.1) })))
-        (λ _. err)))
+      (λ t. after (finally_sound c ys t) (λ o ws w.
+      ok (record { tree = g.try_finally (omega arith) (omega arith) (consumed xs _ refl e) p.begins p.tree w.0; low = omega (arith, p.low, w.1) })))
+      (λ _. err)))
 
   -- ---- declarations
 

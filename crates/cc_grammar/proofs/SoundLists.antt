@@ -23,15 +23,20 @@ module _ (d turns : ℕ) (inner : In) (sound : SoundInner d inner) where
   elements_sound (suc m) before h xs lt = fork (is_mark mark.CloseBracket (look xs).kind) _ _
       (λ e. ok (record { more = []; tree = g.no_element (marked mark.CloseBracket xs e); is = sym (append-nil before); above = omega arith; low = lt }))
       (λ _. fork (is_element (look xs).kind) _ _
-        (λ e. after (expected mark.CloseBracket (rest xs)) (λ _ ys c.
-          ok (record { more = []; tree = g.any_element (consumed xs _ refl (element_true _ e)) c; is = sym (append-nil before); above = omega arith; low = lt })))
-        (λ _. fork (is_mark mark.Comma (look xs).kind) _ _ (λ _. err)
-          (λ _. after (sound.expr true 1 xs (omega arith)) (λ x ys p. fork (is_mark mark.Comma (look ys).kind) _ _
-            (λ e. weaken (elements_sound m (before ++ x.0 ∷ []) (max h x.1) (rest ys) (omega arith)) (λ y zs q.
-              record { more = x.0 ∷ q.more; tree = g.more_elements (higher y.1 (omega (arith, q.above)) p.0.whole.tree) (marked mark.Comma ys e) q.tree;
-                is = q.is ∙ append_assoc before (x.0 ∷ []) q.more; above = omega (arith, q.above); low = q.low }))
-            (λ _. after (expected mark.CloseBracket ys) (λ _ zs c.
-              ok (record { more = x.0 ∷ []; tree = g.last_element (higher (max h x.1) (omega arith) p.0.whole.tree) c; is = refl; above = omega arith; low = omega arith })))))))
+      (λ e. after (expected mark.CloseBracket (rest xs)) (λ _ ys c.
+      ok (record { more = []; tree = g.any_element (consumed xs _ refl (element_true _ e)) c; is = sym (append-nil before); above = omega arith; low = lt })))
+      (λ _. fork (is_mark mark.Comma (look xs).kind) _ _ (λ _. err)
+      (λ _. after (sound.expr true 1 xs (omega arith)) (λ x ys p. fork (is_mark mark.Comma (look ys).kind) _ _
+      (λ e. weaken (elements_sound m (before ++ x.0 ∷ []) (max h x.1) (rest ys) (omega arith)) (λ y zs q.
+      record {
+        more = x.0 ∷ q.more;
+        tree = g.more_elements (higher y.1 (omega (arith, q.above)) p.0.whole.tree) (marked mark.Comma ys e) q.tree;
+        is = q.is ∙ append_assoc before (x.0 ∷ []) q.more;
+        above = omega (arith, q.above);
+        low = q.low;
+      }))
+      (λ _. after (expected mark.CloseBracket ys) (λ _ zs c.
+      ok (record { more = x.0 ∷ []; tree = g.last_element (higher (max h x.1) (omega arith) p.0.whole.tree) c; is = refl; above = omega arith; low = omega arith })))))))
 
   pub key_sound : (xs : Symbols) (o : Option RawKey) → key_of (look xs).kind ≡ o → Done (λ y ys. IsKey xs y ys) (r.key_by Symbols look rest semicolon_symbol d turns inner o xs)
   key_sound xs None e = err
@@ -49,11 +54,16 @@ module _ (d turns : ℕ) (inner : In) (sound : SoundInner d inner) where
   object_fields_sound (suc m) before h xs lt = fork (is_mark mark.CloseBrace (look xs).kind) _ _
       (λ e. ok (record { more = []; tree = g.no_field (marked mark.CloseBrace xs e); is = sym (append-nil before); above = omega arith; low = lt }))
       (λ _. after (field_sound xs) (λ x ys p. fork (is_mark mark.Comma (look ys).kind) _ _
-        (λ e. weaken (object_fields_sound m (before ++ x.0 ∷ []) (max h x.1) (rest ys) (omega arith)) (λ y zs q.
-          record { more = x.0 ∷ q.more; tree = g.more_fields (higher_field y.1 (omega (arith, q.above)) p.0) (marked mark.Comma ys e) q.tree;
-            is = q.is ∙ append_assoc before (x.0 ∷ []) q.more; above = omega (arith, q.above); low = q.low }))
-        (λ _. after (expected mark.CloseBrace ys) (λ _ zs c.
-          ok (record { more = x.0 ∷ []; tree = g.last_field (higher_field (max h x.1) (omega arith) p.0) c; is = refl; above = omega arith; low = omega arith })))))
+      (λ e. weaken (object_fields_sound m (before ++ x.0 ∷ []) (max h x.1) (rest ys) (omega arith)) (λ y zs q.
+      record {
+        more = x.0 ∷ q.more;
+        tree = g.more_fields (higher_field y.1 (omega (arith, q.above)) p.0) (marked mark.Comma ys e) q.tree;
+        is = q.is ∙ append_assoc before (x.0 ∷ []) q.more;
+        above = omega (arith, q.above);
+        low = q.low;
+      }))
+      (λ _. after (expected mark.CloseBrace ys) (λ _ zs c.
+      ok (record { more = x.0 ∷ []; tree = g.last_field (higher_field (max h x.1) (omega arith) p.0) c; is = refl; above = omega arith; low = omega arith })))))
 
   pub arguments_sound : (m : ℕ) (before : List RawExpr) (h : ℕ) (xs : Symbols) → h < d
       → Done (λ x ys. EndsWith MoreArguments d before h xs x ys) (r.arguments Symbols look rest semicolon_symbol d turns inner m before h xs)
@@ -61,10 +71,15 @@ module _ (d turns : ℕ) (inner : In) (sound : SoundInner d inner) where
   arguments_sound zero before h xs lt = err
   arguments_sound (suc m) before h xs lt = after (sound.expr true 1 xs (omega arith)) (λ x ys p. fork (is_mark mark.Comma (look ys).kind) _ _
       (λ e. weaken (arguments_sound m (before ++ x.0 ∷ []) (max h x.1) (rest ys) (omega arith)) (λ y zs q.
-        record { more = x.0 ∷ q.more; tree = g.more_arguments (higher y.1 (omega (arith, q.above)) p.0.whole.tree) (marked mark.Comma ys e) q.tree;
-          is = q.is ∙ append_assoc before (x.0 ∷ []) q.more; above = omega (arith, q.above); low = q.low }))
+      record {
+        more = x.0 ∷ q.more;
+        tree = g.more_arguments (higher y.1 (omega (arith, q.above)) p.0.whole.tree) (marked mark.Comma ys e) q.tree;
+        is = q.is ∙ append_assoc before (x.0 ∷ []) q.more;
+        above = omega (arith, q.above);
+        low = q.low;
+      }))
       (λ _. after (expected mark.CloseParen ys) (λ _ zs c.
-        ok (record { more = x.0 ∷ []; tree = g.last_argument (higher (max h x.1) (omega arith) p.0.whole.tree) c; is = refl; above = omega arith; low = omega arith }))))
+      ok (record { more = x.0 ∷ []; tree = g.last_argument (higher (max h x.1) (omega arith) p.0.whole.tree) c; is = refl; above = omega arith; low = omega arith }))))
 
   pub arguments_of_sound : (xs : Symbols) → 0 < d → Done (λ x ys. Arguments x.1 xs x.0 ys × (x.1 < d)) (r.arguments_of Symbols look rest semicolon_symbol d turns inner xs)
   unfolding r.arguments_of
@@ -77,9 +92,16 @@ module _ (d turns : ℕ) (inner : In) (sound : SoundInner d inner) where
   list_sound c zero before h xs lt = err
   list_sound c (suc m) before h xs lt = fork (ends_list (look xs).kind) _ _
       (λ e. ok (record { more = []; tree = g.done; is = sym (append-nil before); above = omega arith; low = lt }, e))
-      (λ _. after (sound.stmt c xs) (λ x ys p. weaken (list_sound c m (before ++ x.0) (max h x.1) ys (omega arith)) (λ y zs q.
-        (record { more = x.0 ++ q.0.more; tree = g.next (higher_t y.1 (omega (arith, q.0.above)) p.0.tree) q.0.tree;
-          is = q.0.is ∙ append_assoc before x.0 q.0.more; above = omega (arith, q.0.above); low = q.0.low }, q.1))))
+      (λ _. after (sound.stmt c xs) (λ x ys p. weaken (list_sound c m (before ++ x.0) (max h x.1) ys (omega arith)) (λ y zs q. (
+        record {
+          more = x.0 ++ q.0.more;
+          tree = g.next (higher_t y.1 (omega (arith, q.0.above)) p.0.tree) q.0.tree;
+          is = q.0.is ∙ append_assoc before x.0 q.0.more;
+          above = omega (arith, q.0.above);
+          low = q.0.low;
+        },
+        q.1,
+      ))))
 
   -- statements up to a brace, and the brace
   pub record Braced (c : Context) (xs : Symbols) (b : Sized (List RawStmt)) (ys : Symbols) : Type 0 where

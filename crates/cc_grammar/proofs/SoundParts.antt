@@ -89,7 +89,7 @@ unfolding r.params
 params_sound zero found xs = err
 params_sound (suc m) found xs = after_variable _ xs (λ n ys v. fork (is_mark mark.Comma (look ys).kind) _ _
     (λ e. weaken (params_sound m (found ++ named xs n ∷ []) (rest ys)) (λ ps zs p.
-      record { more = named xs n ∷ p.more; tree = g.more_params v (marked mark.Comma ys e) p.tree; is = p.is ∙ append_assoc found (named xs n ∷ []) p.more }))
+    record { more = named xs n ∷ p.more; tree = g.more_params v (marked mark.Comma ys e) p.tree; is = p.is ∙ append_assoc found (named xs n ∷ []) p.more }))
     (λ _. after (expected mark.CloseParen ys) (λ _ zs c. ok (record { more = named xs n ∷ []; tree = g.last_param v c; is = refl }))))
 
 pub params_of_sound : (turns : ℕ) (xs : Symbols) → Done (λ ps ys. Params xs ps ys) (r.params_of Symbols look rest semicolon_symbol turns xs)

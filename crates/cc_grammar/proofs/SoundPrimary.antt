@@ -89,10 +89,10 @@ module _ (d turns : ℕ) (inner : In) (sound : SoundInner d inner) where
   unfolding r.new_expr
   new_sound n xs e lt = after (sound.callee n (rest xs)) (λ f ys p. fork (is_mark mark.OpenParen (look ys).kind) _ _
       (λ o. after (arguments_of_sound d turns inner sound (rest ys) lt) (λ x zs q.
-        ok (free (λ l m. g.new_call m (omega arith) (omega arith) (consumed xs _ refl e) (p.0.member (some_call _ o)) (marked mark.OpenParen ys o) q.0) (omega (arith, p.1, q.1)))))
+      ok (free (λ l m. g.new_call m (omega arith) (omega arith) (consumed xs _ refl e) (p.0.member (some_call _ o)) (marked mark.OpenParen ys o) q.0) (omega (arith, p.1, q.1)))))
       (λ o. ok (record {
         whole = record { tree = g.new (omega arith) (λ q. omega arith) (omega arith) (consumed xs _ refl e) p.0.whole.tree; low = omega (arith, p.1) };
-        onward = λ s. absurd (s (no_call _ o p.0.stopped))
+        onward = λ s. absurd (s (no_call _ o p.0.stopped));
       })))
 
   primary_by_sound : (n : Bool) (xs : Symbols) (x : Kind) (h : Head) → (look xs).kind ≡ x → IsHead x h

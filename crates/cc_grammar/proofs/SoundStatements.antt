@@ -35,8 +35,13 @@ unfolding r.declarators
 declarators_sound b expr sound d turns inner n zero before h xs lt = err
 declarators_sound b expr sound d turns inner n (suc m) before h xs lt = after (declarator_sound b expr sound (omega arith) d turns inner n xs) (λ x ys p. fork (is_mark mark.Comma (look ys).kind) _ _
     (λ e. weaken (declarators_sound b expr sound d turns inner n m (before ++ x.0 ∷ []) (max h x.1) (rest ys) (omega (arith, p.1))) (λ y zs q.
-      record { more = x.0 ∷ q.more; tree = g.more_declarators (higher_declarator y.1 (omega (arith, q.above)) p.0) (marked mark.Comma ys e) q.tree;
-        is = q.is ∙ append_assoc before (x.0 ∷ []) q.more; above = omega (arith, q.above); low = q.low }))
+    record {
+      more = x.0 ∷ q.more;
+      tree = g.more_declarators (higher_declarator y.1 (omega (arith, q.above)) p.0) (marked mark.Comma ys e) q.tree;
+      is = q.is ∙ append_assoc before (x.0 ∷ []) q.more;
+      above = omega (arith, q.above);
+      low = q.low;
+    }))
     (λ _. ok (record { more = x.0 ∷ []; tree = g.last_declarator (higher_declarator (max h x.1) (omega arith) p.0); is = refl; above = omega arith; low = omega (arith, p.1) })))
 
 some_declarator : {h : ℕ} {n : Bool} {xs ys : Symbols} (vs : List RawDeclarator) → vs ≡ [] → Declarators h n xs vs ys → ⊥
@@ -70,7 +75,7 @@ module _ (d turns : ℕ) (inner : In) (sound : SoundInner d inner) where
   unfolding r.choice r.otherwise
   choice_sound c xs e = after (head_sound (rest xs)) (λ x ys p. after (sound.stmt (inside c) ys) (λ a zs q. fork (is_word word.Else (look zs).kind) _ _
       (λ f. after (sound.stmt (inside c) (rest zs)) (λ b ws s.
-        ok (record { tree = g.if_else (omega arith) (omega arith) (omega arith) (consumed xs _ refl e) p.opening p.tree p.closing q.0.tree (worded word.Else zs f) s.0.tree; low = omega (arith, p.low, q.1, s.1) })))
+      ok (record { tree = g.if_else (omega arith) (omega arith) (omega arith) (consumed xs _ refl e) p.opening p.tree p.closing q.0.tree (worded word.Else zs f) s.0.tree; low = omega (arith, p.low, q.1, s.1) })))
       (λ f. ok (record { tree = g.if_only (omega arith) (omega arith) (consumed xs _ refl e) p.opening p.tree p.closing q.0.tree f; low = omega (arith, p.low, q.1) }))))
 
   pub do_while_sound : (c : Context) (xs : Symbols) → (look xs).kind ≡ k.word word.Do → Done (λ b ys. Told d c xs b ys) (r.do_while Symbols look rest semicolon_symbol d turns inner c xs)
@@ -99,8 +104,10 @@ module _ (d turns : ℕ) (inner : In) (sound : SoundInner d inner) where
   unfolding r.for_rest
   for_rest_sound c xs ys zs a o i lt = after (expected mark.Semicolon zs) (λ _ us p. after (optional_sound mark.Semicolon us (omega arith)) (λ x vs q. after (expected mark.Semicolon vs) (λ _ ws s.
       after (optional_sound mark.CloseParen ws (omega arith)) (λ y ts t. after (expected mark.CloseParen ts) (λ _ os u. after (sound.stmt (in_loop c) os) (λ b rs w.
-        ok (record { tree = g.for {h = max a.1 (max x.1 y.1)} (omega arith) (omega arith) o.word o.opening (higher_init _ (omega arith) i) p (higher_optional _ (omega arith) q.0) s (higher_optional _ (omega arith) t.0) u w.0.tree;
-          low = omega (arith, q.1, t.1, w.1) })))))))
+      ok (record {
+        tree = g.for {h = max a.1 (max x.1 y.1)} (omega arith) (omega arith) o.word o.opening (higher_init _ (omega arith) i) p (higher_optional _ (omega arith) q.0) s (higher_optional _ (omega arith) t.0) u w.0.tree;
+        low = omega (arith, q.1, t.1, w.1);
+      })))))))
 
   -- the target, up to `in`
   pub data Aimed : ℕ → Symbols → raw.RawForTarget → Symbols → Type 0 where
@@ -134,9 +141,9 @@ module _ (d turns : ℕ) (inner : In) (sound : SoundInner d inner) where
   for_sound c xs e lt = after (expected mark.OpenParen (rest xs)) (λ _ ys q. let o : Opened xs ys = record { behind = rest xs; word = consumed xs _ refl e; opening = q } in fork (is_word word.Var (look ys).kind) _ _
       (λ w. after (declarators_sound d inner.expr inner_expr d turns inner false turns [] 0 (rest ys) lt) (λ vs zs p. for_vars_sound c xs ys (rest ys) zs vs.0 vs.1 (is_word word.In (look zs).kind) o (worded word.Var ys w) (whole_list p) refl p.low))
       (λ _. fork (is_mark mark.Semicolon (look ys).kind) _ _ (λ _. for_rest_sound c xs ys ys (raw.no_init, 0) o g.no_init lt)
-        (λ _. after (sound.expr false 0 ys (omega arith)) (λ x zs p. by ys o x zs p.0.whole.tree p.1 (target_of x.0) (is_word word.In (look zs).kind) refl refl)))) where
-    by : (ys : Symbols) → Opened xs ys → (x : Sized RawExpr) (zs : Symbols) → E x.1 false 0 ys x.0 zs → x.1 < d → (t : Option RawTarget) (b : Bool) → target_of x.0 ≡ t → is_word word.In (look zs).kind ≡ b
-        → Done (λ b ws. Told d c xs b ws) (r.for_value_by Symbols look rest semicolon_symbol d turns inner c (look xs).place x t b zs)
-    by ys o x zs m lt (Some t) true e f = for_in_sound c xs ys zs (raw.in_target t) x.1 o (at_target (settable t e m) e) f lt
-    by ys o x zs m lt (Some t) false e f = for_rest_sound c xs ys zs (raw.init_value x.0, x.1) o (g.init_value m) lt
-    by ys o x zs m lt None b e f = for_rest_sound c xs ys zs (raw.init_value x.0, x.1) o (g.init_value m) lt
+      (λ _. after (sound.expr false 0 ys (omega arith)) (λ x zs p. by ys o x zs p.0.whole.tree p.1 (target_of x.0) (is_word word.In (look zs).kind) refl refl)))) where
+        by : (ys : Symbols) → Opened xs ys → (x : Sized RawExpr) (zs : Symbols) → E x.1 false 0 ys x.0 zs → x.1 < d → (t : Option RawTarget) (b : Bool) → target_of x.0 ≡ t → is_word word.In (look zs).kind ≡ b
+            → Done (λ b ws. Told d c xs b ws) (r.for_value_by Symbols look rest semicolon_symbol d turns inner c (look xs).place x t b zs)
+        by ys o x zs m lt (Some t) true e f = for_in_sound c xs ys zs (raw.in_target t) x.1 o (at_target (settable t e m) e) f lt
+        by ys o x zs m lt (Some t) false e f = for_rest_sound c xs ys zs (raw.init_value x.0, x.1) o (g.init_value m) lt
+        by ys o x zs m lt None b e f = for_rest_sound c xs ys zs (raw.init_value x.0, x.1) o (g.init_value m) lt
