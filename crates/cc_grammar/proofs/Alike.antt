@@ -1,13 +1,12 @@
 -- Two readers that differ only in how much they may: what the first makes of a symbol, the second makes of it too, whatever follows.
-use Rattle.std.specs.Prelude.{◌≡◌, ℕ, ◌<◌, ◌≤◌, zero, suc, Bool, true, false, Ok, Err, cond, nat_lt, List, [], ◌∷◌, ◌++◌, length, ◌⊎◌}
+use Rattle.std.specs.Prelude.{◌≡◌, ℕ, suc, Bool, true, false, Ok, Err, cond, [], ◌∷◌, ◌++◌, ◌⊎◌}
 use Rattle.std.proofs.Common.{refl, sym, ap, ◌∙◌, subst, append_assoc, arith, inl, inr}
 use Rattle.cc_ast.specs.declared.place.Place.{Place}
 use Rattle.cc_ast.specs.declared.reading.Construct.{Construct}
-use Rattle.cc_ast.specs.declared.reading.Construct.TheVariants as construct
 use Rattle.cc_lexer.specs.declared.token.Mark.{Mark}
 use Rattle.cc_lexer.specs.declared.token.Mark.TheVariants as mark
 use Rattle.cc_grammar.specs.declared.word.Word.{Word}
-use Rattle.cc_grammar.specs.Symbols.{Kind, Lexeme, Symbol, Symbols, real, inserted, look, rest, lexeme_of, is_mark, is_word}
+use Rattle.cc_grammar.specs.Symbols.{Lexeme, Symbol, Symbols, real, inserted, look, rest, lexeme_of, is_mark, is_word}
 use Rattle.cc_grammar.specs.Fronts.{is_end}
 use Rattle.cc_grammar.specs.Reading.{Outcome, Fault, Cause, Due, and_then, fault, semicolon_symbol, syntax, depth, spent, refused}
 use Rattle.cc_grammar.specs.Reading as r

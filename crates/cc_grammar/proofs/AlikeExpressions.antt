@@ -1,15 +1,13 @@
 -- The readers of expressions, with more depth and more turns, do the same as far as they got, and look no further than the
 -- next symbol, but to tell whether a variable is deleted.
-use Rattle.std.specs.Prelude.{◌≡◌, ℕ, zero, suc, ◌+◌, ◌<◌, ◌≤◌, max, ◌&&◌, ◌==◌, Bool, true, false, Ok, Err, cond, nat_lt, is_some, not, List, [], ◌∷◌, ◌++◌, Option, Some, None, ◌⊎◌}
-use Rattle.std.proofs.Common.{refl, sym, ap, ◌∙◌, subst, arith, lt-ltb, ltb-true, inl, inr}
+use Rattle.std.specs.Prelude.{◌≡◌, ℕ, zero, suc, ◌+◌, ◌≤◌, max, ◌&&◌, ◌==◌, Bool, true, false, Ok, Err, cond, nat_lt, is_some, not, List, [], ◌∷◌, ◌++◌, Option, Some, None, ◌⊎◌}
+use Rattle.std.proofs.Common.{ap, subst, arith, lt-ltb, ltb-true, inl, inr}
 use Rattle.cc_ast.specs.declared.operator.BinOp.{BinOp}
-use Rattle.cc_ast.specs.declared.operator.UnOp.TheVariants as op
 use Rattle.cc_ast.specs.declared.place.Place.{Place}
 use Rattle.cc_ast.specs.declared.reading.Construct.TheVariants as construct
 use Rattle.cc_ast.specs.Syntax.{undefined}
 use Rattle.cc_lexer.specs.declared.token.Mark.TheVariants as mark
-use Rattle.cc_grammar.specs.Symbols.{Kind, Lexeme, Symbols, look, rest, is_mark}
-use Rattle.cc_grammar.specs.Symbols as k
+use Rattle.cc_grammar.specs.Symbols.{Symbols, look, rest, is_mark}
 use Rattle.cc_grammar.specs.RawTree.{RawExpr, RawTarget, RawStmt, RawKey, RawField, Named, exprs, fields, stmts}
 use Rattle.cc_grammar.specs.RawTree as raw
 use Rattle.cc_grammar.specs.Signs.{Prefix, unary, Infix, parenthesised, key_of, property_of, is_accessor, target_of, step_of, prefix_of, prefix_tree, infix_of, level, infix_tree, assign_of}
@@ -18,7 +16,7 @@ use Rattle.cc_grammar.specs.Grammar.{Context, of_function}
 use Rattle.cc_grammar.specs.Reading.{Outcome, Sized, Head, Suffix, and_then, semicolon_symbol, depth, spent, refused, variable_of, head_of, suffix_of, ends_list, goes_on, is_delete, is_element, is_remedy}
 use Rattle.cc_grammar.specs.Reading as r
 use Rattle.cc_grammar.proofs.Marked.{In}
-use Rattle.cc_grammar.proofs.Alike.{Bounds, Deeper, bounded, equal, one_less, one_more, Stands, Near, unread, there, Alike, stands_after, alike_after, alike_pure, alike_refuse, alike_look, alike_take, alike_behind, alike_fork, alike_choice, alike_fail, alike_stops, alike_spent, alike_depth, alike_deeper, alike_expect, alike_close, alike_unless}
+use Rattle.cc_grammar.proofs.Alike.{Bounds, Deeper, bounded, equal, one_less, one_more, Stands, Near, unread, there, Alike, stands_after, alike_after, alike_pure, alike_refuse, alike_look, alike_take, alike_behind, alike_fork, alike_fail, alike_stops, alike_spent, alike_depth, alike_deeper, alike_expect, alike_close, alike_unless}
 use Rattle.cc_grammar.proofs.OnSymbols as s
 
 -- Where it is read, it is so up to where the look ahead has come to, or farther.

@@ -1,5 +1,5 @@
 -- What is derived is read, to a depth and with turns that are enough; and so a list of symbols has one tree.
-use Rattle.std.specs.Prelude.{◌≡◌, ℕ, zero, suc, ◌+◌, ◌<◌, ◌≤◌, max, List, [], ◌∷◌, ◌++◌, Ok, Err}
+use Rattle.std.specs.Prelude.{◌≡◌, ℕ, zero, suc, ◌<◌, ◌≤◌, max, List, [], Ok}
 use Rattle.std.proofs.Common.{refl, sym, ap, arith, ◌∙◌}
 use Rattle.cc_grammar.specs.Symbols.{Symbols}
 use Rattle.cc_grammar.specs.RawTree.{RawStmt}

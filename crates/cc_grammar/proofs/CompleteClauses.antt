@@ -1,5 +1,5 @@
 -- What is derived is read: the parts of statements.
-use Rattle.std.specs.Prelude.{◌≡◌, ℕ, zero, suc, ◌+◌, ◌<◌, ◌≤◌, max, ◌||◌, Bool, true, false, cond, nat_lt, List, [], ◌∷◌, ◌++◌, Ok, Err, Option, Some, None}
+use Rattle.std.specs.Prelude.{◌≡◌, ℕ, zero, suc, ◌+◌, ◌<◌, ◌≤◌, max, Bool, true, false, cond, List, [], ◌∷◌, ◌++◌, Ok, Option, Some, None}
 use Rattle.std.proofs.Common.{refl, sym, ap, arith, ◌∙◌, append_assoc, append-nil}
 use Rattle.cc_ast.specs.declared.place.Place.{Place}
 use Rattle.cc_lexer.specs.declared.token.Mark.{Mark}
@@ -17,8 +17,8 @@ use Rattle.cc_grammar.specs.Reading as r
 use Rattle.cc_grammar.proofs.Marked.{In}
 use Rattle.cc_grammar.proofs.Views.{mark_true, mark_self}
 use Rattle.cc_grammar.proofs.Mono.{lower}
-use Rattle.cc_grammar.proofs.Shrinks.{reals, at_less, variable_less, e_less, declarator_less, declarators_less, init_less, optional_less, body_less, cases_less, t_less}
-use Rattle.cc_grammar.proofs.Steps.{step, chosen_at, skipped_at, kind_at, rest_at, mark_at, word_at, table_at, taken, taken_variable}
+use Rattle.cc_grammar.proofs.Shrinks.{reals, at_less, variable_less, e_less, declarator_less, declarators_less, optional_less, body_less}
+use Rattle.cc_grammar.proofs.Steps.{step, chosen_at, skipped_at, rest_at, mark_at, word_at, table_at, taken, taken_variable}
 use Rattle.cc_grammar.proofs.Firsts.{opens, begins, no_mark, no_word}
 use Rattle.cc_grammar.proofs.Quiet.{Quiet, looser, at_next, close_paren, semicolon, colon, comma, word_in}
 use Rattle.cc_grammar.proofs.CompleteLists.{Reads, CompleteInner, statements_read}

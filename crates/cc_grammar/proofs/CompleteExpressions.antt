@@ -1,14 +1,13 @@
 -- What is derived is read: expressions.
-use Rattle.std.specs.Prelude.{◌≡◌, ℕ, zero, suc, ◌+◌, ◌<◌, ◌≤◌, max, Bool, true, false, cond, nat_lt, ◌==◌, List, Ok, Err, Option, Some, None}
-use Rattle.std.proofs.Common.{refl, sym, ap, arith, ◌∙◌, eqb-true}
-use Rattle.cc_ast.specs.Syntax.{Prim, undefined}
-use Rattle.cc_lexer.specs.declared.token.Mark.TheVariants as mark
+use Rattle.std.specs.Prelude.{◌≡◌, ℕ, suc, ◌+◌, ◌<◌, ◌≤◌, max, Bool, true, false, ◌==◌, List, Ok, Some, None}
+use Rattle.std.proofs.Common.{refl, sym, ap, arith, ◌∙◌}
+use Rattle.cc_ast.specs.Syntax.{Prim}
 use Rattle.cc_grammar.specs.declared.word.Word.TheVariants as word
 use Rattle.cc_grammar.specs.Symbols.{Kind, Symbols, look, rest, is_mark}
 use Rattle.cc_grammar.specs.Symbols as k
 use Rattle.cc_grammar.specs.RawTree.{RawExpr, RawTarget}
 use Rattle.cc_grammar.specs.RawTree as raw
-use Rattle.cc_grammar.specs.Signs.{Prefix, Infix, literal_of, target_of, step_of, prefix_of, infix_of, level, infix_tree}
+use Rattle.cc_grammar.specs.Signs.{Prefix, Infix, literal_of, prefix_of, infix_of, level, infix_tree}
 use Rattle.cc_grammar.specs.Grammar as g
 use Rattle.cc_grammar.specs.Grammar.{At, Variable, E}
 use Rattle.cc_grammar.specs.Reading.{Outcome, Sized, and_then, suffix_of}
@@ -16,11 +15,11 @@ use Rattle.cc_grammar.specs.Reading as r
 use Rattle.cc_grammar.proofs.Marked.{In}
 use Rattle.cc_grammar.proofs.Mono.{bounded, above}
 use Rattle.cc_grammar.proofs.Shrinks.{reals, at_less, e_less}
-use Rattle.cc_grammar.proofs.Steps.{step, chosen_at, skipped_at, regroup, rest_at, table_at}
+use Rattle.cc_grammar.proofs.Steps.{step, skipped_at, regroup, rest_at, table_at}
 use Rattle.cc_grammar.proofs.Quiet.{Apart, Quiet, looser, at_next, apart_at, comma, question, remedy, assignment, infix_apart, step_suffix}
 use Rattle.cc_grammar.proofs.Ahead.{spared, remedied}
 use Rattle.cc_grammar.proofs.CompleteLists.{Reads, CompleteInner}
-use Rattle.cc_grammar.proofs.CompleteOperands.{ChainFrom, at_chain}
+use Rattle.cc_grammar.proofs.CompleteOperands.{at_chain}
 use Rattle.cc_grammar.proofs.CompleteOperators.{deletes_no_variable, postfix_step, prefixed_by, prefix_step, wrong_prefix_step, climb_step, conditional_step, assign_step, comma_step}
 use Rattle.cc_grammar.proofs.Stopping.{no_callee, by_operand, by_climb, last, from_conditional, last_ends, no_more_suffixes, no_postfix, no_more_climbs, no_conditional, no_assign}
 use Rattle.cc_grammar.proofs.OnSymbols as s

@@ -1,10 +1,9 @@
 -- What is derived is read: lists of expressions and statements, and functions.
-use Rattle.std.specs.Prelude.{◌≡◌, ℕ, zero, suc, ◌+◌, ◌<◌, ◌≤◌, max, ◌&&◌, Bool, true, false, cond, is_some, List, [], ◌∷◌, ◌++◌, Ok, Err, Option, Some, None}
+use Rattle.std.specs.Prelude.{◌≡◌, ℕ, zero, suc, ◌<◌, ◌≤◌, max, ◌&&◌, Bool, true, false, cond, is_some, List, [], ◌∷◌, ◌++◌, Ok, Option, Some, None}
 use Rattle.std.proofs.Common.{refl, sym, ap, arith, ◌∙◌, append_assoc, append-nil}
 use Rattle.std.proofs.Math.Bool.{and-false}
 use Rattle.cc_lexer.specs.declared.token.Mark.TheVariants as mark
 use Rattle.cc_grammar.specs.Symbols.{Kind, Symbols, look, rest, is_mark}
-use Rattle.cc_grammar.specs.Symbols as k
 use Rattle.cc_grammar.specs.RawTree.{RawExpr, RawStmt, RawField, RawKey, Named}
 use Rattle.cc_grammar.specs.Signs.{is_accessor, key_of}
 use Rattle.cc_grammar.specs.Grammar as g
@@ -12,8 +11,8 @@ use Rattle.cc_grammar.specs.Grammar.{Context, of_function, At, Sign, Variable, O
 use Rattle.cc_grammar.specs.Reading.{Outcome, Sized, is_element, ends_list, variable_of, suffix_of}
 use Rattle.cc_grammar.specs.Reading as r
 use Rattle.cc_grammar.proofs.Marked.{In}
-use Rattle.cc_grammar.proofs.Shrinks.{reals, at_less, variable_less, own_less, params_less, more_params_less, e_less, field_less, fields_less, elements_less, more_less, t_less, body_less}
-use Rattle.cc_grammar.proofs.Steps.{step, chosen, skipped, chosen_at, skipped_at, kind_at, rest_at, mark_at, table_at, taken, variable_at, variable_rest, taken_variable}
+use Rattle.cc_grammar.proofs.Shrinks.{reals, at_less, variable_less, params_less, e_less, field_less, t_less}
+use Rattle.cc_grammar.proofs.Steps.{step, chosen_at, skipped_at, kind_at, rest_at, mark_at, table_at, taken, variable_at, variable_rest, taken_variable}
 use Rattle.cc_grammar.proofs.Firsts.{opens, begins, no_end_begins, no_mark, no_element, not_in_table}
 use Rattle.cc_grammar.proofs.Quiet.{Quiet, looser, at_next, close_bracket, close_brace, close_paren, comma}
 use Rattle.cc_grammar.proofs.OnSymbols as s

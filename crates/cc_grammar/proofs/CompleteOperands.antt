@@ -1,5 +1,5 @@
 -- What is derived is read: primary expressions, and what goes on with them by dots, brackets and calls.
-use Rattle.std.specs.Prelude.{◌≡◌, ℕ, zero, suc, ◌+◌, ◌<◌, ◌≤◌, max, Bool, true, false, cond, nat_lt, List, [], ◌∷◌, Ok, Err, Option, Some, None}
+use Rattle.std.specs.Prelude.{◌≡◌, ℕ, zero, suc, ◌+◌, ◌<◌, ◌≤◌, max, Bool, true, false, nat_lt, List, [], Ok, Err, Option, Some, None}
 use Rattle.std.proofs.Common.{refl, sym, ap, arith, ◌∙◌, ltb-true}
 use Rattle.cc_ast.specs.Syntax.{Prim, undefined}
 use Rattle.cc_lexer.specs.declared.token.Mark.TheVariants as mark

@@ -1,6 +1,6 @@
 -- What is derived is read: the steps of operators.
-use Rattle.std.specs.Prelude.{◌≡◌, ℕ, zero, suc, ◌+◌, ◌<◌, ◌≤◌, max, Bool, true, false, cond, nat_lt, ◌==◌, List, [], ◌∷◌, Ok, Err, Option, Some, None}
-use Rattle.std.proofs.Common.{refl, sym, ap, arith, ◌∙◌, ltb-true, le-ltb, lt-ltb, eqb-true}
+use Rattle.std.specs.Prelude.{◌≡◌, ℕ, zero, suc, ◌+◌, ◌<◌, ◌≤◌, max, Bool, true, false, cond, nat_lt, Ok, Err, Option, Some, None}
+use Rattle.std.proofs.Common.{refl, ap, arith, ◌∙◌, ltb-true, le-ltb, lt-ltb}
 use Rattle.cc_ast.specs.declared.operator.BinOp.{BinOp}
 use Rattle.cc_ast.specs.declared.operator.UnOp.TheVariants as op
 use Rattle.cc_ast.specs.declared.place.Place.{Place}
@@ -19,11 +19,10 @@ use Rattle.cc_grammar.specs.Reading as r
 use Rattle.cc_grammar.proofs.Marked.{In}
 use Rattle.cc_grammar.proofs.Mono.{bounded, above}
 use Rattle.cc_grammar.proofs.Shrinks.{reals, at_less, e_less}
-use Rattle.cc_grammar.proofs.Steps.{step, opened, shut, chosen_at, skipped_at, same_cond, same_after, other_fork, kind_at, rest_at, mark_at, table_at, taken}
-use Rattle.cc_grammar.proofs.Firsts.{clash}
+use Rattle.cc_grammar.proofs.Steps.{step, opened, chosen_at, skipped_at, same_cond, same_after, other_fork, rest_at, mark_at, table_at, taken}
 use Rattle.cc_grammar.proofs.Quiet.{Quiet, looser, at_next, colon}
 use Rattle.cc_grammar.proofs.Ahead.{Spared}
-use Rattle.cc_grammar.proofs.CompleteLists.{Reads, CompleteInner}
+use Rattle.cc_grammar.proofs.CompleteLists.{CompleteInner}
 use Rattle.cc_grammar.proofs.Stopping.{either_way}
 use Rattle.cc_grammar.proofs.OnSymbols as s
 

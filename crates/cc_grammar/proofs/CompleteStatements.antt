@@ -1,7 +1,6 @@
 -- What is derived is read: statements.
-use Rattle.std.specs.Prelude.{◌≡◌, ℕ, zero, suc, ◌+◌, ◌<◌, ◌≤◌, max, ◌||◌, Bool, true, false, cond, nat_lt, List, [], ◌∷◌, Ok, Err, Option, Some, None}
+use Rattle.std.specs.Prelude.{◌≡◌, ℕ, ◌+◌, ◌<◌, ◌≤◌, max, ◌||◌, Bool, true, false, cond, nat_lt, List, [], ◌∷◌, Ok, Err, Some, None}
 use Rattle.std.proofs.Common.{refl, sym, ap, arith, ◌∙◌}
-use Rattle.cc_ast.specs.declared.reading.Construct.{Construct}
 use Rattle.cc_lexer.specs.declared.token.Mark.TheVariants as mark
 use Rattle.cc_grammar.specs.declared.word.Word.TheVariants as word
 use Rattle.cc_grammar.specs.Symbols.{Kind, Lexeme, Symbols, real, look, rest, is_mark, is_word}
@@ -18,7 +17,7 @@ use Rattle.cc_grammar.proofs.Marked.{In}
 use Rattle.cc_grammar.proofs.Shrinks.{reals, at_less, e_less, t_less, catch_less, variable_less}
 use Rattle.cc_grammar.proofs.Steps.{step, opened, chosen_at, skipped_at, kind_at, rest_at, mark_at, word_at, table_at, taken, taken_word, taken_variable, ends_at}
 use Rattle.cc_grammar.proofs.Firsts.{clash, opens, begins, no_label, Starts, plainly, with_name, starts}
-use Rattle.cc_grammar.proofs.Quiet.{Quiet, looser, at_end, end_colon}
+use Rattle.cc_grammar.proofs.Quiet.{at_end, end_colon}
 use Rattle.cc_grammar.proofs.CompleteLists.{Reads, CompleteInner, body_read, function_read}
 use Rattle.cc_grammar.proofs.CompleteOperands.{variable_head}
 use Rattle.cc_grammar.proofs.Stopping.{by_head}

@@ -1,5 +1,5 @@
 -- What is derived within the depth, with justified insertions, is read.
-use Rattle.std.specs.Prelude.{◌≡◌, ℕ, suc, ◌+◌, ◌<◌, ◌≤◌, Bool, true, false, List, [], ◌∷◌, ◌++◌, map, length, Ok, Err}
+use Rattle.std.specs.Prelude.{◌≡◌, ℕ, ◌<◌, ◌≤◌, true, false, List, [], ◌∷◌, ◌++◌, map, length, Ok}
 use Rattle.std.proofs.Common.{refl, sym, ap, ◌∙◌, subst, arith, append-nil, length-append, inr}
 use Rattle.cc_grammar.specs.Symbols.{Lexeme, Symbols, real, inserted, lexemes_of}
 use Rattle.cc_grammar.specs.Symbols as k

@@ -1,11 +1,9 @@
 -- What the reader of tokens does, the reader of symbols does with the semicolons that were inserted, and without each
 -- of them it stops at the token that follows.
-use Rattle.std.specs.Prelude.{◌≡◌, ℕ, Bool, true, false, cond, List, [], ◌∷◌, map, Ok, Err, ◌⊎◌}
-use Rattle.std.proofs.Common.{refl, sym, ap, ◌∙◌, subst, inl, inr}
-use Rattle.cc_lexer.specs.declared.token.Mark.{Mark}
+use Rattle.std.specs.Prelude.{◌≡◌, Bool, true, false, List, [], ◌∷◌, map, Ok, Err, ◌⊎◌}
+use Rattle.std.proofs.Common.{refl, sym, ap, ◌∙◌, inl, inr}
 use Rattle.cc_lexer.specs.declared.token.Mark.TheVariants as mark
-use Rattle.cc_grammar.specs.Symbols.{Kind, Lexeme, Symbols, real, inserted, look, rest, semicolon, lexemes_of, is_mark}
-use Rattle.cc_grammar.specs.Symbols as k
+use Rattle.cc_grammar.specs.Symbols.{Lexeme, Symbols, real, inserted, look, semicolon, lexemes_of, is_mark}
 use Rattle.cc_grammar.specs.Fronts.{offends}
 use Rattle.cc_grammar.specs.Reading.{Outcome, Fault, fault, and_then, look_token}
 use Rattle.cc_grammar.specs.Reading as r

@@ -1,5 +1,5 @@
 -- The readers of symbols and of tokens go alike: operators, and whole expressions.
-use Rattle.std.specs.Prelude.{◌≡◌, ℕ, zero, suc, ◌+◌, ◌<◌, max, ◌==◌, Bool, true, false, cond, nat_lt, List, [], ◌∷◌, map, Ok, Err, ◌⊎◌, Option, Some, None}
+use Rattle.std.specs.Prelude.{◌≡◌, ℕ, zero, suc, ◌+◌, ◌<◌, max, ◌==◌, Bool, true, false, cond, nat_lt, [], ◌∷◌, map, Ok, Err, ◌⊎◌, Option, Some, None}
 use Rattle.std.proofs.Common.{refl, sym, ap, ◌∙◌, subst, inr}
 use Rattle.cc_ast.specs.declared.operator.BinOp.{BinOp}
 use Rattle.cc_ast.specs.declared.place.Place.{Place}
@@ -13,13 +13,13 @@ use Rattle.cc_grammar.specs.Signs.{Prefix, Infix, step_of, target_of, prefix_of,
 use Rattle.cc_grammar.specs.Signs as sign
 use Rattle.cc_grammar.specs.Reading.{Outcome, Fault, Sized, and_then, look_token, rest_tokens, is_delete, is_remedy}
 use Rattle.cc_grammar.specs.Reading as r
-use Rattle.cc_grammar.proofs.Meets.{Done, ok, err, branch}
+use Rattle.cc_grammar.proofs.Meets.{Done, ok, err}
 use Rattle.cc_grammar.proofs.Marked.{In}
 use Rattle.cc_grammar.proofs.Shrinks.{reals}
 use Rattle.cc_grammar.proofs.Ahead.{Spared}
 use Rattle.cc_grammar.proofs.SoundParts.{SoundInner}
-use Rattle.cc_grammar.proofs.Copies.{L, Copy, put, put_lexemes, lexemes_real, Each, each_map, each_both, StopsAt, Just, Late, Bars, Shut, shut_by, Bar, clash, reads, Copies, read, stop, Quiet, Head, goes, halts, Starts, starts, halts_end, started, same_copies}
-use Rattle.cc_grammar.proofs.CopySteps.{quiet, shut_after, bar_by, bars_after, copies_after, goes_after, starts_after, copies_pure, Chosen, by_token, by_taking, by_none, absent, decide, fork, split, split_copies, deeper, at_end, head_of_start, fails_bar, fails_here, stops_here, refuses_bar, refuses_here, expects}
+use Rattle.cc_grammar.proofs.Copies.{L, Copy, put, put_lexemes, each_map, each_both, StopsAt, Just, Late, Bars, Shut, Bar, clash, reads, Copies, read, stop, Quiet, Head, goes, halts, Starts, starts, started, same_copies}
+use Rattle.cc_grammar.proofs.CopySteps.{quiet, shut_after, bar_by, copies_after, goes_after, starts_after, copies_pure, Chosen, by_token, by_taking, by_none, absent, decide, fork, split, split_copies, deeper, at_end, head_of_start, fails_bar, fails_here, stops_here, refuses_bar, refuses_here, expects}
 use Rattle.cc_grammar.proofs.CopyAhead.{Plain, plain_real, plain_put, each_plain, Answers, answers, opened_plain, opened_spared, AtLast, denied, accepted, opened_last, Looks, found, other, spends, opened_looks, each_takes, late_takes, delete_spares}
 use Rattle.cc_grammar.proofs.CopyLists.{CopyInner, BarsInner}
 use Rattle.cc_grammar.proofs.CopyPrimary.{primary_bar, primary_copy, suffixes_copy}

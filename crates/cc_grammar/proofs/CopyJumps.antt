@@ -1,6 +1,6 @@
 -- The readers of symbols and of tokens go alike: jumps, clauses and declarations.
-use Rattle.std.specs.Prelude.{◌≡◌, ℕ, zero, suc, ◌+◌, ◌<◌, max, ◌||◌, Bool, true, false, cond, nat_lt, List, [], ◌∷◌, ◌++◌, Ok, Err, Option, Some, None}
-use Rattle.std.proofs.Common.{refl, sym, ap, ◌∙◌}
+use Rattle.std.specs.Prelude.{◌≡◌, ℕ, zero, suc, ◌<◌, ◌||◌, Bool, true, false, nat_lt, List, [], ◌∷◌, Ok, Option, Some, None}
+use Rattle.std.proofs.Common.{refl, sym, ◌∙◌}
 use Rattle.cc_ast.specs.declared.place.Place.{Place}
 use Rattle.cc_ast.specs.declared.reading.Construct.{Construct}
 use Rattle.cc_lexer.specs.declared.token.Mark.TheVariants as mark
@@ -16,7 +16,7 @@ use Rattle.cc_grammar.specs.Reading.{Outcome, Sized, Clause, look_token, clause_
 use Rattle.cc_grammar.specs.Reading as r
 use Rattle.cc_grammar.proofs.Marked.{In}
 use Rattle.cc_grammar.proofs.SoundParts.{SoundInner}
-use Rattle.cc_grammar.proofs.Copies.{L, Bars, Shut, Excused, excused, Copies, Quiet, Shows, Head, goes, halts, Starts, starts, halts_end, started, relaxed, relaxed_start}
+use Rattle.cc_grammar.proofs.Copies.{L, Bars, Excused, Copies, Quiet, Head, goes, halts, Starts, starts, halts_end, started, relaxed, relaxed_start}
 use Rattle.cc_grammar.proofs.CopySteps.{quiet, shut_after, bars_after, copies_after, copies_then, goes_after, starts_after, copies_pure, Chosen, by_token, by_other, by_taking, by_none, absent, decide, fork, split, split_copies, deeper, at_end, head_of_start, copies_first, fails_here, stops_here, refuses_bar, refuses_here, expects}
 use Rattle.cc_grammar.proofs.CopyLists.{CopyInner, BarsInner, variable_copy, list_copy, function_copy}
 use Rattle.cc_grammar.proofs.CopyExpressions.{expr_bar, expr_copy, after_head_copy}

@@ -1,6 +1,6 @@
 -- The readers of symbols and of tokens go alike: variables, lists of expressions and statements, and functions.
-use Rattle.std.specs.Prelude.{◌≡◌, ℕ, zero, suc, ◌+◌, ◌<◌, max, ◌&&◌, Bool, true, false, cond, List, [], ◌∷◌, ◌++◌, Ok, Err, Option, Some, None, is_some}
-use Rattle.std.proofs.Common.{refl, sym, ap, ◌∙◌, arith, subst}
+use Rattle.std.specs.Prelude.{◌≡◌, ℕ, zero, suc, ◌<◌, max, ◌&&◌, Bool, true, false, cond, List, [], ◌∷◌, ◌++◌, Ok, Err, Option, Some, None, is_some}
+use Rattle.std.proofs.Common.{refl, sym, arith, subst}
 use Rattle.cc_ast.specs.declared.place.Place.{Place}
 use Rattle.cc_ast.specs.declared.reading.Construct.TheVariants as construct
 use Rattle.cc_lexer.specs.declared.token.Mark.{Mark}
@@ -8,14 +8,13 @@ use Rattle.cc_lexer.specs.declared.token.Mark.TheVariants as mark
 use Rattle.cc_grammar.specs.Symbols.{Kind, Lexeme, Symbols, real, look, rest, is_mark}
 use Rattle.cc_grammar.specs.Symbols as k
 use Rattle.cc_grammar.specs.RawTree.{RawExpr, RawStmt, RawKey, RawField, Named}
-use Rattle.cc_grammar.specs.RawTree as raw
 use Rattle.cc_grammar.specs.Signs.{key_of, is_accessor}
 use Rattle.cc_grammar.specs.Grammar.{Context, of_function}
 use Rattle.cc_grammar.specs.Reading.{Outcome, Sized, look_token, rest_tokens, variable_of, is_element, ends_list, and_then}
 use Rattle.cc_grammar.specs.Reading as r
 use Rattle.cc_grammar.proofs.Marked.{In}
-use Rattle.cc_grammar.proofs.Copies.{L, end, read, Copies, Quiet, Shows, Bars, Shut, reads, Head, goes, goes_in, halts, Starts, starts, halts_end, started, shut_by}
-use Rattle.cc_grammar.proofs.CopySteps.{quiet, shows, shut_after, bars_after, copies_after, copies_then, goes_after, starts_after, copies_pure, Chosen, by_token, by_taking, by_none, absent, decide, decide_first, fork, fork_shows, split, split_outcome, at_end, head_of_start, fails_bar, fails_here, stops_here, refuses_here, expects, expect_bar}
+use Rattle.cc_grammar.proofs.Copies.{L, Copies, Quiet, Shows, Bars, Head, goes, goes_in, halts, Starts, starts, halts_end, started}
+use Rattle.cc_grammar.proofs.CopySteps.{quiet, shows, bars_after, copies_after, copies_then, goes_after, starts_after, copies_pure, Chosen, by_token, by_taking, by_none, absent, decide, decide_first, fork, fork_shows, split, at_end, head_of_start, fails_bar, stops_here, refuses_here, expects, expect_bar}
 use Rattle.cc_grammar.proofs.OnSymbols as s
 use Rattle.cc_grammar.proofs.OnTokens as t
 

@@ -1,12 +1,10 @@
 -- The readers of symbols and of tokens go alike: primary expressions and their suffixes.
-use Rattle.std.specs.Prelude.{◌≡◌, ℕ, zero, suc, ◌+◌, ◌<◌, max, Bool, true, false, cond, nat_lt, List, [], ◌∷◌, map, Ok, Err, Option, Some, None}
+use Rattle.std.specs.Prelude.{◌≡◌, ℕ, zero, suc, ◌<◌, Bool, true, false, nat_lt, List, [], ◌∷◌, map, Option, Some, None}
 use Rattle.std.proofs.Common.{refl, sym, ap, ◌∙◌, arith, inr, lt-ltb, ltb-true}
-use Rattle.cc_ast.specs.declared.place.Place.{Place}
 use Rattle.cc_lexer.specs.declared.token.Mark.TheVariants as mark
 use Rattle.cc_grammar.specs.Symbols.{Kind, Lexeme, Symbols, real, inserted, look, rest, is_mark}
 use Rattle.cc_grammar.specs.Symbols as k
-use Rattle.cc_grammar.specs.RawTree.{RawExpr, Named}
-use Rattle.cc_grammar.specs.RawTree as raw
+use Rattle.cc_grammar.specs.RawTree.{RawExpr}
 use Rattle.cc_grammar.specs.Signs.{property_of}
 use Rattle.cc_grammar.specs.Reading.{Outcome, Sized, Head, Suffix, look_token, variable_of, head_of, suffix_of}
 use Rattle.cc_grammar.specs.Reading as r

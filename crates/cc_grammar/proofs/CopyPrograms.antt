@@ -1,8 +1,7 @@
 -- The readers of symbols and of tokens go alike, at every depth.
-use Rattle.std.specs.Prelude.{◌≡◌, ℕ, zero, suc, ◌<◌, Bool, true, false, cond, nat_lt, List, [], ◌∷◌, map, Ok, Err}
+use Rattle.std.specs.Prelude.{◌≡◌, ℕ, zero, suc, ◌<◌, true, false, nat_lt, [], ◌∷◌, map, Err}
 use Rattle.std.proofs.Common.{refl, ap, arith}
-use Rattle.cc_grammar.specs.Symbols.{Kind, Lexeme, Symbols, real, look, rest}
-use Rattle.cc_grammar.specs.RawTree.{RawExpr, RawStmt}
+use Rattle.cc_grammar.specs.Symbols.{Lexeme, real}
 use Rattle.cc_grammar.specs.Grammar.{Context, of_program}
 use Rattle.cc_grammar.specs.Reading.{Outcome, Sized, Start, start_of, look_token, read_symbols, read_tokens}
 use Rattle.cc_grammar.specs.Reading as r

@@ -1,11 +1,11 @@
 -- The readers of symbols and of tokens go alike: the parts of statements, and statements with bodies.
-use Rattle.std.specs.Prelude.{◌≡◌, ℕ, zero, suc, ◌+◌, ◌<◌, max, Bool, true, false, cond, nat_lt, List, [], ◌∷◌, ◌++◌, Ok, Err, Option, Some, None}
-use Rattle.std.proofs.Common.{refl, ap}
+use Rattle.std.specs.Prelude.{ℕ, zero, suc, ◌<◌, max, Bool, true, false, List, [], ◌∷◌, ◌++◌, Ok, Option, Some, None}
+use Rattle.std.proofs.Common.{refl}
 use Rattle.cc_ast.specs.declared.place.Place.{Place}
 use Rattle.cc_lexer.specs.declared.token.Mark.{Mark}
 use Rattle.cc_lexer.specs.declared.token.Mark.TheVariants as mark
 use Rattle.cc_grammar.specs.declared.word.Word.TheVariants as word
-use Rattle.cc_grammar.specs.Symbols.{Kind, Lexeme, Symbols, real, look, rest, is_mark, is_word}
+use Rattle.cc_grammar.specs.Symbols.{Lexeme, real, look, is_mark, is_word}
 use Rattle.cc_grammar.specs.RawTree.{RawExpr, RawTarget, RawStmt, RawDeclarator, RawInit, stmts}
 use Rattle.cc_grammar.specs.RawTree as raw
 use Rattle.cc_grammar.specs.Signs.{target_of}
@@ -13,7 +13,7 @@ use Rattle.cc_grammar.specs.Grammar.{Context, inside, in_loop}
 use Rattle.cc_grammar.specs.Reading.{Outcome, Sized, look_token, semicolon_symbol, semicolon_token}
 use Rattle.cc_grammar.specs.Reading as r
 use Rattle.cc_grammar.proofs.Marked.{In}
-use Rattle.cc_grammar.proofs.Copies.{L, Bars, Copies, Quiet, Shows, Head, goes, halts, Starts, starts, started, relaxed, relaxed_start}
+use Rattle.cc_grammar.proofs.Copies.{L, Bars, Copies, Quiet, Shows, Head, goes, Starts, started, relaxed, relaxed_start}
 use Rattle.cc_grammar.proofs.CopySteps.{quiet, shows, bars_after, copies_after, copies_then, goes_after, starts_after, copies_pure, Chosen, by_token, by_taking, by_none, absent, decide, fork, fork_shows, split, at_end, head_of_start, copies_first, stops_here, expects, expects_word, expect_bar, copies_semicolon}
 use Rattle.cc_grammar.proofs.CopyLists.{CopyInner, BarsInner, variable_copy, body_copy}
 use Rattle.cc_grammar.proofs.OnSymbols as s

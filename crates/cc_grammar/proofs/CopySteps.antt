@@ -1,5 +1,5 @@
 -- How readers of symbols and of tokens that go alike are put together.
-use Rattle.std.specs.Prelude.{◌≡◌, ℕ, nat_lt, Bool, true, false, cond, List, [], ◌∷◌, map, Ok, Err, None, ◌⊎◌}
+use Rattle.std.specs.Prelude.{◌≡◌, ℕ, nat_lt, Bool, true, false, cond, [], ◌∷◌, map, Ok, Err, None, ◌⊎◌}
 use Rattle.std.proofs.Common.{refl, sym, ap, ◌∙◌, subst, inl, inr}
 use Rattle.cc_lexer.specs.declared.token.Mark.{Mark}
 use Rattle.cc_lexer.specs.declared.token.Mark.TheVariants as mark
@@ -10,7 +10,7 @@ use Rattle.cc_grammar.specs.Fronts.{offends, is_end}
 use Rattle.cc_grammar.specs.Reading.{Outcome, Fault, Due, Cause, fault, and_then, look_token, rest_tokens, semicolon_symbol, semicolon_token}
 use Rattle.cc_grammar.specs.Reading as r
 use Rattle.cc_grammar.proofs.Alike.{is_limit}
-use Rattle.cc_grammar.proofs.Copies.{L, Copy, end, take, insert, put, join, put_join, lexemes_real, put_lexemes, look_real, shown, Each, each_map, each_both, each_join, each_lexemes, StopsAt, Just, Kept, kept_join, kept_end, kept_take, kept_brace, Copies, read, stop, Quiet, Shows, Shut, Bars, Beyond, passes, shuts, Excused, Bar, excused, reads, Free, Head, goes, goes_in, halts, Starts, starts, halts_end, limits, no_offence, clash, shut_by, taken, braced, went, started, loosened, same_copies}
+use Rattle.cc_grammar.proofs.Copies.{L, Copy, end, take, insert, put, join, put_join, lexemes_real, put_lexemes, look_real, shown, Each, each_map, each_both, each_join, each_lexemes, StopsAt, Just, Kept, kept_join, kept_end, kept_take, kept_brace, Copies, read, stop, Quiet, Shows, Shut, Bars, Beyond, passes, shuts, Bar, excused, reads, Free, Head, goes, goes_in, halts, Starts, starts, halts_end, limits, no_offence, clash, shut_by, taken, braced, went, started, loosened, same_copies}
 use Rattle.cc_grammar.proofs.OnSymbols as s
 use Rattle.cc_grammar.proofs.OnTokens as t
 

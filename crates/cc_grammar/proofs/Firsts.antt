@@ -1,6 +1,6 @@
 -- What an expression and a statement begin with.
-use Rattle.std.specs.Prelude.{◌≡◌, ℕ, ◌<◌, List, [], Bool, true, false, Option, Some, None, is_none}
-use Rattle.std.proofs.Common.{refl, sym, ap, arith, ◌∙◌}
+use Rattle.std.specs.Prelude.{◌≡◌, ℕ, List, Bool, true, false, Option, Some, None, is_none}
+use Rattle.std.proofs.Common.{refl, sym, ap, ◌∙◌}
 use Rattle.cc_ast.specs.Syntax.{Prim}
 use Rattle.cc_ast.specs.declared.reading.Construct.{Construct}
 use Rattle.cc_lexer.specs.declared.token.Mark.{Mark}
@@ -10,7 +10,7 @@ use Rattle.cc_grammar.specs.declared.word.Word.TheVariants as word
 use Rattle.cc_grammar.specs.Symbols.{Kind, Symbols, real, inserted, look, rest, is_mark, is_word}
 use Rattle.cc_grammar.specs.Symbols as k
 use Rattle.cc_grammar.specs.RawTree.{RawExpr, RawStmt}
-use Rattle.cc_grammar.specs.Signs.{Prefix, Infix, refused_name, literal_of, prefix_of, infix_of, assign_of, step_of}
+use Rattle.cc_grammar.specs.Signs.{Prefix, refused_name, literal_of, prefix_of, infix_of, assign_of, step_of}
 use Rattle.cc_grammar.specs.Grammar as g
 use Rattle.cc_grammar.specs.Grammar.{Context, At, Variable, E, T, opens_no_expression}
 use Rattle.cc_grammar.specs.Reading.{is_element, ends_list, start_of, variable_of}

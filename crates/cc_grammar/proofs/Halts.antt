@@ -2,6 +2,7 @@
 use Rattle.std.specs.Prelude.{◌≡◌, ℕ, suc, ◌+◌, ◌<◌, ◌≤◌, max, Bool, true, false, List, [], ◌∷◌, ◌++◌, map, length, Ok, Err, ◌⊎◌}
 use Rattle.std.proofs.Common.{refl, sym, ap, ◌∙◌, subst, arith, append_assoc, append-nil, inl, inr}
 use Rattle.std.proofs.lemmas.List.{append_cancel_right}
+use Rattle.cc_ast.specs.declared.reading.Construct.TheVariants as construct
 use Rattle.cc_lexer.specs.declared.token.Mark.TheVariants as mark
 use Rattle.cc_grammar.specs.Symbols.{Kind, Lexeme, Symbol, Symbols, real, inserted, look, lexemes_of, is_mark}
 use Rattle.cc_grammar.specs.RawTree.{RawStmt}
@@ -26,14 +27,19 @@ use Rattle.cc_grammar.proofs.TokenFronts.{tail_is, head_is, same_head, same_tail
 
 -- ---- what is known of the symbols before a stop
 
--- They are a front. At the depth they are one within the depth, and one with the next token.
+-- a deleted variable, behind which the front may be higher
+abbrev pub is_deletion : Cause → Bool
+is_deletion (refused construct.DeleteName) = true
+is_deletion _ = false
+
+-- They are a front within the depth, but where a variable is deleted perhaps a higher one. At the depth they are one with the next token.
 pub record Stopped (d : ℕ) (c : Fault) (p : Symbols) (us : L) : Type 0 where
   pub front : IsFront p
   pub unclosed : Open p
   pub unspent : is_spent c.cause ≡ false
   pub placed : c.cause ≡ syntax → c.place ≡ (look_token us).place
   pub placed_deep : is_limit c.cause ≡ true → c.place ≡ (look_token us).place
-  pub within : is_limit c.cause ≡ true → IsFrontWithin d p
+  pub within : is_deletion c.cause ≡ false → IsFrontWithin d p
   pub deeper : is_limit c.cause ≡ true → (t : Lexeme) (vs : L) → us ≡ t ∷ vs → IsFront (p ++ real t ∷ [])
   pub why : is_limit c.cause ≡ false → Why (FrontOf (p ++ map real us)) c (map real us)
 
@@ -54,9 +60,13 @@ record FrontIs (j : ℕ) (p : Symbols) : Type 0 where
 front_at : {j : ℕ} {xs i : Symbols} (p : Symbols) → xs ≡ p ++ i → FrontAt j xs (here i) → FrontIs j p
 front_at {j} {i} p e f = subst (λ z. FrontIs j z) (append_cancel_right f.before p i (sym f.is ∙ e)) (record { within = f.front; unclosed = f.unclosed })
 
+low_front : {d j : ℕ} {p : Symbols} {c : Cause} → IsFrontWithin j p → is_deletion c ≡ false → (j < suc d) ⊎ (c ≡ refused construct.DeleteName) → IsFrontWithin d p
+low_front f m (inl lt) = higher_within (omega arith) f
+low_front f m (inr e) = absurd (clash (sym (ap is_deletion e) ∙ m))
+
 pub stopped : {d : ℕ} {c : Fault} {xs : Symbols} (p : Symbols) (us : L) {o : Outcome Symbols (Sized (List RawStmt))} → xs ≡ p ++ map real us → Fails (suc d) (FrontOf xs) o → o ≡ Err (c, map real us) → Stopped d c p us
 stopped p us e fine q = absurd (cc)
-stopped {c} {xs} p us e (stop {c = a} {i} l o j _ w h) q =
+stopped {c} {xs} p us e (stop {c = a} {i} l o j lt w h) q =
     let pairs : ◌≡◌ {A = Fault × Symbols} (a, i) (c, map real us) = cc in
     let same : a ≡ c = ap (λ (z : Fault × Symbols). z.0) pairs in
     let place : i ≡ map real us = ap (λ (z : Fault × Symbols). z.1) pairs in
@@ -68,7 +78,7 @@ stopped {c} {xs} p us e (stop {c = a} {i} l o j _ w h) q =
       unspent = ap (λ (z : Fault). is_spent z.cause) (sym same) ∙ not_spent a.cause l;
       placed = λ m. ap (λ (z : Fault). z.place) (sym same) ∙ o (ap (λ (z : Fault). z.cause) same ∙ m) ∙ ap (λ z. (look z).place) place ∙ ap (λ z. z.place) (look_real us);
       placed_deep = λ m. absurd (limited m);
-      within = λ m. absurd (limited m);
+      within = λ m. low_front f.within (ap (λ (z : Fault). is_deletion z.cause) same ∙ m) lt;
       deeper = λ m t vs f. absurd (limited m);
       why = λ _. let y = subst (λ z. Why (FrontOf z) a i) e w in
           let z = let P : Fault → Type 0 = λ x. Why (FrontOf (p ++ map real us)) x i in subst P same y in

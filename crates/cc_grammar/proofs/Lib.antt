@@ -64,6 +64,7 @@ pub mod CopyPrograms
 pub mod SoundTokens
 pub mod TokenFronts
 pub mod Halts
+pub mod FirstFaults
 pub mod Refusals
 pub mod Swap
 pub mod SwapSites

@@ -1,16 +1,15 @@
 -- Symbols, and what is known of the next.
-use Rattle.std.specs.Prelude.{◌≡◌, ℕ, Bool, true, false, cond, List, [], ◌∷◌, Ok, Err, Option, Some, None}
-use Rattle.std.proofs.Common.{refl, sym, ◌∙◌, ap, subst}
+use Rattle.std.specs.Prelude.{◌≡◌, ℕ, Bool, true, false, List, [], ◌∷◌, Option, Some, None}
+use Rattle.std.proofs.Common.{refl, sym, ◌∙◌, ap}
 use Rattle.cc_lexer.specs.declared.token.Mark.{Mark}
 use Rattle.cc_lexer.specs.declared.token.Mark.TheVariants as mark
 use Rattle.cc_grammar.specs.declared.word.Word.{Word}
 use Rattle.cc_grammar.specs.Symbols.{Kind, Lexeme, Symbols, real, inserted, look, rest, is_mark, is_word}
 use Rattle.cc_grammar.specs.Symbols as k
-use Rattle.cc_grammar.specs.RawTree.{Named}
 use Rattle.cc_grammar.specs.Grammar.{At, at_token, Sign, Reserved, Ends, written, added, Variable, variable, any_variable}
 use Rattle.cc_grammar.specs.Reading.{Outcome, Fault, semicolon_symbol, variable_of, variable_by}
 use Rattle.cc_grammar.specs.Reading as r
-use Rattle.cc_grammar.proofs.Meets.{Done, ok, err, branch, after}
+use Rattle.cc_grammar.proofs.Meets.{Done, ok, err, branch}
 use Rattle.cc_grammar.proofs.Views.{mark_true, word_true, end_true, IsVariable, name, any, variable_is}
 
 -- the reading function on symbols, and what stands inside

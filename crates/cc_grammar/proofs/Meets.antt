@@ -1,5 +1,5 @@
 -- What an outcome meets, by its two cases.
-use Rattle.std.specs.Prelude.{◌≡◌, Bool, true, false, Result, Ok, Err, cond}
+use Rattle.std.specs.Prelude.{◌≡◌, Bool, true, false, Ok, Err, cond}
 use Rattle.std.proofs.Common.{refl}
 use Rattle.cc_grammar.specs.Reading.{Outcome, and_then, Fault}
 

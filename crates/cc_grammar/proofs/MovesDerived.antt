@@ -1,16 +1,14 @@
 -- What is derived before one list is derived before another.
-use Rattle.std.specs.Prelude.{◌≡◌, ℕ, ◌+◌, ◌<◌, ◌≤◌, Bool, true, false, List, [], ◌∷◌, ◌++◌, Option, Some, None}
-use Rattle.std.proofs.Common.{refl, sym, ap, ◌∙◌, subst, arith}
-use Rattle.cc_lexer.specs.declared.token.Mark.TheVariants as mark
+use Rattle.std.specs.Prelude.{ℕ, Bool, List, [], ◌∷◌, Option}
+use Rattle.std.proofs.Common.{refl, ap, ◌∙◌, subst, arith}
 use Rattle.cc_grammar.specs.declared.word.Word.TheVariants as word
-use Rattle.cc_grammar.specs.Symbols.{Kind, Lexeme, Symbols, real, inserted, look, is_word}
-use Rattle.cc_grammar.specs.Symbols as k
+use Rattle.cc_grammar.specs.Symbols.{Lexeme, Symbols, real, inserted}
 use Rattle.cc_grammar.specs.RawTree.{RawExpr, RawStmt, RawField, RawDeclarator, RawCase, RawInit, RawCatch, RawFinally, MaybeExpr, Named}
 use Rattle.cc_grammar.specs.RawTree as raw
 use Rattle.cc_grammar.specs.Grammar as g
 use Rattle.cc_grammar.specs.Grammar.{Context, Ends, Variable, OwnName, Params, MoreParams, E, Elements, Field, Fields, Arguments, MoreArguments, Function, Declarator, Declarators, Init, Optional, Cases, Catch, Finally, T, Body, opens_no_expression}
-use Rattle.cc_grammar.proofs.Shrinks.{e_less, ends_less, t_less, catch_less, finally_less, cases_less, variable_less, declarator_less, own_less}
-use Rattle.cc_grammar.proofs.Moves.{Front, stays, one, joined, behind, before_token, Moved, MovedTo, Fits, free, same, look_kept, kept_fits, fits_front, still_no}
+use Rattle.cc_grammar.proofs.Shrinks.{e_less, ends_less, t_less, catch_less, finally_less, cases_less}
+use Rattle.cc_grammar.proofs.Moves.{stays, one, joined, behind, before_token, Moved, MovedTo, same, look_kept, kept_fits, fits_front, still_no}
 
 pub ends_move : {xs ys : Symbols} → Ends xs ys → Moved Ends xs ys
 ends_move (g.written (g.at_token t {ys} q)) = record { front = one (real t) ys; holds = λ zs. g.written (g.at_token t q) }

@@ -1,12 +1,11 @@
 -- Where reading stops at a symbol, but not at a limit, the symbols up to it are no front, of any height.
-use Rattle.std.specs.Prelude.{◌≡◌, ℕ, suc, ◌+◌, ◌<◌, ◌≤◌, max, Bool, true, false, Ok, Err, List, [], ◌∷◌, ◌++◌, length}
+use Rattle.std.specs.Prelude.{◌≡◌, ℕ, suc, ◌≤◌, max, true, false, Ok, Err, List, [], ◌∷◌, ◌++◌, length}
 use Rattle.std.proofs.Common.{refl, sym, ap, ◌∙◌, subst, arith, append_assoc, length-append}
 use Rattle.cc_grammar.specs.Symbols.{Symbol, Symbols}
 use Rattle.cc_grammar.specs.RawTree.{RawStmt}
 use Rattle.cc_grammar.specs.Fronts.{Derives, IsFront}
 use Rattle.cc_grammar.specs.Reading.{Outcome, Sized, Fault, read_symbols}
 use Rattle.cc_grammar.proofs.Shrinks.{reals}
-use Rattle.cc_grammar.proofs.CompleteLists.{Reads}
 use Rattle.cc_grammar.proofs.Complete.{program_read}
 use Rattle.cc_grammar.proofs.Alike.{Bounds, limits, turns_alone, is_spent, Deeper, bounded, equal, Suffix, Stands, is_limit, IsErr, is_err, Held, limit, beyond, Decides, stops, barred, passes, limited}
 use Rattle.cc_grammar.proofs.AlikeStatements.{program_alike}

@@ -1,7 +1,6 @@
 -- Short forms of tokens, for computed rows.
 use Rattle.std.specs.Prelude.{ℕ, suc, pos, List, [], ◌∷◌, Bool, true, false, Ok, Err, Option, Some, None, codes}
 use Prim.Native.String.{String}
-use Rattle.cc_ast.specs.declared.place.Place.{Place}
 use Rattle.cc_lexer.specs.declared.token.Mark.{Mark}
 use Rattle.cc_grammar.specs.declared.word.Word.{Word}
 use Rattle.cc_grammar.specs.Symbols.{Kind, Lexeme, nowhere}

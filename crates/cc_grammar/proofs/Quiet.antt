@@ -1,5 +1,5 @@
 -- What goes on with no expression of a level.
-use Rattle.std.specs.Prelude.{◌≡◌, ℕ, ◌+◌, ◌<◌, ◌≤◌, Bool, true, false, Option, Some, None}
+use Rattle.std.specs.Prelude.{◌≡◌, ℕ, ◌<◌, ◌≤◌, Bool, true, false, Option, Some, None}
 use Rattle.std.proofs.Common.{refl, sym, ap, arith, ◌∙◌, subst}
 use Rattle.cc_ast.specs.declared.operator.BinOp.{BinOp}
 use Rattle.cc_lexer.specs.declared.token.Mark.TheVariants as mark
@@ -11,9 +11,7 @@ use Rattle.cc_grammar.specs.Grammar as g
 use Rattle.cc_grammar.specs.Grammar.{At, Ends}
 use Rattle.cc_grammar.specs.Reading.{suffix_of}
 use Rattle.cc_grammar.specs.Reading as r
-use Rattle.cc_grammar.proofs.Views.{mark_true}
 use Rattle.cc_grammar.proofs.Steps.{kind_at}
-use Rattle.cc_grammar.proofs.Mono.{above}
 use Rattle.cc_grammar.proofs.Firsts.{not_in_table}
 
 -- no left-hand-side expression goes on with it, and no step stands there

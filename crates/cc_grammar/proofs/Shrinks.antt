@@ -1,7 +1,7 @@
 -- Whatever is derived takes a token.
 use Rattle.std.specs.Prelude.{◌≡◌, ℕ, ◌+◌, ◌<◌, ◌≤◌, List, [], ◌∷◌, Bool, true, false, length}
-use Rattle.std.proofs.Common.{refl, arith}
-use Rattle.cc_grammar.specs.Symbols.{Kind, Lexeme, Symbols, real, inserted, look, lexemes_of}
+use Rattle.std.proofs.Common.{arith}
+use Rattle.cc_grammar.specs.Symbols.{Kind, Symbols, lexemes_of}
 use Rattle.cc_grammar.specs.RawTree.{RawExpr, RawStmt, RawField, RawDeclarator, RawCase, RawInit, RawCatch, RawFinally, MaybeExpr, Named}
 use Rattle.cc_grammar.specs.Grammar as g
 use Rattle.cc_grammar.specs.Grammar.{Context, At, Ends, Variable, OwnName, Params, MoreParams, E, Elements, Field, Fields, Arguments, MoreArguments, Function, Declarator, Declarators, Init, Optional, Cases, Catch, Finally, T, Body}

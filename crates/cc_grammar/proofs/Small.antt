@@ -1,7 +1,7 @@
 -- A tree has at most four expressions, statements and declarators for each token that it is derived from.
-use Rattle.std.specs.Prelude.{◌≡◌, ℕ, zero, suc, pos, negsuc, ◌+◌, ◌*◌, ◌<◌, ◌≤◌, List, [], ◌∷◌, ◌++◌, Bool, true, false, cond, length, Option, Some, None}
+use Rattle.std.specs.Prelude.{◌≡◌, ℕ, zero, suc, pos, ◌+◌, ◌*◌, ◌≤◌, List, [], ◌∷◌, ◌++◌, Bool, true, false, cond, length, Option, Some, None}
 use Rattle.std.specs.Option.{option_map}
-use Rattle.std.proofs.Common.{refl, arith, ap, sym, ◌∙◌}
+use Rattle.std.proofs.Common.{refl, arith, ap}
 use Rattle.cc_ast.specs.declared.operator.UnOp.{UnOp}
 use Rattle.cc_ast.specs.declared.operator.UnOp.TheVariants as u
 use Rattle.cc_ast.specs.declared.place.Place.{Place}
@@ -13,7 +13,6 @@ use Rattle.cc_grammar.specs.Signs.{Prefix, Infix, target_of, is_variable, prefix
 use Rattle.cc_grammar.specs.Signs as sign
 use Rattle.cc_grammar.specs.Grammar as g
 use Rattle.cc_grammar.specs.Grammar.{Context, E, Elements, Field, Fields, Arguments, MoreArguments, Function, Declarator, Declarators, Init, Optional, Cases, Catch, Finally, T, Body}
-use Rattle.cc_grammar.specs.Fronts.{ReadsWithin}
 use Rattle.cc_grammar.specs.Laws.{IsSmall}
 use Rattle.cc_grammar.specs.Sizes.{of_expr, of_target, of_exprs, of_maybe, of_fields, of_declarators, of_init, of_stmts, of_catch, of_finally, of_cases}
 use Rattle.cc_grammar.proofs.Shrinks.{reals, at_less, ends_less, variable_less, own_less, params_less}

@@ -1,5 +1,5 @@
 -- What is read of a list of symbols is derived, at every depth.
-use Rattle.std.specs.Prelude.{◌≡◌, ℕ, zero, suc, ◌+◌, ◌<◌, ◌≤◌, Bool, true, false, nat_lt, List, [], ◌∷◌, Ok, Err}
+use Rattle.std.specs.Prelude.{◌≡◌, ℕ, zero, suc, ◌≤◌, Bool, true, false, nat_lt, List, []}
 use Rattle.std.proofs.Common.{refl, ap, ◌∙◌, arith, ltb-true}
 use Rattle.cc_grammar.specs.Symbols.{Kind, Symbols, look, rest}
 use Rattle.cc_grammar.specs.Symbols as k
@@ -12,7 +12,7 @@ use Rattle.cc_grammar.proofs.Meets.{Done, ok, err, after, branch, fork, weaken}
 use Rattle.cc_grammar.proofs.Views.{IsStart, start_is}
 use Rattle.cc_grammar.proofs.Views as view
 use Rattle.cc_grammar.proofs.Marked.{In, consumed, ended, expected_end}
-use Rattle.cc_grammar.proofs.SoundParts.{Derived, Operand, Callee, Told, SoundInner, nothing_inside, whole_list}
+use Rattle.cc_grammar.proofs.SoundParts.{Derived, Told, SoundInner, nothing_inside, whole_list}
 use Rattle.cc_grammar.proofs.SoundLists.{list_sound}
 use Rattle.cc_grammar.proofs.SoundPrimary.{callee_sound}
 use Rattle.cc_grammar.proofs.SoundExpressions.{expr_sound}

@@ -1,13 +1,11 @@
 -- What is read is derived: operators, and whole expressions.
-use Rattle.std.specs.Prelude.{◌≡◌, ℕ, zero, suc, ◌+◌, ◌<◌, ◌≤◌, max, ◌==◌, Bool, true, false, cond, nat_lt, List, [], ◌∷◌, Ok, Err, Option, Some, None}
-use Rattle.std.proofs.Common.{refl, sym, ap, arith, subst, ◌∙◌, ltb-true, ltb-false, eqb-true}
+use Rattle.std.specs.Prelude.{◌≡◌, ℕ, zero, suc, ◌+◌, ◌<◌, ◌≤◌, max, ◌==◌, Bool, true, false, cond, nat_lt, Ok, Err, Option, Some, None}
+use Rattle.std.proofs.Common.{refl, arith, ltb-true, ltb-false, eqb-true}
 use Rattle.cc_ast.specs.declared.operator.BinOp.{BinOp}
 use Rattle.cc_ast.specs.declared.place.Place.{Place}
 use Rattle.cc_lexer.specs.declared.token.Mark.TheVariants as mark
-use Rattle.cc_grammar.specs.Symbols.{Kind, Lexeme, Symbols, look, rest, is_mark}
-use Rattle.cc_grammar.specs.Symbols as k
+use Rattle.cc_grammar.specs.Symbols.{Symbols, look, rest, is_mark}
 use Rattle.cc_grammar.specs.RawTree.{RawExpr, RawTarget}
-use Rattle.cc_grammar.specs.RawTree as raw
 use Rattle.cc_grammar.specs.Signs.{Prefix, Infix, step_of, target_of, prefix_of, prefix_tree, infix_of, level, infix_tree, assign_of}
 use Rattle.cc_grammar.specs.Grammar as g
 use Rattle.cc_grammar.specs.Grammar.{At, E}
@@ -16,7 +14,7 @@ use Rattle.cc_grammar.specs.Reading as r
 use Rattle.cc_grammar.proofs.Meets.{Done, ok, err, after, branch, fork, weaken}
 use Rattle.cc_grammar.proofs.Views.{remedy_true}
 use Rattle.cc_grammar.proofs.Marked.{In, consumed, marked, found, expected}
-use Rattle.cc_grammar.proofs.Mono.{higher, lower, settable, bounded, above}
+use Rattle.cc_grammar.proofs.Mono.{lower, settable, bounded, above}
 use Rattle.cc_grammar.proofs.SoundParts.{Derived, Stopped, Operand, SoundInner}
 use Rattle.cc_grammar.proofs.SoundPrimary.{Chained, callable, primary_sound, suffixes_sound}
 

@@ -1,7 +1,6 @@
 -- What is read is derived: jumps, clauses and declarations.
-use Rattle.std.specs.Prelude.{◌≡◌, ℕ, zero, suc, ◌+◌, ◌<◌, ◌≤◌, max, ◌||◌, Bool, true, false, cond, nat_lt, List, [], ◌∷◌, ◌++◌, Ok, Err, Option, Some, None}
-use Rattle.std.proofs.Common.{refl, sym, ap, arith, subst, ◌∙◌, append_assoc, append-nil, ltb-true}
-use Rattle.cc_ast.specs.declared.place.Place.{Place}
+use Rattle.std.specs.Prelude.{◌≡◌, ℕ, zero, suc, ◌+◌, ◌<◌, max, ◌||◌, Bool, true, false, cond, nat_lt, List, [], ◌∷◌, ◌++◌, Ok, Err, Option, Some, None}
+use Rattle.std.proofs.Common.{refl, sym, ap, arith, ◌∙◌, append_assoc, append-nil}
 use Rattle.cc_ast.specs.declared.reading.Construct.{Construct}
 use Rattle.cc_lexer.specs.declared.token.Mark.TheVariants as mark
 use Rattle.cc_grammar.specs.declared.word.Word.TheVariants as word
@@ -19,11 +18,11 @@ use Rattle.cc_grammar.proofs.Views.{IsClause, clause_is, mark_true, remedy_true}
 use Rattle.cc_grammar.proofs.Views as view
 use Rattle.cc_grammar.proofs.Marked.{In, consumed, marked, worded, expected, ended}
 use Rattle.cc_grammar.proofs.Mono.{higher, higher_body}
-use Rattle.cc_grammar.proofs.SoundParts.{Derived, Told, SoundInner, EndsWith, whole_list, after_variable}
+use Rattle.cc_grammar.proofs.SoundParts.{Told, SoundInner, EndsWith, whole_list, after_variable}
 use Rattle.cc_grammar.proofs.SoundLists.{list_sound, body_sound, function_sound}
 use Rattle.cc_grammar.proofs.SoundPrimary.{free}
 use Rattle.cc_grammar.proofs.SoundExpressions.{after_head_sound, expr_sound}
-use Rattle.cc_grammar.proofs.SoundStatements.{head_sound, declarators_sound, SoundExpr}
+use Rattle.cc_grammar.proofs.SoundStatements.{head_sound, declarators_sound}
 
 -- the label of a jump
 pub label_name : (x : Kind) (b : Bool) (n : List ℕ) → label_by x b ≡ Some n → x ≡ k.name n

@@ -1,23 +1,19 @@
 -- What is read is derived: lists of expressions and statements, and functions.
-use Rattle.std.specs.Prelude.{◌≡◌, ℕ, zero, suc, ◌+◌, ◌<◌, ◌≤◌, max, ◌&&◌, Bool, true, false, cond, List, [], ◌∷◌, ◌++◌, Ok, Err, Option, Some, None, is_some}
-use Rattle.std.proofs.Common.{refl, sym, ap, arith, subst, ◌∙◌, append_assoc, append-nil}
-use Rattle.cc_ast.specs.declared.place.Place.{Place}
-use Rattle.cc_lexer.specs.declared.token.Mark.{Mark}
+use Rattle.std.specs.Prelude.{◌≡◌, ℕ, zero, suc, ◌<◌, max, ◌&&◌, true, List, [], ◌∷◌, ◌++◌, Option, Some, None, is_some}
+use Rattle.std.proofs.Common.{refl, sym, arith, ◌∙◌, append_assoc, append-nil}
 use Rattle.cc_lexer.specs.declared.token.Mark.TheVariants as mark
-use Rattle.cc_grammar.specs.Symbols.{Kind, Lexeme, Symbols, look, rest, is_mark}
-use Rattle.cc_grammar.specs.Symbols as k
-use Rattle.cc_grammar.specs.RawTree.{RawExpr, RawStmt, RawKey, RawField, Named}
-use Rattle.cc_grammar.specs.RawTree as raw
+use Rattle.cc_grammar.specs.Symbols.{Symbols, look, rest, is_mark}
+use Rattle.cc_grammar.specs.RawTree.{RawExpr, RawStmt, RawKey, RawField}
 use Rattle.cc_grammar.specs.Signs.{key_of, is_accessor}
 use Rattle.cc_grammar.specs.Grammar as g
 use Rattle.cc_grammar.specs.Grammar.{Context, Sign, E, Elements, Field, Fields, Arguments, MoreArguments, Function, T, Body, of_function}
 use Rattle.cc_grammar.specs.Reading.{Outcome, Sized, semicolon_symbol, is_element, ends_list}
 use Rattle.cc_grammar.specs.Reading as r
-use Rattle.cc_grammar.proofs.Meets.{Done, ok, err, after, branch, fork, weaken}
+use Rattle.cc_grammar.proofs.Meets.{Done, ok, err, after, fork, weaken}
 use Rattle.cc_grammar.proofs.Views.{element_true}
 use Rattle.cc_grammar.proofs.Marked.{In, consumed, marked, found, expected}
 use Rattle.cc_grammar.proofs.Mono.{higher, higher_field, higher_t}
-use Rattle.cc_grammar.proofs.SoundParts.{Derived, Operand, Told, SoundInner, EndsWith, whole_list, params_of_sound, IsKey, is_key, field_tree}
+use Rattle.cc_grammar.proofs.SoundParts.{SoundInner, EndsWith, whole_list, params_of_sound, IsKey, is_key, field_tree}
 
 module _ (d turns : ℕ) (inner : In) (sound : SoundInner d inner) where
   pub elements_sound : (m : ℕ) (before : List RawExpr) (h : ℕ) (xs : Symbols) → h < d

@@ -1,19 +1,16 @@
 -- What is read is derived: what the laws of expressions and statements have in common.
-use Rattle.std.specs.Prelude.{◌≡◌, ℕ, zero, suc, ◌+◌, ◌<◌, ◌≤◌, max, Bool, true, false, cond, List, [], ◌∷◌, ◌++◌, Ok, Err, Option, Some, None}
-use Rattle.std.proofs.Common.{refl, sym, ap, arith, subst, ◌∙◌, append_assoc, append-nil}
+use Rattle.std.specs.Prelude.{◌≡◌, ℕ, zero, suc, ◌<◌, ◌≤◌, Bool, true, false, List, [], ◌∷◌, ◌++◌, Option, Some, None}
+use Rattle.std.proofs.Common.{refl, sym, subst, ◌∙◌, append_assoc}
 use Rattle.cc_ast.specs.declared.place.Place.{Place}
-use Rattle.cc_lexer.specs.declared.token.Mark.{Mark}
 use Rattle.cc_lexer.specs.declared.token.Mark.TheVariants as mark
-use Rattle.cc_grammar.specs.Symbols.{Kind, Lexeme, Symbols, look, rest, is_mark}
-use Rattle.cc_grammar.specs.Symbols as k
-use Rattle.cc_grammar.specs.RawTree.{RawExpr, RawStmt, RawKey, RawField, Named}
-use Rattle.cc_grammar.specs.RawTree as raw
+use Rattle.cc_grammar.specs.Symbols.{Kind, Symbols, look, rest, is_mark}
+use Rattle.cc_grammar.specs.RawTree.{RawExpr, RawStmt, RawKey, Named}
 use Rattle.cc_grammar.specs.Signs.{Infix, infix_of, level, key_of}
 use Rattle.cc_grammar.specs.Grammar as g
 use Rattle.cc_grammar.specs.Grammar.{Context, At, Sign, Variable, OwnName, MoreParams, Params, E, Field, T, at, named}
 use Rattle.cc_grammar.specs.Reading.{Outcome, Fault, Sized, semicolon_symbol, variable_of, suffix_of, and_then}
 use Rattle.cc_grammar.specs.Reading as r
-use Rattle.cc_grammar.proofs.Meets.{Done, ok, err, after, branch, fork, weaken}
+use Rattle.cc_grammar.proofs.Meets.{Done, ok, err, after, fork, weaken}
 use Rattle.cc_grammar.proofs.Marked.{In, marked, found, expected, seen_variable}
 
 -- derived, within a height

@@ -1,13 +1,13 @@
 -- What is read is derived: primary expressions, and what goes on with them.
-use Rattle.std.specs.Prelude.{◌≡◌, ℕ, zero, suc, ◌+◌, ◌<◌, ◌≤◌, max, Bool, true, false, cond, nat_lt, List, [], ◌∷◌, Ok, Err, Option, Some, None}
-use Rattle.std.proofs.Common.{refl, sym, ap, arith, subst, ◌∙◌, ltb-true}
+use Rattle.std.specs.Prelude.{◌≡◌, ℕ, zero, suc, ◌+◌, ◌<◌, ◌≤◌, max, Bool, true, false, nat_lt, List, [], Ok, Option, Some, None}
+use Rattle.std.proofs.Common.{refl, sym, ap, arith, ◌∙◌, ltb-true}
 use Rattle.cc_lexer.specs.declared.token.Mark.TheVariants as mark
 use Rattle.cc_grammar.specs.declared.word.Word.TheVariants as word
 use Rattle.cc_grammar.specs.Symbols.{Kind, Lexeme, Symbols, look, rest, is_mark}
 use Rattle.cc_grammar.specs.Symbols as k
 use Rattle.cc_grammar.specs.RawTree.{RawExpr, RawTarget, Named}
 use Rattle.cc_grammar.specs.RawTree as raw
-use Rattle.cc_grammar.specs.Signs.{literal_of, property_of, step_of, target_of}
+use Rattle.cc_grammar.specs.Signs.{literal_of, property_of}
 use Rattle.cc_grammar.specs.Grammar as g
 use Rattle.cc_grammar.specs.Grammar.{At, Chain, chain, member_chain, E}
 use Rattle.cc_grammar.specs.Reading.{Outcome, Sized, Head, Suffix, semicolon_symbol, head_of, variable_of, suffix_of}
@@ -16,7 +16,7 @@ use Rattle.cc_grammar.proofs.Meets.{Done, ok, err, after, branch, fork, weaken}
 use Rattle.cc_grammar.proofs.Views.{mark_true, IsHead, literal, variable, this, function, new, paren, array, object, operand, none, head_is, IsSuffix, dot, bracket, call, suffix_is}
 use Rattle.cc_grammar.proofs.Views as view
 use Rattle.cc_grammar.proofs.Marked.{In, consumed, marked, found, expected, seen_variable}
-use Rattle.cc_grammar.proofs.Mono.{higher, lower, chained}
+use Rattle.cc_grammar.proofs.Mono.{lower, chained}
 use Rattle.cc_grammar.proofs.SoundParts.{Derived, Callee, SoundInner, whole_list, own_name_sound}
 use Rattle.cc_grammar.proofs.SoundLists.{elements_sound, object_fields_sound, arguments_of_sound, function_sound}
 

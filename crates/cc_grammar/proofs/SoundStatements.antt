@@ -1,7 +1,6 @@
 -- What is read is derived: the parts of statements, and statements with bodies.
-use Rattle.std.specs.Prelude.{◌≡◌, ℕ, zero, suc, ◌+◌, ◌<◌, ◌≤◌, max, Bool, true, false, cond, nat_lt, List, [], ◌∷◌, ◌++◌, Ok, Err, Option, Some, None}
-use Rattle.std.proofs.Common.{refl, sym, ap, arith, subst, ◌∙◌, append_assoc, append-nil}
-use Rattle.cc_ast.specs.declared.place.Place.{Place}
+use Rattle.std.specs.Prelude.{◌≡◌, ℕ, zero, suc, ◌+◌, ◌<◌, ◌≤◌, max, Bool, true, false, List, [], ◌∷◌, ◌++◌, Option, Some, None}
+use Rattle.std.proofs.Common.{refl, arith, subst, ◌∙◌, append_assoc}
 use Rattle.cc_lexer.specs.declared.token.Mark.{Mark}
 use Rattle.cc_lexer.specs.declared.token.Mark.TheVariants as mark
 use Rattle.cc_grammar.specs.declared.word.Word.TheVariants as word
@@ -14,13 +13,10 @@ use Rattle.cc_grammar.specs.Grammar as g
 use Rattle.cc_grammar.specs.Grammar.{Context, At, Sign, Reserved, Ends, E, Declarator, Declarators, Init, Optional, Cases, Catch, Finally, T, Body, of_function, inside, in_loop, in_switch, named}
 use Rattle.cc_grammar.specs.Reading.{Outcome, Sized, Clause, semicolon_symbol, clause_of}
 use Rattle.cc_grammar.specs.Reading as r
-use Rattle.cc_grammar.proofs.Meets.{Done, ok, err, after, branch, fork, weaken}
-use Rattle.cc_grammar.proofs.Views.{mark_true, IsClause, clause_is}
-use Rattle.cc_grammar.proofs.Views as view
+use Rattle.cc_grammar.proofs.Meets.{Done, ok, err, after, fork, weaken}
 use Rattle.cc_grammar.proofs.Marked.{In, consumed, marked, worded, expected, expected_word, ended}
-use Rattle.cc_grammar.proofs.Mono.{higher, higher_declarator, higher_declarators, higher_optional, higher_init, higher_body, higher_t, settable}
-use Rattle.cc_grammar.proofs.SoundParts.{Derived, Operand, Told, SoundInner, EndsWith, whole_list, after_variable}
-use Rattle.cc_grammar.proofs.SoundLists.{list_sound}
+use Rattle.cc_grammar.proofs.Mono.{higher, higher_declarator, higher_optional, higher_init, settable}
+use Rattle.cc_grammar.proofs.SoundParts.{Told, SoundInner, EndsWith, whole_list, after_variable}
 
 -- an expression reader that is sound, below b
 pub record SoundExpr (b : ℕ) (expr : Bool → ℕ → Symbols → Outcome Symbols (Sized RawExpr)) : Type 0 where

@@ -1,13 +1,11 @@
 -- Steps of a reader that goes through.
-use Rattle.std.specs.Prelude.{◌≡◌, ℕ, ◌<◌, ◌≤◌, Bool, true, false, Ok, Err, cond, nat_lt, List, [], ◌∷◌, Option, Some, None}
-use Rattle.std.proofs.Common.{refl, sym, ap, ◌∙◌, lt-ltb, le-ltb}
+use Rattle.std.specs.Prelude.{◌≡◌, ℕ, ◌<◌, ◌≤◌, Bool, true, false, Ok, Err, cond, nat_lt, List, Some}
+use Rattle.std.proofs.Common.{refl, ap, ◌∙◌, lt-ltb, le-ltb}
 use Rattle.cc_lexer.specs.declared.token.Mark.{Mark}
 use Rattle.cc_lexer.specs.declared.token.Mark.TheVariants as mark
 use Rattle.cc_grammar.specs.declared.word.Word.{Word}
 use Rattle.cc_grammar.specs.Symbols.{Kind, Lexeme, Symbols, real, inserted, look, rest, is_mark, is_word}
 use Rattle.cc_grammar.specs.Symbols as k
-use Rattle.cc_grammar.specs.RawTree.{Named}
-use Rattle.cc_grammar.specs.Signs.{refused_name}
 use Rattle.cc_grammar.specs.Grammar as g
 use Rattle.cc_grammar.specs.Grammar.{At, Sign, Reserved, Ends, Variable}
 use Rattle.cc_grammar.specs.Reading.{Outcome, and_then, semicolon_symbol, variable_of, allowed}

@@ -1,14 +1,13 @@
 -- Where the readers of operators go on with nothing.
-use Rattle.std.specs.Prelude.{◌≡◌, ℕ, zero, suc, ◌+◌, ◌<◌, ◌≤◌, max, Bool, true, false, cond, nat_lt, ◌==◌, Ok, Err, Option, Some, None}
-use Rattle.std.proofs.Common.{refl, sym, ap, arith, ◌∙◌, ltb-true, lt-ltb, eqb-true}
+use Rattle.std.specs.Prelude.{◌≡◌, ℕ, zero, suc, ◌<◌, ◌≤◌, Bool, true, false, cond, nat_lt, ◌==◌, Ok, Option, Some, None}
+use Rattle.std.proofs.Common.{refl, ap, arith, ◌∙◌, ltb-true, lt-ltb, eqb-true}
 use Rattle.cc_lexer.specs.declared.token.Mark.TheVariants as mark
-use Rattle.cc_grammar.specs.Symbols.{Kind, Symbols, look, rest, is_mark}
+use Rattle.cc_grammar.specs.Symbols.{Symbols, look, rest, is_mark}
 use Rattle.cc_grammar.specs.RawTree.{RawExpr}
 use Rattle.cc_grammar.specs.Signs.{Infix, target_of, step_of, prefix_of, infix_of, level, assign_of}
 use Rattle.cc_grammar.specs.Reading.{Outcome, Sized, Head, and_then, head_of, suffix_of}
 use Rattle.cc_grammar.specs.Reading as r
 use Rattle.cc_grammar.proofs.Marked.{In}
-use Rattle.cc_grammar.proofs.Mono.{above}
 use Rattle.cc_grammar.proofs.Steps.{step, chosen_at, skipped_at}
 use Rattle.cc_grammar.proofs.Quiet.{Quiet}
 use Rattle.cc_grammar.proofs.OnSymbols as s

@@ -1,6 +1,6 @@
 //! The laws of the reading function. The functions here state them, and do nothing.
 
-ghost use Rattle.cc_grammar.specs.Laws.{IsSound, IsOne, IsComplete, IsSmall};
+ghost use Rattle.cc_grammar.specs.Laws.{IsSound, IsOne, IsComplete, IsSmall, IsFirstPlainFault, HasNoPlainFault};
 
 /// With justified insertions a list of tokens derives one tree.
 pub fn one_tree()
@@ -21,4 +21,15 @@ pub fn reading_is_sound()
 /// are more than the tokens.
 pub fn reading_is_complete()
     ensures { IsComplete }
+{}
+
+/// Where reading stops for its syntax or for its depth, that fault is at the token, and no fault of
+/// syntax or depth comes first. Where the turns are more than the tokens, it never stops for them.
+pub fn plain_faults_are_first()
+    ensures { IsFirstPlainFault }
+{}
+
+/// What is derived within the depth has no fault of syntax or depth.
+pub fn derived_lists_have_no_plain_fault()
+    ensures { HasNoPlainFault }
 {}
