@@ -21,8 +21,6 @@ mod prototypes;
 mod reads;
 mod rules;
 mod slots;
-#[cfg(test)]
-mod tests;
 mod text_uses;
 mod types;
 mod variables;
