@@ -3,7 +3,7 @@ use Rattle.std.proofs.Common.{◌≡◌, refl, sym, ◌∙◌, ℕ, List, [], �
 use Rattle.cc_ast.specs.Syntax.{Prim, Expr, cast, tick}
 use Rattle.cc_meaning.specs.Values.{Val, at_site}
 use Rattle.cc_meaning.specs.State.{Env, Path}
-use Rattle.cc_meaning.specs.Monad.{ret, ◌>>=◌, Mode}
+use Rattle.cc_meaning.specs.Monad.{M, ret, ◌>>=◌, Mode}
 use Rattle.cc_meaning.specs.Acts.{cast_to}
 use Rattle.cc_meaning.specs.Calls.{Reference, Reach, plain, access, built_global, built_member, cast_all, get, value_of, value, cast_reach, Bodies}
 use Rattle.cc_meaning.specs.Meaning.{ev}
@@ -11,6 +11,11 @@ use Rattle.cc_tied.proofs.Kit.{Kit}
 use Rattle.cc_tied.proofs.Parts.{V, Below, val_later}
 use Rattle.cc_tied.proofs.Laws.{bind_assoc, bind_ret, ret_bind, stop_bind, bind_alike}
 use Rattle.cc_tied.proofs.Expressions.{FollowsAs, Follows}
+
+-- a value that is reached as one
+pub plain_value : (J : Mode) (B : Bodies) (m : M Val) → ((m >>= λ v. ret (plain v)) >>= value_of J B) ≡ m
+unfolding value_of
+plain_value J B m = bind_assoc m (λ v. ret (plain v)) (value_of J B) ∙ bind_alike m (λ v. ret (plain v) >>= value_of J B) ret (λ v. ret_bind (plain v) (value_of J B)) ∙ bind_ret m
 
 -- ---- casts
 

@@ -24,7 +24,7 @@ module _ (J : Mode) (B : Bodies) (g : Env) (ls : List (List ℕ)) where
   on_returned m f e k = bind_assoc m (λ a. ret (f a)) (λ c. next c k) ∙ bind_alike m (λ a. ret (f a) >>= λ c. next c k) (λ a. ret (f a)) (λ a. ret_bind (f a) (λ c. next c k) ∙ e a k)
 
   -- what comes after a jump is nothing
-  jump_ends : {s : Stmt} → Jumps s → (k : M Comp) → (ex J B g ls s >>= λ c. next c k) ≡ ex J B g ls s
+  pub jump_ends : {s : Stmt} → Jumps s → (k : M Comp) → (ex J B g ls s >>= λ c. next c k) ≡ ex J B g ls s
   unfolding ex next value_at thrown_at
   jump_ends (a_return {i = i} {o = None}) k = ret_bind (returns i (prim undefined)) (λ c. next c k)
   jump_ends (a_return {i = i} {o = Some e}) k = on_returned (value_at J B g e) (λ v. returns i v) (λ v k. refl) k

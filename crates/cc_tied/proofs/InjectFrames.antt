@@ -29,7 +29,7 @@ use Rattle.cc_tied.proofs.InjectObjects.{is_some_same}
 use Rattle.cc_tied.proofs.InjectTypes.{of_opt_type_same, variable_type_same, is_settled_same}
 use Rattle.cc_tied.proofs.InjectActs.{judged_in, judged_i, at_of, receive_t}
 
-undefined_tied : {O : ℕ → ℕ → Type 0} {a b : Option Val} → OptT (ValT O) a b → ValT O (or_undefined a) (or_undefined b)
+pub undefined_tied : {O : ℕ → ℕ → Type 0} {a b : Option Val} → OptT (ValT O) a b → ValT O (or_undefined a) (or_undefined b)
 unfolding or_undefined
 undefined_tied none_t = prim_t
 undefined_tied (some_t h) = h

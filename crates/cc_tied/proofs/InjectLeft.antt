@@ -12,7 +12,7 @@ use Rattle.cc_meaning.specs.Names.{index_value, name_prototype}
 use Rattle.cc_meaning.specs.Typed.{entered, entered_in}
 use Rattle.cc_meaning.specs.SlotRules.{prototype_of_function, fields_reached}
 use Rattle.cc_meaning.specs.Judge.{Act, writes, least_broken}
-use Rattle.cc_meaning.specs.Acts.{judged, allowed, refused, is_fatal, changing, enter_element, receive, receive_all, add_obj, make_object, make_array, function_object, add_function, push_frame, has_own_name, add_function_by, make_function, write_slot}
+use Rattle.cc_meaning.specs.Acts.{judged, allowed, refused, is_fatal, changing, enter_element, receive, receive_all, receive_each, add_obj, make_object, make_array, function_object, add_function, push_frame, has_own_name, add_function_by, make_function, write_slot}
 use Rattle.cc_meaning.specs.Script.{checked}
 use Rattle.cc_meaning.specs.Alike.{In, here, there}
 use Rattle.cc_tied.specs.Facts.{Facts}
@@ -263,6 +263,12 @@ module _ (F : Facts) (S : Tables) (set' : List (Path × ℕ)) where
   unfolding receive_all
   left_receives_all [] v = silent_any tt
   left_receives_all (t ∷ ts) v = silent_then (left_receives (Some t) v) (λ u l _. left_receives_all ts v)
+
+  pub left_receives_each : {w : W} (ts : List (Option TypeSet)) (vs : List Val) → Silent Any w (receive_each ts vs)
+  unfolding receive_each
+  left_receives_each [] vs = silent_any tt
+  left_receives_each (t ∷ ts) [] = silent_any tt
+  left_receives_each (t ∷ ts) (v ∷ vs) = silent_then (left_receives t v) (λ u l _. left_receives_each ts vs)
 
   -- a slot of an object of its own
   put_code : (n : List ℕ) (k : Kind) (v : Val) (a : Obj) → (put_own n k v a).code ≡ a.code

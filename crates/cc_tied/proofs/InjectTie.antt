@@ -136,11 +136,11 @@ module _ (F : Facts) (S : Tables) (set' : List (Path × ℕ)) where
 
   -- ---- environments
 
-  -- what an expression of the right gives: a value that is tied to this one
+  -- what an expression of the right gives, whatever path is set to it: a value that is tied to this one
   pub record Given (u : Tabs) (t : State) (B : Bodies) (h : Env) (e : Expr) (x : Val) : Type 0 where
     pub value : Val
     pub tied : Vals u x value
-    pub reached : ev checked B h None e t ≡ ok [] (plain value) t
+    pub reached : (p : Option Path) → ev checked B h p e t ≡ ok [] (plain value) t
 
   -- an argument gives the same whenever it is evaluated
   pub record ArgI (w : Tabs) (h : Env) (e : Expr) (x : Val) : Type 0 where

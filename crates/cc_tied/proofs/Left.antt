@@ -80,6 +80,15 @@ module _ (T : Tie) (excused : T.Excused) where
   pub record Pays {A : Type 0} (Q : World T → A → Type 0) (q : ℕ) (w : World T) (m : M A) : Type 0 where
     pub by : (s t : State) → Tied w.w s t → s.budget ≤ w.l → t.budget ≤ w.r → Paying Q q w t (m s)
 
+  -- where nothing is paid
+  pub alone_paid : {A : Type 0} {Q : World T → A → Type 0} {w : World T} {t : State} {r : Res A} → Paying Q 0 w t r → Alone T excused Q w t r
+  unfolding paid
+  alone_paid {t = t} (paying_ok {s = s} {b = b} d v l st h e ti le le') =
+      let k : t.budget ≡ b = cc in
+      alone_ok d v l st h (subst (λ z. Tied v.w s (record t { budget = z })) (sym k) ti) le (subst (λ z. z ≤ v.r) (sym k) le')
+  alone_paid (paying_spent d e) = absurd (cc)
+  alone_paid paying_broken = alone_broken
+
   pays_after : {A B B' : Type 0} {Q : World T → A → Type 0} {R : World T → B → B' → Type 0} {w : World T} {t : State} {q : ℕ} {r : Res A} (k : A → M B) (k' : M B') → ((v : World T) → Later T w v → (a : A) → Q v a → Sim T R v (k a) (pay 1 >>= λ _. k')) → (n : ℕ) → n ≡ t.budget → Paying Q q w t r → ResT T R w (after r k) (after (pay_from (paid (q + 1) n) t) (λ _. k'))
   unfolding after pay_from ◌>>=◌ pay marks
   pays_after {R = R} {w = w} {t = t} {q = q} k k' f n en (paying_ok {u = u} {a = a} {s = s} {b = b} d v l st h e ti le le') =

@@ -9,6 +9,7 @@ pub mod AtValues
 pub mod Ends
 pub mod Statements
 pub mod Cuts
+pub mod OneReturn
 pub mod Turns
 pub mod Sim
 pub mod Upkeep
@@ -41,6 +42,7 @@ pub mod AlikeParts
 pub mod AlikeStatements
 pub mod AlikeEnds
 pub mod Left
+pub mod RightRuns
 pub mod InjectTable
 pub mod InjectPlaces
 pub mod InjectWorld
@@ -60,6 +62,12 @@ pub mod InjectUses
 pub mod InjectFrames
 pub mod InjectKnown
 pub mod InjectBinds
+pub mod InjectArguments
+pub mod InjectGlobals
+pub mod InjectBack
+pub mod InjectCopies
+pub mod InjectCallee
+pub mod InjectInlining
 pub mod InjectCalls
 pub mod InjectUpkeep
 pub mod InjectDead

@@ -16,7 +16,7 @@ use Rattle.cc_tied.proofs.Expressions.{FollowsRef, Follows, FollowsAll, FollowsF
 use Rattle.cc_tied.proofs.Valued.{FollowsValue, FollowsFrom, from_value, from_on, valued_alone, valued_access, valued_cast, valued_tick, var_plain}
 
 -- the literal that is written as a text
-text_literal : (e : Expr) (t : List ℕ) → literal_text e ≡ Some t → (i : ℕ) × (e ≡ lit i (text t))
+pub text_literal : (e : Expr) (t : List ℕ) → literal_text e ≡ Some t → (i : ℕ) × (e ≡ lit i (text t))
 unfolding literal_text
 text_literal (lit i (text u)) t h = (i, cc)
 text_literal (lit i undefined) t h = absurd (cc)

@@ -111,7 +111,7 @@ runs_none : {A : Type 0} (J : Mode) (i : Spot) (n : ℕ) (k : Option Code → M 
 unfolding judged allowed refused is_fatal least_broken callee_rule code_at
 runs_none J i n k s e = ap (λ z. allowed J i (calls (obj n)) z (λ s. k (code_at s n) s) s) (callable_none (slice_get s.objs n) e)
 
-runs_some : {A : Type 0} (J : Mode) (i : Spot) (n : ℕ) (k : Option Code → M A) (s : State) (c : Code) → code_at s n ≡ Some c → judged J i (calls (obj n)) (λ s. k (code_at s n) s) s ≡ k (Some c) s
+pub runs_some : {A : Type 0} (J : Mode) (i : Spot) (n : ℕ) (k : Option Code → M A) (s : State) (c : Code) → code_at s n ≡ Some c → judged J i (calls (obj n)) (λ s. k (code_at s n) s) s ≡ k (Some c) s
 unfolding judged allowed least_broken callee_rule code_at
 runs_some J i n k s c e = ap (λ z. allowed J i (calls (obj n)) z (λ s. k (code_at s n) s) s) (callable_some (slice_get s.objs n) c e) ∙ ap (λ z. k z s) e
 

@@ -135,7 +135,7 @@ module _ (K : Kit) (X : Below K) (built : Ref → Bool) where
     unfolding cast_reach
     rel_cast_plain s dt {x = x} (plain_p {y = y} h) = rel_bind (rel_cast s dt h) (λ v2 l2 _ _ _. rel_ret x (plain y) (plain_p (val_later K l2 h)))
 
-    cast_plain : {i i' : ℕ} → SiteT K i i' → {d d' : ℕ} → DocT d d' → {e e' : Expr} → FollowsPlain c e e' → FollowsPlain c (cast i d e) (cast i' d' e')
+    pub cast_plain : {i i' : ℕ} → SiteT K i i' → {d d' : ℕ} → DocT d d' → {e e' : Expr} → FollowsPlain c e e' → FollowsPlain c (cast i d e) (cast i' d' e')
     unfolding ev
     cast_plain {i = i} {i' = i'} s {d = d} {d' = d'} dt {e = e} {e' = e'} h = record {
       by = λ v l g g' t.
@@ -146,7 +146,7 @@ module _ (K : Kit) (X : Below K) (built : Ref → Bool) where
     unfolding site_of reaches accesses builds
     valued_cast s dt h = record { site = s; values = λ p p'. cast_at_value K X c s dt (h.values None None); plain = λ q. cast_plain s dt (h.plain q) }
 
-    tick_plain : (n : ℕ) {i i' : ℕ} {e e' : Expr} → FollowsPlain c e e' → FollowsPlain c (tick i n e) (tick i' n e')
+    pub tick_plain : (n : ℕ) {i i' : ℕ} {e e' : Expr} → FollowsPlain c e e' → FollowsPlain c (tick i n e) (tick i' n e')
     unfolding ev
     tick_plain n {i = i} {i' = i'} {e = e} {e' = e'} h = record {
       by = λ v l g g' t.
