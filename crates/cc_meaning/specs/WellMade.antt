@@ -229,6 +229,8 @@ pub record IsProp (P : Program) (p : PropInfo) : Type 0 where
 
 pub record IsClass (P : Program) (a : ℕ) (c : Class) : Type 0 where
   pub function : (f : ℕ) → c.function ≡ Some f → f < length P.scopes
+  -- where its function stands in the trees, a global or a path is set to it
+  pub set : (f : ℕ) → c.function ≡ Some f → In f (all_functions (tables_of P) P.scopes) → (w : Path) × In (w, f) (tables_of P).set
   pub in_range : (b : ℕ) → In b (parents P.classes a) → b < length P.classes
   pub acyclic : (b : ℕ) → In b (parents P.classes a) → Ancestor P.classes b a → ⊥
   pub methods : (p f : ℕ) → In (p, f) c.methods → (p < length P.props) × (f < length P.scopes)

@@ -10,3 +10,5 @@ pub mod Pure
 pub mod Inlined
 pub mod PlainFacts
 pub mod Mixed
+pub mod DropExample
+pub mod InlineExample
