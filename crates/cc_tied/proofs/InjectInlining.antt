@@ -1,5 +1,5 @@
 -- A call of a known function whose body is one `return` becomes a copy of what it returns, with the price of the call.
-use Rattle.std.proofs.Common.{Bool, ◌≡◌, ℕ, zero, suc, ◌<◌, ◌≤◌, ◌+◌, false, List, ◌++◌, Option, Some, None, refl, sym, ap, subst, ◌∙◌, arith}
+use Rattle.std.proofs.Common.{Bool, ◌≡◌, ℕ, zero, suc, ◌<◌, ◌≤◌, ◌+◌, false, List, [], ◌++◌, Option, Some, None, refl, sym, ap, subst, ◌∙◌, arith}
 use Rattle.std.specs.Prelude.{slice_get}
 use Rattle.cc_ast.specs.Syntax.{Prim, undefined, Expr, var, call, tick, Exprs, return, no_stmts, more_stmts, Program}
 use Rattle.cc_ast.specs.declared.tree.Ref.{Ref}
@@ -85,11 +85,11 @@ module _ (F : Facts) (S : Tables) (set' : List (Path × ℕ)) where
         let k : (head_in (slice_get S.heads c.function)).0 ≡ params = ap (λ z. (head_in (slice_get S.heads z)).0) q ∙ heads in
         fitted_given (head_in (slice_get S.heads c.function)).0 (head_in (slice_get S.heads c.function)).1 a i n (subst (λ z. n < z) (sym k) less)
 
-    in_frame : (b : ℕ) (v : W) → v.l ≤ w.l → v.l ≤ b → v.r ≤ d' → {h : Env} {vs : List Val} (c : Code) → c.function ≡ f → ArgsI F S set' v.w h bs vs → Sim T R v (call_frame checked c vs >>= λ n. value_at checked (bodies checked P b) (record { at = Some n; this = None; declares = None }) e >>= λ x. leaving checked (at_site j) c.function false x >>= λ _. ret x) (Target h)
+    in_frame : (b : ℕ) (v : W) → v.l ≤ w.l → v.l ≤ b → v.r ≤ d' → {h : Env} {vs : List Val} (c : Code) → c.function ≡ f → ArgsI F S set' v.w h bs vs → Sim T R v (call_frame checked c vs >>= λ n. value_at checked (bodies checked P b) (record { at = Some n; this = None; declares = [] }) e >>= λ x. leaving checked (at_site j) c.function false x >>= λ _. ret x) (Target h)
     in_frame b v le lb lb' {h = h} {vs = vs} c q a =
         L.rel_left T tt (frame_pushed c vs) (λ u k n p.
         let tied : BodiesT K u (bodies checked P b) (bodies checked Q d') = all u b d' (omega (arith, k.0, le)) (omega (arith, k.0, lb)) (omega (arith, k.1, lb')) in
-        let g : Env = record { at = Some n; this = None; declares = None } in
+        let g : Env = record { at = Some n; this = None; declares = [] } in
         let en : EnvI F S set' u.w (inlined params bs) g h = env_inlined refl refl p (params_given c q (args_more F S set' k.2 a)) in
         subst (λ z. Sim T R u (value_at checked (bodies checked P b) g e >>= λ x. leaving checked (at_site j) c.function false x >>= λ _. ret x) z) (bind_ret (Target h))
         (sim_bind T {R = R} (follows b u tied g h en) (λ u2 k2 x y c2.

@@ -56,10 +56,10 @@ module _ (J : Mode) where
         ∙ bind_alike (value_at J (bodies J P b) g e) _ _ (λ x. ret_bind (returns j x) (λ k. ret (result c k)))
 
     -- the body gives the value of its expression in a frame of its own
-    pub one_return : {A : Type 0} (b : ℕ) (c : Code) (this : Option Val) (vs : List Val) (k : Returned → M A) → c.function ≡ f → (bodies J P (suc b) c this vs >>= k) ≡ (call_frame J c vs >>= λ n. value_at J (bodies J P b) (record { at = Some n; this = this; declares = None }) e >>= λ x. k (record { site = j; value = x }))
+    pub one_return : {A : Type 0} (b : ℕ) (c : Code) (this : Option Val) (vs : List Val) (k : Returned → M A) → c.function ≡ f → (bodies J P (suc b) c this vs >>= k) ≡ (call_frame J c vs >>= λ n. value_at J (bodies J P b) (record { at = Some n; this = this; declares = [] }) e >>= λ x. k (record { site = j; value = x }))
     unfolding bodies
     one_return b c this vs k q =
-        bind_assoc (call_frame J c vs) (λ n. (hoist J (record { at = Some n; this = this; declares = None }) (body_of P c.function) >>= λ _. exs J (bodies J P b) (record { at = Some n; this = this; declares = None }) [] (body_of P c.function)) >>= λ k. ret (result c k)) k
-        ∙ bind_alike (call_frame J c vs) _ _ (λ n. ap (λ z. z >>= k) (in_frame b c (record { at = Some n; this = this; declares = None }) q)
-        ∙ bind_assoc (value_at J (bodies J P b) (record { at = Some n; this = this; declares = None }) e) (λ x. ret (record { site = j; value = x })) k
-        ∙ bind_alike (value_at J (bodies J P b) (record { at = Some n; this = this; declares = None }) e) _ _ (λ x. ret_bind (record { site = j; value = x }) k))
+        bind_assoc (call_frame J c vs) (λ n. (hoist J (record { at = Some n; this = this; declares = [] }) (body_of P c.function) >>= λ _. exs J (bodies J P b) (record { at = Some n; this = this; declares = [] }) [] (body_of P c.function)) >>= λ k. ret (result c k)) k
+        ∙ bind_alike (call_frame J c vs) _ _ (λ n. ap (λ z. z >>= k) (in_frame b c (record { at = Some n; this = this; declares = [] }) q)
+        ∙ bind_assoc (value_at J (bodies J P b) (record { at = Some n; this = this; declares = [] }) e) (λ x. ret (record { site = j; value = x })) k
+        ∙ bind_alike (value_at J (bodies J P b) (record { at = Some n; this = this; declares = [] }) e) _ _ (λ x. ret_bind (record { site = j; value = x }) k))
