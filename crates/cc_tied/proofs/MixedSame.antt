@@ -15,7 +15,7 @@ use Rattle.cc_tied.specs.PlainFacts.{plain_facts}
 use Rattle.cc_tied.specs.Mixed.{MixedScopes, no_scopes, as_it_was, with_other, IsMixed}
 use Rattle.cc_tied.proofs.Kit.{Kit}
 use Rattle.cc_tied.proofs.Parts.{Below}
-use Rattle.cc_tied.proofs.Rewriting.{StepRules}
+use Rattle.cc_tied.proofs.Rewriting.{anything, StepRules}
 use Rattle.cc_tied.proofs.RewritingBodies.{Rules, whole_rules}
 use Rattle.cc_tied.proofs.Subsets.{Pass, Rewrites, rewritten}
 use Rattle.cc_tied.proofs.KeptPaths.{Stays}
@@ -60,9 +60,6 @@ module _ (built : Ref → Bool) (step : Expr → Expr) (step_call : ℕ → Expr
     abbrev Q : Program
     Q = record P { scopes = ts }
 
-    abbrev Each : Ctx → List (List ℕ) → Stmt → Type 0
-    Each c ls s = Unit {0}
-
     abbrev Anywhere : Ctx → Type 0
     Anywhere c = Unit {0}
 
@@ -81,11 +78,11 @@ module _ (built : Ref → Bool) (step : Expr → Expr) (step_call : ℕ → Expr
     unfolding rewritten body_of
     chosen f = bodies_chosen m f
 
-    module _ (steps : (X : Below mixed_kit) → StepRules mixed_kit X built Anywhere Each step step_call) where
+    module _ (steps : (X : Below mixed_kit) → StepRules mixed_kit X built Anywhere anything step step_call) where
       pass : PlainPass P Q W none same_but_set built builts whole_pass
       pass = record {
         steps = λ f X. steps X;
-        cuts = λ f X. whole_rules mixed_kit X built Anywhere Each step step_call (same_tables (plain_facts P) P Q none built builts X) (λ n s h. record { keeps = declares_within (tables_of P) (tables_of Q).set sets_more built step step_call S s });
+        cuts = λ f X. whole_rules mixed_kit X built Anywhere anything step step_call (same_tables (plain_facts P) P Q none built builts X) (λ n s h. record { keeps = declares_within (tables_of P) (tables_of Q).set sets_more built step step_call S s });
         declares = λ s. record { keeps = declares_same (tables_of P) (tables_of Q).set sets_more s };
       }
 
