@@ -1,6 +1,6 @@
 -- What the small folding owes, over every kit for which sites don't count.
-use Rattle.std.proofs.Common.{◌≡◌, refl, sym, ap, ◌∙◌, ℕ, Bool, true, false, List, [], ◌∷◌, Option, Some, None, subst}
-use Rattle.cc_ast.specs.Syntax.{Prim, Expr, lit, binary, and, Stmt}
+use Rattle.std.proofs.Common.{◌≡◌, refl, sym, ap, ◌∙◌, ℕ, Bool, true, false, [], ◌∷◌, Option, Some, None, subst}
+use Rattle.cc_ast.specs.Syntax.{Prim, Expr, lit, binary, and}
 use Rattle.cc_ast.specs.declared.operator.BinOp.{BinOp}
 use Rattle.cc_ast.specs.declared.operator.BinOp.TheVariants.{Add}
 use Rattle.cc_ast.specs.declared.tree.Ref.{Ref}

@@ -14,7 +14,7 @@ use Rattle.cc_tied.specs.Tied.{built_of, OptT, none_t}
 use Rattle.cc_tied.specs.Promises.{HasNoPaths}
 use Rattle.cc_tied.specs.Fine.{FineStmts}
 use Rattle.cc_tied.specs.Facts.{Level, called, caught, named, Facts, DeadAt, FixedAt}
-use Rattle.cc_tied.specs.PlainFacts.{owner, IsReached, plain_facts}
+use Rattle.cc_tied.specs.PlainFacts.{owner, plain_facts}
 use Rattle.cc_tied.proofs.Kit.{Kit}
 use Rattle.cc_tied.proofs.Parts.{Below, PathT}
 use Rattle.cc_tied.proofs.Nodes.{SameTables}

@@ -1,6 +1,6 @@
 -- Two programs whose bodies and chunks keep the injection do the same, where functions are bound to known globals.
-use Rattle.std.proofs.Common.{◌≡◌, sym, subst, ℕ, ◌≤◌, List, [], None}
-use Rattle.cc_ast.specs.Syntax.{Stmt, Program}
+use Rattle.std.proofs.Common.{◌≡◌, sym, subst, ℕ, ◌≤◌, [], None}
+use Rattle.cc_ast.specs.Syntax.{Program}
 use Rattle.cc_meaning.specs.Shapes.{tables_of, body_of}
 use Rattle.cc_meaning.specs.Meaning.{hoist, bodies}
 use Rattle.cc_meaning.specs.Script.{graph_of, checked, top}
