@@ -74,10 +74,16 @@ pub mod InjectDead
 pub mod InjectEnds
 pub mod InjectRuns
 pub mod FineParts
+pub mod FineBoth
 pub mod InjectFacts
+pub mod InjectAbove
 pub mod InjectPass
 pub mod InjectRewrites
 pub mod KeptPaths
 pub mod KeptSets
+pub mod MixedTables
 pub mod MixedSame
+pub mod DropExample
 pub mod FoldKeeps
+pub mod DropFacts
+pub mod DropKeeps

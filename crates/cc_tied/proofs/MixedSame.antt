@@ -19,9 +19,9 @@ use Rattle.cc_tied.proofs.Rewriting.{anything, StepRules}
 use Rattle.cc_tied.proofs.RewritingBodies.{whole_rules}
 use Rattle.cc_tied.proofs.Subsets.{Pass, Rewrites, rewritten}
 use Rattle.cc_tied.proofs.KeptPaths.{Stays}
-use Rattle.cc_tied.proofs.KeptSets.{Within, within_both, stmts_within, declares_same, declares_within}
+use Rattle.cc_tied.proofs.KeptSets.{Within, whole_sets, stmts_within, declares_same, declares_within}
 use Rattle.cc_tied.proofs.InjectTie.{Ctx}
-use Rattle.cc_tied.proofs.InjectEnds.{SameButSet}
+use Rattle.cc_tied.proofs.MixedTables.{same_but_set, sets_more, mixed_bodies}
 use Rattle.cc_tied.proofs.InjectPass.{pass_kit, same_tables}
 use Rattle.cc_tied.proofs.InjectRewrites.{PlainPass, pass_same}
 
@@ -33,29 +33,6 @@ module _ (built : Ref → Bool) (step : Expr → Expr) (step_call : ℕ → Expr
   abbrev pub whole_pass : Pass
   whole_pass = record { step = λ f. step; step_call = λ f. step_call; trim = λ f. whole; trim_in = λ f. whole_in; cut = λ f. more_stmts }
 
-  -- ---- of the scopes
-
-  heads_kept : {k : ℕ} {ss ts : List Scope} → MixedScopes whole_rewrite k ss ts → map head_of ts ≡ map head_of ss
-  unfolding head_of
-  heads_kept no_scopes = refl
-  heads_kept (as_it_was {s = s} m) = ap (λ z. head_of s ∷ z) (heads_kept m)
-  heads_kept (with_other {s = s} {ts = ts} e m) = ap (λ z. head_of z ∷ map head_of ts) e ∙ ap (λ z. head_of s ∷ z) (heads_kept m)
-
-  sets_kept : (cs : List ChunkInfo) {k : ℕ} {ss ts : List Scope} → MixedScopes whole_rewrite k ss ts → Within (sets_by_chunks cs ss) (sets_by_chunks cs ts)
-  unfolding sets_by_chunks
-  sets_kept [] m x j = elim j [ ]
-  sets_kept (c ∷ cs) no_scopes x j = j
-  sets_kept (c ∷ cs) (as_it_was {s = s} m) x j = within_both (sets_by_stmts s.body) (λ y i. i) (sets_kept cs m) x j
-  sets_kept (c ∷ cs) (with_other {s = s} {t = t} e m) x j = within_both (sets_by_stmts s.body) (subst (λ z. Within (sets_by_stmts s.body) (sets_by_stmts z)) (sym (ap (λ z. z.body) e)) (stmts_within built step step_call S s.body)) (sets_kept cs m) x j
-
-  bodies_chosen : {k : ℕ} {ss ts : List Scope} → MixedScopes whole_rewrite k ss ts → (f : ℕ) → (body_in (slice_get ts f) ≡ body_in (slice_get ss f)) ⊎ (body_in (slice_get ts f) ≡ whole_rewrite f (body_in (slice_get ss f)))
-  unfolding body_in
-  bodies_chosen no_scopes f = inl refl
-  bodies_chosen (as_it_was m) zero = inl refl
-  bodies_chosen (with_other e m) zero = inr (ap (λ z. z.body) e)
-  bodies_chosen (as_it_was m) (suc f) = bodies_chosen m f
-  bodies_chosen (with_other e m) (suc f) = bodies_chosen m f
-
   module _ (P : Program) (W : WellMade P) (none : HasNoPaths P) (builts : (r : Ref) → built r ≡ false → built_of (tables_of P) r ≡ None) (ts : List Scope) (m : MixedScopes whole_rewrite 0 P.scopes ts) where
     abbrev Q : Program
     Q = record P { scopes = ts }
@@ -63,28 +40,23 @@ module _ (built : Ref → Bool) (step : Expr → Expr) (step_call : ℕ → Expr
     abbrev Anywhere : Ctx → Type 0
     Anywhere c = Unit {0}
 
-    same_but_set : SameButSet P Q
-    unfolding tables_of
-    same_but_set = record { tables = ap (λ z. record (tables_of Q) { heads = z }) (heads_kept m) }
-
     abbrev pub mixed_kit : Kit
     mixed_kit = pass_kit (plain_facts P) P Q none built builts
 
-    sets_more : Within (tables_of P).set (tables_of Q).set
-    unfolding tables_of
-    sets_more = sets_kept P.chunks m
+    more : Within (tables_of P).set (tables_of Q).set
+    more = sets_more whole_rewrite P ts m (λ f ss. stmts_within built step step_call S whole whole_in more_stmts whole_sets ss)
 
     chosen : Rewrites built whole_pass P Q
-    unfolding rewritten body_of
-    chosen f = bodies_chosen m f
+    unfolding rewritten
+    chosen f = mixed_bodies whole_rewrite P ts m f
 
     module _ (steps : (X : Below mixed_kit) → StepRules mixed_kit X built Anywhere anything step step_call) where
-      pass : PlainPass P Q W none same_but_set built builts whole_pass
+      pass : PlainPass P Q W none (same_but_set whole_rewrite P ts m) built builts whole_pass
       pass = record {
         steps = λ f X. steps X;
-        cuts = λ f X. whole_rules mixed_kit X built Anywhere anything step step_call (same_tables (plain_facts P) P Q none built builts X) (λ n s h. record { keeps = declares_within (tables_of P) (tables_of Q).set sets_more built step step_call S s });
-        declares = λ s. record { keeps = declares_same (tables_of P) (tables_of Q).set sets_more s };
+        cuts = λ f X. whole_rules mixed_kit X built Anywhere anything step step_call (same_tables (plain_facts P) P Q none built builts X) (λ n s h. record { keeps = declares_within (tables_of P) (tables_of Q).set more built step step_call S whole whole_in more_stmts s });
+        declares = λ s. record { keeps = declares_same (tables_of P) (tables_of Q).set more s };
       }
 
       pub same_by_scopes : Same P Q
-      same_by_scopes = pass_same P Q W none same_but_set built builts whole_pass pass chosen
+      same_by_scopes = pass_same P Q W none (same_but_set whole_rewrite P ts m) built builts whole_pass pass chosen

@@ -2,9 +2,16 @@
 //! how a phase is proved; no program is compiled by them.
 
 ghost use Rattle.cc_tied.specs.FoldExample.{FoldingKeeps};
+ghost use Rattle.cc_tied.specs.DropExample.{DroppingKeeps};
 
 /// Sums of literals become literals, and `&&` with a literal on the left the operand that it
 /// chooses, in whichever scopes.
 pub fn folding_keeps()
     ensures { FoldingKeeps }
+{}
+
+/// Statements of a pure expression go, and so do declarators of places that are never read, with
+/// their pure values, in whichever scopes.
+pub fn dropping_keeps()
+    ensures { DroppingKeeps }
 {}
