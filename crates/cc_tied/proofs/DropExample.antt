@@ -10,7 +10,7 @@ use Rattle.cc_tied.specs.DropExample.{pure, all_pure, pure_fields, pure_value, i
 use Rattle.cc_tied.specs.Facts.{Facts}
 use Rattle.cc_tied.specs.Fine.{FineDeclarator}
 use Rattle.cc_tied.specs.Pure.{IsPure, pure_lit, pure_var, pure_this, pure_fun, pure_list, pure_object, pure_unary, pure_binary, pure_and, pure_or, pure_cond, pure_comma, pure_cast, ArePure, no_pure, more_pure, HasPureFields, no_pure_fields, more_pure_fields}
-use Rattle.cc_tied.specs.Rewrites.{re_value, re_declarator, re_declarators, re_stmt, stay_call, whole_in}
+use Rattle.cc_tied.specs.Rewrites.{re_declarator, re_stmt, stay_call, whole_in}
 use Rattle.cc_tied.proofs.Kit.{Kit}
 use Rattle.cc_tied.proofs.Parts.{Below}
 use Rattle.cc_tied.proofs.Nodes.{SameTables}

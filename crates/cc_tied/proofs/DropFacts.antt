@@ -1,5 +1,5 @@
 -- What is known of a program whose dead places are never read, and where its declared variables stand.
-use Rattle.std.proofs.Common.{◌≡◌, ℕ, suc, Bool, true, false, List, [], Option, Some, None, refl, sym, ap, subst, ◌∙◌}
+use Rattle.std.proofs.Common.{◌≡◌, ℕ, suc, Bool, true, false, List, [], Option, Some, None, refl, sym, ap, subst}
 use Rattle.cc_ast.specs.Syntax.{Expr, Program}
 use Rattle.cc_ast.specs.declared.tree.Ref.{Ref}
 use Rattle.cc_meaning.specs.State.{Path, Tables}
@@ -12,7 +12,7 @@ use Rattle.cc_tied.specs.PlainFacts.{owner, plain_facts}
 use Rattle.cc_tied.proofs.Kit.{Kit}
 use Rattle.cc_tied.proofs.Rewriting.{Standing, allowed, BindsT, bound_by_write, bound_alone, SetsT, set_by_write, set_alone}
 use Rattle.cc_tied.proofs.FineBoth.{BothAllow, stmts_both}
-use Rattle.cc_tied.proofs.InjectTie.{Ctx, at, in_catch, ReadI, reads_global, reads_place, WriteI, writes_global, writes_place, ThisI, this_at, StandI, stands_at, BindI, binds_known, SetI, sets_known}
+use Rattle.cc_tied.proofs.InjectTie.{Ctx, at, in_catch, ReadI, reads_global, reads_place, WriteI, writes_global, writes_place, ThisI, StandI, stands_at, binds_known, sets_known}
 use Rattle.cc_tied.proofs.InjectUpkeep.{inject_kit}
 use Rattle.cc_tied.proofs.InjectFacts.{own_above, owner_is, owner_function}
 use Rattle.cc_tied.proofs.InjectAbove.{above_same}

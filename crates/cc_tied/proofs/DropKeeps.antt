@@ -1,10 +1,8 @@
 -- Whichever scopes of a program lose what is pure and dead in them, the program does the same.
-use Rattle.std.proofs.Common.{◌≡◌, inl, inr, ℕ, Bool, true, false, List, [], ◌∷◌, ◌++◌, Option, Some, None, refl, sym, subst}
+use Rattle.std.proofs.Common.{◌≡◌, inl, inr, ℕ, Bool, true, false, List, [], ◌++◌, Option, Some, None, refl, sym, subst}
 use Rattle.std.specs.Prelude.{◌&&◌}
-use Rattle.cc_ast.specs.Syntax.{Expr, assign, Declarator, Stmt, simple, vars, Stmts, more_stmts, Scope, Program}
+use Rattle.cc_ast.specs.Syntax.{Expr, assign, Declarator, Stmt, simple, vars, Stmts, Scope, Program}
 use Rattle.cc_ast.specs.declared.tree.Ref.{Ref}
-use Rattle.cc_meaning.specs.Monad.{pick}
-use Rattle.cc_meaning.specs.Alike.{In}
 use Rattle.cc_meaning.specs.Shapes.{tables_of, path_of_ref, sets_by_option, sets_by_vars, sets_by_value, sets_by_stmt, sets_by_stmts}
 use Rattle.cc_meaning.specs.Same.{Same}
 use Rattle.cc_meaning.specs.WellMade.{WellMade}

@@ -1,6 +1,6 @@
 -- What places allow under some facts they allow under others that have the same functions in the same
 -- places: reads, writes, and functions that are made.
-use Rattle.std.proofs.Common.{◌≡◌, ℕ, zero, suc, Bool, true, false, Option, Some, None, refl, sym, ap, subst, ◌∙◌}
+use Rattle.std.proofs.Common.{◌≡◌, ℕ, Option, Some, refl, ap, subst}
 use Rattle.cc_meaning.specs.State.{Tables}
 use Rattle.cc_meaning.specs.Monad.{pick}
 use Rattle.cc_meaning.specs.Alike.{owns}

@@ -12,7 +12,7 @@ use Rattle.cc_meaning.specs.Store.{name_of, global_kind, same_numbers, set_to}
 use Rattle.cc_meaning.specs.Alike.{In, here, there}
 use Rattle.cc_meaning.specs.Shapes.{longer, path_of, path_of_ref, path_of_key, path_of_target, names_object, is_named, is_create, is_prototype, is_prototype_alone, creates, set_by, prototype_target, declared_in, declared_by, sets_by, sets_by_fields, sets_by_option, sets_by_vars, sets_by_value, sets_by_stmt, sets_by_stmts}
 use Rattle.cc_tied.specs.Placed.{Place, a_value, an_assigned, an_object}
-use Rattle.cc_tied.specs.Rewrites.{re, re_target, re_fields, re_value, re_option, re_declarator, re_declarators, re_stmt, re_stmts, whole, whole_in}
+use Rattle.cc_tied.specs.Rewrites.{re, re_target, re_fields, re_value, re_option, re_declarator, re_declarators, re_stmt, re_stmts, whole}
 use Rattle.cc_tied.proofs.KeptPaths.{Stays, re_fun, re_object, re_assign, path_kept, target_kept, creates_kept}
 
 -- ---- lists

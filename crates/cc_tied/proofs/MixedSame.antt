@@ -1,18 +1,16 @@
 -- A phase that rewrites expressions and leaves statements whole: whichever scopes it rewrites, the
 -- program does the same.
-use Rattle.std.proofs.Common.{◌≡◌, ◌⊎◌, inl, inr, ℕ, zero, suc, Bool, false, List, [], ◌∷◌, map, None, refl, sym, ap, subst, ◌∙◌}
-use Rattle.std.specs.Prelude.{slice_get}
+use Rattle.std.proofs.Common.{◌≡◌, ℕ, Bool, false, List, None}
 use Rattle.cc_ast.specs.Syntax.{Expr, Exprs, Stmts, more_stmts, Scope, Program}
-use Rattle.cc_ast.specs.declared.tables.ChunkInfo.{ChunkInfo}
 use Rattle.cc_ast.specs.declared.tree.Ref.{Ref}
-use Rattle.cc_meaning.specs.Shapes.{head_of, body_in, body_of, sets_by_chunks, sets_by_stmts, tables_of}
+use Rattle.cc_meaning.specs.Shapes.{tables_of}
 use Rattle.cc_meaning.specs.Same.{Same}
 use Rattle.cc_meaning.specs.WellMade.{WellMade}
 use Rattle.cc_tied.specs.Tied.{built_of}
 use Rattle.cc_tied.specs.Rewrites.{re_stmts, whole, whole_in}
 use Rattle.cc_tied.specs.Promises.{HasNoPaths}
 use Rattle.cc_tied.specs.PlainFacts.{plain_facts}
-use Rattle.cc_tied.specs.Mixed.{MixedScopes, no_scopes, as_it_was, with_other}
+use Rattle.cc_tied.specs.Mixed.{MixedScopes}
 use Rattle.cc_tied.proofs.Kit.{Kit}
 use Rattle.cc_tied.proofs.Parts.{Below}
 use Rattle.cc_tied.proofs.Rewriting.{anything, StepRules}
