@@ -74,6 +74,7 @@ pub mod InjectDead
 pub mod InjectEnds
 pub mod InjectRuns
 pub mod FineParts
+pub mod FineTogether
 pub mod InjectFacts
 pub mod InjectPass
 pub mod InjectRewrites
