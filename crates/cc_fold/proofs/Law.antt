@@ -21,7 +21,7 @@ use Rattle.cc_tied.proofs.Expressions as E
 use Rattle.cc_tied.proofs.Expressions.{deletes}
 use Rattle.cc_tied.proofs.Valued as W
 use Rattle.cc_tied.proofs.Nodes as N
-use Rattle.cc_tied.proofs.Rewriting.{StepRules}
+use Rattle.cc_tied.proofs.Rewriting.{Standing, StepRules}
 use Rattle.cc_fold.specs.Fold.{Literal, literal, literal_at, price_of, unmarked, marked, charged, computed, computed_of_one, computed_of_two, fold_unary, fold_binary, fold_and, fold_or, fold_cond, fold, same_call}
 use Rattle.cc_fold.proofs.Runs.{PricesAdd, paying, paying_then, path_behind, marked_ev, marked_value, and_value, or_value, cond_value}
 use Rattle.cc_fold.proofs.LiteralRuns.{literal_runs, one_runs, two_runs, charged_is, computed_is}
@@ -220,7 +220,7 @@ module _ (K : Kit) (X : Below K) (built : Ref → Bool) (same : N.SameTables K X
   fold_like n = N.node_valued K X built same c n
 
 -- the steps of folding keep what the rewriting asks
-pub fold_rules : (K : Kit) (X : Below K) (built : Ref → Bool) (same : N.SameTables K X built) → ((i j : ℕ) → SiteT K i j) → PricesAdd K.J' → (Stands : K.Ctx → List (List ℕ) → Stmt → Type 0) → StepRules K X built (λ c. Unit {0}) Stands fold same_call
+pub fold_rules : (K : Kit) (X : Below K) (built : Ref → Bool) (same : N.SameTables K X built) → ((i j : ℕ) → SiteT K i j) → PricesAdd K.J' → (Stands : Standing K.Ctx) → StepRules K X built (λ c. Unit {0}) Stands fold same_call
 unfolding fold same_call
 fold_rules K X built same anywhere add Stands = record {
   caught = λ c h. tt;

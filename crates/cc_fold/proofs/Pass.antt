@@ -10,6 +10,7 @@ use Rattle.cc_tied.proofs.Kit.{Kit}
 use Rattle.cc_tied.proofs.Laws.{said_none}
 use Rattle.cc_tied.proofs.Parts.{Below}
 use Rattle.cc_tied.proofs.Nodes.{SameTables}
+use Rattle.cc_tied.proofs.Rewriting.{Standing}
 use Rattle.cc_tied.proofs.RewritingBodies.{Rules, whole_rules}
 use Rattle.cc_tied.proofs.Subsets.{Pass, rewritten}
 use Rattle.cc_fold.specs.Fold.{fold, fold_scope, same_call, same_declarator, same_name, same_stmt}
@@ -17,7 +18,7 @@ use Rattle.cc_fold.specs.Walk.{fold_stmt}
 use Rattle.cc_fold.proofs.Runs.{PricesAdd}
 
 -- statements stay whole
-pub fold_cuts : (K : Kit) (X : Below K) (built : Ref → Bool) (Stands : K.Ctx → List (List ℕ) → Stmt → Type 0) → SameTables K X built → ((n : ℕ) (s : Stmt) → Stands (K.outer n) [] s → K.DeclaresT (declared_by K.tables s) (declared_by K.tables' (fold_stmt built s))) → Rules K X built (λ c. Unit {0}) Stands fold same_call same_declarator same_name same_stmt
+pub fold_cuts : (K : Kit) (X : Below K) (built : Ref → Bool) (Stands : Standing K.Ctx) → SameTables K X built → ((n : ℕ) (s : Stmt) → Stands.of_stmt (K.outer n) [] s → K.DeclaresT (declared_by K.tables s) (declared_by K.tables' (fold_stmt built s))) → Rules K X built (λ c. Unit {0}) Stands fold same_call same_declarator same_name same_stmt
 unfolding fold_stmt same_declarator same_name same_stmt
 fold_cuts K X built Stands same declares = whole_rules K X built (λ c. Unit {0}) Stands fold same_call same declares
 

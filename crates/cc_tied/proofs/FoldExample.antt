@@ -1,6 +1,6 @@
 -- What the small folding owes, over every kit for which sites don't count.
-use Rattle.std.proofs.Common.{◌≡◌, refl, sym, ap, ◌∙◌, ℕ, Bool, true, false, List, [], ◌∷◌, Option, Some, None, subst}
-use Rattle.cc_ast.specs.Syntax.{Prim, Expr, lit, binary, and, Stmt}
+use Rattle.std.proofs.Common.{◌≡◌, refl, sym, ap, ◌∙◌, ℕ, Bool, true, false, [], ◌∷◌, Option, Some, None, subst}
+use Rattle.cc_ast.specs.Syntax.{Prim, Expr, lit, binary, and}
 use Rattle.cc_ast.specs.declared.operator.BinOp.{BinOp}
 use Rattle.cc_ast.specs.declared.operator.BinOp.TheVariants.{Add}
 use Rattle.cc_ast.specs.declared.tree.Ref.{Ref}
@@ -23,7 +23,7 @@ use Rattle.cc_tied.proofs.Expressions as E
 use Rattle.cc_tied.proofs.Expressions.{value_literal}
 use Rattle.cc_tied.proofs.Valued as W
 use Rattle.cc_tied.proofs.Nodes as N
-use Rattle.cc_tied.proofs.Rewriting.{StepRules}
+use Rattle.cc_tied.proofs.Rewriting.{Standing, StepRules}
 use Rattle.cc_tied.specs.Rewrites.{stay_call}
 
 literal_is : (e : Expr) (p : Prim) → literal e ≡ Some p → (i : ℕ) × (e ≡ lit i p)
@@ -142,7 +142,7 @@ module _ (K : Kit) (X : Below K) (built : Ref → Bool) (same : N.SameTables K X
   fold_like (N.unary_n d h) = N.node_valued K X built same c (N.unary_n d h)
   fold_like n = N.node_valued K X built same c n
 
-pub fold_rules : (K : Kit) (X : Below K) (built : Ref → Bool) (same : N.SameTables K X built) → ((i j : ℕ) → SiteT K i j) → (Stands : K.Ctx → List (List ℕ) → Stmt → Type 0) → StepRules K X built (λ c. Unit {0}) Stands fold stay_call
+pub fold_rules : (K : Kit) (X : Below K) (built : Ref → Bool) (same : N.SameTables K X built) → ((i j : ℕ) → SiteT K i j) → (Stands : Standing K.Ctx) → StepRules K X built (λ c. Unit {0}) Stands fold stay_call
 unfolding fold stay_call
 fold_rules K X built same anywhere Stands = record {
   caught = λ c h. tt;

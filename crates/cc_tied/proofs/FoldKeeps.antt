@@ -1,7 +1,5 @@
 -- Whichever scopes of a program the small folding rewrites, the program does the same.
-use Rattle.std.proofs.Common.{◌≡◌, ℕ, Bool, false, Option, Some, None, is_some, refl, sym, subst}
-use Rattle.cc_ast.specs.Syntax.{Program}
-use Rattle.cc_ast.specs.declared.tree.Ref.{Ref}
+use Rattle.std.proofs.Common.{◌≡◌, false, Option, Some, None, is_some, refl, sym, subst}
 use Rattle.cc_meaning.specs.Shapes.{tables_of}
 use Rattle.cc_meaning.specs.Same.{Same}
 use Rattle.cc_tied.specs.Tied.{built_of}
@@ -9,7 +7,7 @@ use Rattle.cc_tied.specs.Rewrites.{stay_call}
 use Rattle.cc_tied.specs.FoldExample.{fold, is_built_in, FoldingKeeps}
 use Rattle.cc_tied.proofs.KeptPaths.{Stays}
 use Rattle.cc_tied.proofs.FoldExample.{fold_rules}
-use Rattle.cc_tied.proofs.MixedSame.{mixed_kit, same_by_scopes}
+use Rattle.cc_tied.proofs.MixedSame.{same_by_scopes}
 use Rattle.cc_tied.proofs.InjectPass.{same_tables}
 use Rattle.cc_tied.specs.PlainFacts.{plain_facts}
 

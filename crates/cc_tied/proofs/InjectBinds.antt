@@ -19,7 +19,7 @@ use Rattle.cc_tied.proofs.Sim.{Tie, World, Sim, sim_bind, sim_ret}
 use Rattle.cc_tied.proofs.Runs.{IsExact}
 use Rattle.cc_tied.specs.Fine.{FineStmt, FineStmts}
 use Rattle.cc_tied.proofs.Kit.{Kit}
-use Rattle.cc_tied.proofs.Rewriting.{BindsT, bound_by_write, bound_alone}
+use Rattle.cc_tied.proofs.Rewriting.{Standing, BindsT, bound_by_write, bound_alone}
 use Rattle.cc_tied.proofs.Rewriting as R
 use Rattle.cc_tied.proofs.Statements.{declares_function, hoists_nothing}
 use Rattle.cc_tied.proofs.InjectUpkeep.{inject_kit}
@@ -143,7 +143,7 @@ module _ (F : Facts) (S : Tables) (set' : List (Path × ℕ)) where
     none_bound : {w : W} (s : Stmt) → declares_function s ≡ false → Whole T Always (Nothing T) w (hoist_one checked top s) (hoist_one checked top s)
     none_bound s e = rw (hoists_nothing checked top s e) (whole_of T exact (λ v l. tt) (sim_ret T tt tt tt))
 
-    module _ (Stands : Ctx → List (List ℕ) → Stmt → Type 0) where
+    module _ (Stands : Standing Ctx) where
       statement_bound : {w : W} (s : Stmt) → FineStmt Ctx (R.allowed K Stands) (at None 0) [] s → Whole T Always (Nothing T) w (hoist_one checked top s) (hoist_one checked top s)
       unfolding FineStmt declares_function
       statement_bound (fun_decl i r f) o = one_bound i r f o.0 o.1

@@ -1,6 +1,6 @@
 -- What a pass owes the injection for every well made program without flat paths.
 use Rattle.std.proofs.Common.{◌≡◌, ℕ, Bool, false, List, [], Option, Some, None, refl, sym, ap, subst, ◌∙◌}
-use Rattle.std.specs.Prelude.{IsTrue, IsFalse}
+use Rattle.std.specs.Prelude.{IsFalse}
 use Rattle.cc_ast.specs.Syntax.{Program, Stmt}
 use Rattle.cc_ast.specs.declared.tree.Ref.{Ref}
 use Rattle.cc_meaning.specs.State.{Path, Tables}
@@ -9,23 +9,23 @@ use Rattle.cc_meaning.specs.Shapes.{tables_of, body_of}
 use Rattle.cc_meaning.specs.Calls.{member_use}
 use Rattle.cc_meaning.specs.Alike.{In}
 use Rattle.cc_meaning.specs.Parts.{mentions, declares, makes}
-use Rattle.cc_meaning.specs.WellMade.{is_chunk, parts_of, Reached, chunk_reached, function_reached, IsSound, sound_place, sound_global, sound_outer, IsPart, a_mention, a_declaration, a_function, WellMade}
+use Rattle.cc_meaning.specs.WellMade.{is_chunk, parts_of, Reached, function_reached, IsSound, sound_place, sound_global, sound_outer, IsPlaced, IsPart, a_mention, a_declaration, a_function, WellMade}
 use Rattle.cc_tied.specs.Tied.{built_of, OptT, none_t}
 use Rattle.cc_tied.specs.Promises.{HasNoPaths}
 use Rattle.cc_tied.specs.Fine.{FineStmts}
 use Rattle.cc_tied.specs.Facts.{Level, called, caught, named, Facts, DeadAt, FixedAt}
-use Rattle.cc_tied.specs.PlainFacts.{owner, IsReached, plain_facts}
+use Rattle.cc_tied.specs.PlainFacts.{owner, plain_facts}
 use Rattle.cc_tied.proofs.Kit.{Kit}
 use Rattle.cc_tied.proofs.Parts.{Below, PathT}
 use Rattle.cc_tied.proofs.Nodes.{SameTables}
-use Rattle.cc_tied.proofs.Rewriting.{allowed, bound_by_write, set_by_write}
+use Rattle.cc_tied.proofs.Rewriting.{Standing, allowed, bound_by_write, set_by_write}
 use Rattle.cc_tied.proofs.Erase as E
 use Rattle.cc_tied.proofs.AlikeReach.{no_flat}
 use Rattle.cc_tied.proofs.FineParts.{PartsAllow, fine_stmts}
 use Rattle.cc_tied.proofs.InjectTie.{Ctx, at, this_at, stands_at, ReadI, reads_global, reads_place, WriteI, writes_global, writes_place, same_key, with_set}
 use Rattle.cc_tied.proofs.InjectRules.{name_table}
 use Rattle.cc_tied.proofs.InjectUpkeep.{inject_kit}
-use Rattle.cc_tied.proofs.InjectFacts.{part_of, parent_is, holds_above, owner_function, owner_chunk}
+use Rattle.cc_tied.proofs.InjectFacts.{part_of, parent_is, holds_above}
 
 -- ---- tables
 
@@ -67,7 +67,12 @@ module _ (F : Facts) (P Q : Program) (none : HasNoPaths P) (built : Ref → Bool
 
 -- ---- a well made program is fine, where no more is known of it
 
-module _ (P : Program) (W : WellMade P) (set' : List (Path × ℕ)) (Stands : Ctx → List (List ℕ) → Stmt → Type 0) (all : (c : Ctx) (ls : List (List ℕ)) (s : Stmt) → Stands c ls s) where
+-- what a pass asks beside what the kit ties, which each well made program has
+pub record StandsIn (P : Program) (Stands : Standing Ctx) : Type 0 where
+  pub of_stmt : (c : Ctx) (ls : List (List ℕ)) (s : Stmt) → Stands.of_stmt c ls s
+  pub of_declared : (f k : ℕ) (r : Ref) → IsPlaced P f k r → Stands.of_declared (at (owner P f) k) r
+
+module _ (P : Program) (W : WellMade P) (set' : List (Path × ℕ)) (Stands : Standing Ctx) (all : StandsIn P Stands) where
   abbrev F : Facts
   F = plain_facts P
 
@@ -100,6 +105,9 @@ module _ (P : Program) (W : WellMade P) (set' : List (Path × ℕ)) (Stands : Ct
   declared_sound : (f k : ℕ) (r : Ref) → Reached P f → IsPart P f (declares k r) → IsSound P f k r
   declared_sound f k r h (a_declaration _ _ p s) = s h
 
+  declared_placed : (f k : ℕ) (r : Ref) → IsPart P f (declares k r) → IsPlaced P f k r
+  declared_placed f k r (a_declaration _ _ p s) = p
+
   made_apart : (f k g : ℕ) (d : Bool) → IsPart P f (makes k g d) → IsFalse (is_chunk P g)
   made_apart f k g d (a_function _ _ _ m) = m.function
 
@@ -110,20 +118,13 @@ module _ (P : Program) (W : WellMade P) (set' : List (Path × ℕ)) (Stands : Ct
     writes = λ k r i. write_sound (mention_sound f k r h (part_of P W f _ i));
     declared = λ k r i. write_sound (declared_sound f k r h (part_of P W f _ i));
     bound = λ k r g i. bound_by_write (write_sound (declared_sound f k r h (part_of P W f _ i)));
-    set = λ k r o i. set_by_write (write_sound (declared_sound f k r h (part_of P W f _ i)));
+    set = λ k r o i. let d = part_of P W f _ i in (set_by_write (write_sound (declared_sound f k r h d)), all.of_declared f k r (declared_placed f k r d));
     receivers = λ k. this_at;
     made = λ k g d i. let e = parent_is P W f k g d i in stands_at (record { reached = function_reached f g k d h i; function = made_apart f k g d (part_of P W f _ i) }) (ap (λ z. z.0) e) (ap (λ z. z.1) e);
-    stands = λ k ls s. all _ ls s;
+    stands = λ k ls s. all.of_stmt _ ls s;
   }
 
-  fine_scope : (f : ℕ) → Reached P f → FineStmts Ctx (allowed K Stands) (at (owner P f) 0) [] (body_of P f)
+  -- the statements of each scope that is reached
+  pub fine_scope : (f : ℕ) → Reached P f → FineStmts Ctx (allowed K Stands) (at (owner P f) 0) [] (body_of P f)
   unfolding parts_of
   fine_scope f h = fine_stmts Ctx (allowed K Stands) (λ k. at (owner P f) k) (λ x. In x (parts_of P f)) (parts_allow f h) (tables_of P) 0 [] (body_of P f) (λ x i. i)
-
-  -- the body of each function that is reached
-  pub fine_function : (f : ℕ) → IsReached P f → FineStmts Ctx (allowed K Stands) (at (Some f) 0) [] (body_of P f)
-  fine_function f h = subst (λ z. FineStmts Ctx (allowed K Stands) (at z 0) [] (body_of P f)) (owner_function P f h.function) (fine_scope f h.reached)
-
-  -- the own list of each chunk
-  pub fine_chunk : (c : ℕ) → IsTrue (is_chunk P c) → FineStmts Ctx (allowed K Stands) (at None 0) [] (body_of P c)
-  fine_chunk c h = subst (λ z. FineStmts Ctx (allowed K Stands) (at z 0) [] (body_of P c)) (owner_chunk P c h) (fine_scope c (chunk_reached c h))

@@ -1,6 +1,6 @@
 -- Two programs whose bodies and chunks keep the injection do the same, where functions are bound to known globals.
-use Rattle.std.proofs.Common.{◌≡◌, sym, subst, ℕ, ◌≤◌, List, [], None}
-use Rattle.cc_ast.specs.Syntax.{Stmt, Program}
+use Rattle.std.proofs.Common.{◌≡◌, sym, subst, ℕ, ◌≤◌, [], None}
+use Rattle.cc_ast.specs.Syntax.{Program}
 use Rattle.cc_meaning.specs.Shapes.{tables_of, body_of}
 use Rattle.cc_meaning.specs.Meaning.{hoist, bodies}
 use Rattle.cc_meaning.specs.Script.{graph_of, checked, top}
@@ -10,7 +10,7 @@ use Rattle.cc_tied.specs.Fine.{FineStmts}
 use Rattle.cc_tied.proofs.Kit.{Kit}
 use Rattle.cc_tied.proofs.Parts.{BodiesT}
 use Rattle.cc_tied.proofs.Turns.{AllBodiesT, below_of, ProgramT, FollowsChunk, IsChunk}
-use Rattle.cc_tied.proofs.Rewriting.{allowed}
+use Rattle.cc_tied.proofs.Rewriting.{Standing, allowed}
 use Rattle.cc_tied.proofs.Sim.{World}
 use Rattle.cc_tied.proofs.Whole.{Whole, Nothing, WholeChunksT, whole_run}
 use Rattle.cc_tied.proofs.InjectTie.{Ctx, at}
@@ -18,7 +18,7 @@ use Rattle.cc_tied.proofs.InjectUpkeep.{upkeep, inject_kit}
 use Rattle.cc_tied.proofs.InjectEnds.{SameButSet, pair_tie, no_tabs, same_graph, starts, exact}
 use Rattle.cc_tied.proofs.InjectBinds.{list_bound}
 
-module _ (F : Facts) (P Q : Program) (same : SameButSet P Q) (Stands : Ctx → List (List ℕ) → Stmt → Type 0) where
+module _ (F : Facts) (P Q : Program) (same : SameButSet P Q) (Stands : Standing Ctx) where
   abbrev pub bound_kit : Kit
   bound_kit = inject_kit F (tables_of P) (tables_of Q).set
 

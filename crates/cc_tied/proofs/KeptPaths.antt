@@ -1,17 +1,16 @@
 -- A rewriting that exchanges no variables, accesses, calls, assignments, functions and object literals
 -- keeps the paths of a program, and the prototypes that its statements declare.
-use Rattle.std.proofs.Common.{◌≡◌, ℕ, Bool, true, false, List, [], ◌∷◌, Option, Some, None, refl, sym, ap, subst, ◌∙◌}
+use Rattle.std.proofs.Common.{◌≡◌, ℕ, Bool, true, false, Option, Some, None, refl, sym, ap, subst, ◌∙◌}
 use Rattle.std.specs.Prelude.{◌&&◌, is_some}
-use Rattle.cc_ast.specs.Syntax.{Expr, lit, var, this, fun, list, object, unary, binary, and, or, cond, assign, step as step_of, member, index, call, new, comma, cast, tick, Target, to_var, to_member, to_index, Exprs, no_exprs, more_exprs, Fields, Stmt, simple}
+use Rattle.cc_ast.specs.Syntax.{Expr, var, fun, object, assign, member, call, Target, to_var, to_member, to_index, Exprs, no_exprs, more_exprs, Fields}
 use Rattle.cc_ast.specs.declared.operator.BinOp.{BinOp}
 use Rattle.cc_ast.specs.declared.tree.Ref.{Ref}
 use Rattle.cc_meaning.specs.Names.{name_create, name_prototype}
 use Rattle.cc_meaning.specs.State.{Path, Tables}
 use Rattle.cc_meaning.specs.Monad.{pick}
-use Rattle.cc_meaning.specs.Alike.{In}
-use Rattle.cc_meaning.specs.Shapes.{longer, path_of, path_of_ref, path_of_target, names_object, is_named, is_create, is_prototype, is_prototype_alone, creates, set_by, prototype_target, declared_in, declared_by}
+use Rattle.cc_meaning.specs.Shapes.{longer, path_of, path_of_target, names_object, is_named, is_create, is_prototype, is_prototype_alone, creates}
 use Rattle.cc_tied.specs.Placed.{Place, a_value, an_assigned, a_callee, a_deleted, an_object, keeps, guard}
-use Rattle.cc_tied.specs.Rewrites.{put, put_call, put_on_value, re, re_target, re_all, re_fields, re_value}
+use Rattle.cc_tied.specs.Rewrites.{put, put_call, put_on_value, re, re_target, re_all, re_fields}
 
 -- these nodes stay as they are
 pub record Stays (step : Expr → Expr) (step_call : ℕ → Expr → Exprs → Expr) : Type 0 where

@@ -1,21 +1,19 @@
 -- What a rewriting of whole statements keeps of what globals and paths are set to, and of the
 -- prototypes that statements declare.
-use Rattle.std.proofs.Common.{◌≡◌, ◌⊎◌, inl, inr, ℕ, zero, suc, Bool, true, false, List, [], ◌∷◌, ◌++◌, map, Option, Some, None, refl, sym, ap, subst, ◌∙◌}
+use Rattle.std.proofs.Common.{◌≡◌, ◌⊎◌, inl, inr, ℕ, Bool, true, false, List, [], ◌∷◌, ◌++◌, Option, Some, None, refl, sym, ap, subst, ◌∙◌}
 use Rattle.std.specs.Prelude.{◌&&◌, nat_eq, is_some}
-use Rattle.cc_ast.specs.Syntax.{Expr, lit, var, this, fun, list, object, unary, binary, and, or, cond, assign, step as step_of, member, index, call, new, comma, cast, tick, Target, to_var, to_member, to_index, Exprs, no_exprs, more_exprs, Fields, no_fields, more_fields, Declarator, Stmt, simple, vars, fun_decl, Stmts, no_stmts, more_stmts, Scope}
-use Rattle.cc_ast.specs.declared.tables.ChunkInfo.{ChunkInfo}
+use Rattle.cc_ast.specs.Syntax.{Expr, fun, object, assign, member, call, Target, to_var, to_member, to_index, Exprs, no_exprs, more_exprs, Fields, no_fields, more_fields, Declarator, Stmt, simple, vars, fun_decl, Stmts, no_stmts, more_stmts}
 use Rattle.cc_ast.specs.declared.tree.Key.{Key}
 use Rattle.cc_ast.specs.declared.tree.Ref.{Ref}
 use Rattle.cc_meaning.specs.Names.{name_create, name_prototype}
 use Rattle.cc_meaning.specs.State.{Path, Tables}
 use Rattle.cc_meaning.specs.Monad.{pick}
-use Rattle.cc_meaning.specs.Store.{name_of, dotted, global_kind, same_numbers, set_to}
+use Rattle.cc_meaning.specs.Store.{name_of, global_kind, same_numbers, set_to}
 use Rattle.cc_meaning.specs.Alike.{In, here, there}
-use Rattle.cc_meaning.specs.Shapes.{longer, path_of, path_of_ref, path_of_key, path_of_target, is_object_global, names_object, is_named, is_create, is_prototype, is_prototype_alone, creates, set_by, prototype_target, declared_in, declared_by, sets_by, sets_by_fields, sets_by_option, sets_by_vars, sets_by_value, sets_by_fun, sets_by_stmt, sets_by_stmts, sets_by_chunks}
-use Rattle.cc_tied.specs.Placed.{Place, a_value, an_assigned, a_callee, a_deleted, an_object}
-use Rattle.cc_tied.specs.Rewrites.{re, re_target, re_all, re_fields, re_value, re_option, re_declarator, re_declarators, re_stmt, re_stmts, whole, whole_in}
-use Rattle.cc_tied.specs.Mixed.{MixedScopes, no_scopes, as_it_was, with_other}
-use Rattle.cc_tied.proofs.KeptPaths.{Stays, guard_same, put_same, re_fun, re_object, re_var, re_member, re_assign, path_kept, target_kept, creates_kept}
+use Rattle.cc_meaning.specs.Shapes.{longer, path_of, path_of_ref, path_of_key, path_of_target, names_object, is_named, is_create, is_prototype, is_prototype_alone, creates, set_by, prototype_target, declared_in, declared_by, sets_by, sets_by_fields, sets_by_option, sets_by_vars, sets_by_value, sets_by_stmt, sets_by_stmts}
+use Rattle.cc_tied.specs.Placed.{Place, a_value, an_assigned, an_object}
+use Rattle.cc_tied.specs.Rewrites.{re, re_target, re_fields, re_value, re_option, re_declarator, re_declarators, re_stmt, re_stmts, whole, whole_in}
+use Rattle.cc_tied.proofs.KeptPaths.{Stays, re_fun, re_object, re_assign, path_kept, target_kept, creates_kept}
 
 -- ---- lists
 

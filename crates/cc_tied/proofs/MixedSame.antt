@@ -1,26 +1,26 @@
 -- A phase that rewrites expressions and leaves statements whole: whichever scopes it rewrites, the
 -- program does the same.
-use Rattle.std.proofs.Common.{◌≡◌, ◌⊎◌, inl, inr, ℕ, zero, suc, ◌+◌, Bool, false, List, [], ◌∷◌, map, None, Some, refl, sym, ap, subst, arith, ◌∙◌}
+use Rattle.std.proofs.Common.{◌≡◌, ◌⊎◌, inl, inr, ℕ, zero, suc, Bool, false, List, [], ◌∷◌, map, None, refl, sym, ap, subst, ◌∙◌}
 use Rattle.std.specs.Prelude.{slice_get}
-use Rattle.cc_ast.specs.Syntax.{Expr, Exprs, Stmt, Stmts, more_stmts, Scope, Program}
+use Rattle.cc_ast.specs.Syntax.{Expr, Exprs, Stmts, more_stmts, Scope, Program}
 use Rattle.cc_ast.specs.declared.tables.ChunkInfo.{ChunkInfo}
 use Rattle.cc_ast.specs.declared.tree.Ref.{Ref}
-use Rattle.cc_meaning.specs.Shapes.{head_of, body_in, body_of, sets_by_chunks, sets_by_stmts, tables_of, declared_by}
+use Rattle.cc_meaning.specs.Shapes.{head_of, body_in, body_of, sets_by_chunks, sets_by_stmts, tables_of}
 use Rattle.cc_meaning.specs.Same.{Same}
 use Rattle.cc_meaning.specs.WellMade.{WellMade}
 use Rattle.cc_tied.specs.Tied.{built_of}
 use Rattle.cc_tied.specs.Rewrites.{re_stmts, whole, whole_in}
 use Rattle.cc_tied.specs.Promises.{HasNoPaths}
 use Rattle.cc_tied.specs.PlainFacts.{plain_facts}
-use Rattle.cc_tied.specs.Mixed.{MixedScopes, no_scopes, as_it_was, with_other, IsMixed}
+use Rattle.cc_tied.specs.Mixed.{MixedScopes, no_scopes, as_it_was, with_other}
 use Rattle.cc_tied.proofs.Kit.{Kit}
 use Rattle.cc_tied.proofs.Parts.{Below}
-use Rattle.cc_tied.proofs.Rewriting.{StepRules}
-use Rattle.cc_tied.proofs.RewritingBodies.{Rules, whole_rules}
+use Rattle.cc_tied.proofs.Rewriting.{anything, StepRules}
+use Rattle.cc_tied.proofs.RewritingBodies.{whole_rules}
 use Rattle.cc_tied.proofs.Subsets.{Pass, Rewrites, rewritten}
 use Rattle.cc_tied.proofs.KeptPaths.{Stays}
 use Rattle.cc_tied.proofs.KeptSets.{Within, within_both, stmts_within, declares_same, declares_within}
-use Rattle.cc_tied.proofs.InjectTie.{Ctx, DeclaresI}
+use Rattle.cc_tied.proofs.InjectTie.{Ctx}
 use Rattle.cc_tied.proofs.InjectEnds.{SameButSet}
 use Rattle.cc_tied.proofs.InjectPass.{pass_kit, same_tables}
 use Rattle.cc_tied.proofs.InjectRewrites.{PlainPass, pass_same}
@@ -60,9 +60,6 @@ module _ (built : Ref → Bool) (step : Expr → Expr) (step_call : ℕ → Expr
     abbrev Q : Program
     Q = record P { scopes = ts }
 
-    abbrev Each : Ctx → List (List ℕ) → Stmt → Type 0
-    Each c ls s = Unit {0}
-
     abbrev Anywhere : Ctx → Type 0
     Anywhere c = Unit {0}
 
@@ -81,11 +78,11 @@ module _ (built : Ref → Bool) (step : Expr → Expr) (step_call : ℕ → Expr
     unfolding rewritten body_of
     chosen f = bodies_chosen m f
 
-    module _ (steps : (X : Below mixed_kit) → StepRules mixed_kit X built Anywhere Each step step_call) where
+    module _ (steps : (X : Below mixed_kit) → StepRules mixed_kit X built Anywhere anything step step_call) where
       pass : PlainPass P Q W none same_but_set built builts whole_pass
       pass = record {
         steps = λ f X. steps X;
-        cuts = λ f X. whole_rules mixed_kit X built Anywhere Each step step_call (same_tables (plain_facts P) P Q none built builts X) (λ n s h. record { keeps = declares_within (tables_of P) (tables_of Q).set sets_more built step step_call S s });
+        cuts = λ f X. whole_rules mixed_kit X built Anywhere anything step step_call (same_tables (plain_facts P) P Q none built builts X) (λ n s h. record { keeps = declares_within (tables_of P) (tables_of Q).set sets_more built step step_call S s });
         declares = λ s. record { keeps = declares_same (tables_of P) (tables_of Q).set sets_more s };
       }
 

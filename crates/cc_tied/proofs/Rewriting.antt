@@ -91,11 +91,21 @@ pub data SetsT (K : Kit) (c : K.Ctx) (r : Ref) : Option Expr → Type 0 where
   set_by_write : {o : Option Expr} → K.WriteT c r r → SetsT K c r o
   set_alone : {i : ℕ} {p : Prim} → K.SetT c r p → SetsT K c r (Some (lit i p))
 
--- what a kit ties to itself, and the statements of a pass
-abbrev pub allowed : (K : Kit) → (Stands : K.Ctx → List (List ℕ) → Stmt → Type 0) → Allowed K.Ctx
-allowed K Stands = record { caught = K.in_catch; reads = λ c r. K.ReadT c r r; writes = λ c r. K.WriteT c r r; binds = BindsT K; sets = SetsT K; this_here = K.ThisT; makes = λ c f. K.StandT c f f; stands = Stands }
+-- what a pass asks beside what the kit ties: of statements under the labels in force, and of variables
+-- that declarators stand for
+pub record Standing (C : Type 0) : Type 1 where
+  pub of_stmt : C → List (List ℕ) → Stmt → Type 0
+  pub of_declared : C → Ref → Type 0
 
-module _ (K : Kit) (X : Below K) (built : Ref → Bool) (Here : K.Ctx → Type 0) (Stands : K.Ctx → List (List ℕ) → Stmt → Type 0) (step : Expr → Expr) (step_call : ℕ → Expr → Exprs → Expr) where
+-- a pass that asks nothing more
+abbrev pub anything : {C : Type 0} → Standing C
+anything = record { of_stmt = λ c ls s. Unit {0}; of_declared = λ c r. Unit {0} }
+
+-- what a kit ties to itself, and what a pass asks
+abbrev pub allowed : (K : Kit) → (Stands : Standing K.Ctx) → Allowed K.Ctx
+allowed K Stands = record { caught = K.in_catch; reads = λ c r. K.ReadT c r r; writes = λ c r. K.WriteT c r r; binds = BindsT K; sets = λ c r o. SetsT K c r o × Stands.of_declared c r; this_here = K.ThisT; makes = λ c f. K.StandT c f f; stands = Stands.of_stmt }
+
+module _ (K : Kit) (X : Below K) (built : Ref → Bool) (Here : K.Ctx → Type 0) (Stands : Standing K.Ctx) (step : Expr → Expr) (step_call : ℕ → Expr → Exprs → Expr) where
   abbrev pub new_declarator : Declarator → Declarator
   new_declarator d = re_declarator built step step_call d
 
@@ -271,4 +281,4 @@ module _ (K : Kit) (X : Below K) (built : Ref → Bool) (Here : K.Ctx → Type 0
 
       pub re_like_declarator : (d : Declarator) → FineDeclarator K.Ctx (allowed K Stands) c d → S.FollowsSet K X c d (new_declarator d)
       unfolding re_declarator FineDeclarator
-      re_like_declarator d o = set_like d.site d.variable d.value o.0 o.1
+      re_like_declarator d o = set_like d.site d.variable d.value o.0.0 o.1

@@ -12,9 +12,9 @@ use Rattle.cc_tied.proofs.Nodes as N
 use Rattle.cc_tied.proofs.Statements as S
 use Rattle.cc_tied.proofs.Turns as T
 use Rattle.cc_tied.proofs.Rewriting as R
-use Rattle.cc_tied.proofs.Rewriting.{allowed, BindsT, bound_by_write, bound_alone}
+use Rattle.cc_tied.proofs.Rewriting.{Standing, allowed, BindsT, bound_by_write, bound_alone}
 
-module _ (K : Kit) (X : Below K) (built : Ref → Bool) (Here : K.Ctx → Type 0) (Stands : K.Ctx → List (List ℕ) → Stmt → Type 0) (step : Expr → Expr) (step_call : ℕ → Expr → Exprs → Expr) (trim : Declarator → List Declarator) (trim_in : Declarator → Declarator) (cut : Stmt → Stmts → Stmts) where
+module _ (K : Kit) (X : Below K) (built : Ref → Bool) (Here : K.Ctx → Type 0) (Stands : Standing K.Ctx) (step : Expr → Expr) (step_call : ℕ → Expr → Exprs → Expr) (trim : Declarator → List Declarator) (trim_in : Declarator → Declarator) (cut : Stmt → Stmts → Stmts) where
   abbrev pub new_stmt : Stmt → Stmt
   new_stmt s = re_stmt built step step_call trim trim_in cut s
 
@@ -26,10 +26,10 @@ module _ (K : Kit) (X : Below K) (built : Ref → Bool) (Here : K.Ctx → Type 0
     -- a declarator and a statement, beside what their parts became
     pub trims : (c : K.Ctx) → Here c → (d : Declarator) (ds ds' : List Declarator) → FineDeclarator K.Ctx (allowed K Stands) c d → S.FollowsSet K X c d (R.new_declarator K X built Here Stands step step_call d) → S.FollowsDecls K X c ds ds' → S.FollowsDecls K X c (d ∷ ds) (trim (R.new_declarator K X built Here Stands step step_call d) ++ ds')
     pub trim_ins : (c : K.Ctx) → Here c → (d : Declarator) → K.WriteT c d.variable d.variable → FineDeclarator K.Ctx (allowed K Stands) c d → S.FollowsSet K X c d (R.new_declarator K X built Here Stands step step_call d) → S.FollowsNames K X c (in_declared d) (in_declared (trim_in (R.new_declarator K X built Here Stands step step_call d)))
-    pub cuts : (c : K.Ctx) → Here c → (ls : List (List ℕ)) (s : Stmt) (ss ss' : Stmts) → Stands c ls s → FineStmt K.Ctx (allowed K Stands) c ls s → S.FollowsStmt K X c ls s (new_stmt s) → S.FollowsStmts K X c ls ss ss' → S.FollowsStmts K X c ls (more_stmts s ss) (cut (new_stmt s) ss')
+    pub cuts : (c : K.Ctx) → Here c → (ls : List (List ℕ)) (s : Stmt) (ss ss' : Stmts) → Stands.of_stmt c ls s → FineStmt K.Ctx (allowed K Stands) c ls s → S.FollowsStmt K X c ls s (new_stmt s) → S.FollowsStmts K X c ls ss ss' → S.FollowsStmts K X c ls (more_stmts s ss) (cut (new_stmt s) ss')
     -- in a function's or a chunk's own list
-    pub hoists : (c : K.Ctx) → Here c → (s : Stmt) (ss ss' : Stmts) → Stands c [] s → FineStmt K.Ctx (allowed K Stands) c [] s → S.FollowsHoistOne K X c s (new_stmt s) → S.FollowsHoist K X c ss ss' → S.FollowsHoist K X c (more_stmts s ss) (cut (new_stmt s) ss')
-    pub chunks : (n : ℕ) → Here (K.outer n) → (s : Stmt) (ss ss' : Stmts) → Stands (K.outer n) [] s → FineStmt K.Ctx (allowed K Stands) (K.outer n) [] s → S.FollowsStmt K X (K.outer n) [] s (new_stmt s) → T.FollowsChunk K X n ss ss' → T.FollowsChunk K X n (more_stmts s ss) (cut (new_stmt s) ss')
+    pub hoists : (c : K.Ctx) → Here c → (s : Stmt) (ss ss' : Stmts) → Stands.of_stmt c [] s → FineStmt K.Ctx (allowed K Stands) c [] s → S.FollowsHoistOne K X c s (new_stmt s) → S.FollowsHoist K X c ss ss' → S.FollowsHoist K X c (more_stmts s ss) (cut (new_stmt s) ss')
+    pub chunks : (n : ℕ) → Here (K.outer n) → (s : Stmt) (ss ss' : Stmts) → Stands.of_stmt (K.outer n) [] s → FineStmt K.Ctx (allowed K Stands) (K.outer n) [] s → S.FollowsStmt K X (K.outer n) [] s (new_stmt s) → T.FollowsChunk K X n ss ss' → T.FollowsChunk K X n (more_stmts s ss) (cut (new_stmt s) ss')
 
   module _ (same : N.SameTables K X built) (by_steps : R.StepRules K X built Here Stands step step_call) (rules : Rules) where
     module _ (c : K.Ctx) (here : Here c) where
@@ -125,9 +125,9 @@ module _ (K : Kit) (X : Below K) (built : Ref → Bool) (Here : K.Ctx → Type 0
 
 -- ---- a pass that leaves statements and declarators whole
 
-module _ (K : Kit) (X : Below K) (built : Ref → Bool) (Here : K.Ctx → Type 0) (Stands : K.Ctx → List (List ℕ) → Stmt → Type 0) (step : Expr → Expr) (step_call : ℕ → Expr → Exprs → Expr) where
+module _ (K : Kit) (X : Below K) (built : Ref → Bool) (Here : K.Ctx → Type 0) (Stands : Standing K.Ctx) (step : Expr → Expr) (step_call : ℕ → Expr → Exprs → Expr) where
   -- statements of chunks declare the prototypes that they declared before
-  pub whole_rules : N.SameTables K X built → ((n : ℕ) (s : Stmt) → Stands (K.outer n) [] s → K.DeclaresT (declared_by K.tables s) (declared_by K.tables' (re_stmt built step step_call whole whole_in more_stmts s))) → Rules K X built Here Stands step step_call whole whole_in more_stmts
+  pub whole_rules : N.SameTables K X built → ((n : ℕ) (s : Stmt) → Stands.of_stmt (K.outer n) [] s → K.DeclaresT (declared_by K.tables s) (declared_by K.tables' (re_stmt built step step_call whole whole_in more_stmts s))) → Rules K X built Here Stands step step_call whole whole_in more_stmts
   unfolding FineDeclarator re_declarator
   whole_rules same declares = record {
     trims = λ c h d ds ds' o hd hs. S.follows_more_decls K X c hd hs;

@@ -11,7 +11,7 @@ use Rattle.cc_tied.proofs.Parts.{Below, BodiesT}
 use Rattle.cc_tied.proofs.Statements.{FollowsBody, FollowsHoist}
 use Rattle.cc_tied.proofs.Turns.{AllBodiesT, below_of, ProgramT, ChunkT, ChunksT, FollowsChunk}
 use Rattle.cc_tied.proofs.Nodes.{SameTables}
-use Rattle.cc_tied.proofs.Rewriting.{allowed, StepRules}
+use Rattle.cc_tied.proofs.Rewriting.{Standing, allowed, StepRules}
 use Rattle.cc_tied.proofs.RewritingBodies.{Rules, re_like_hoist, re_like_body, re_like_chunk}
 use Rattle.cc_tied.proofs.Unchanged.{like_hoist, like_body, like_chunk}
 
@@ -32,7 +32,7 @@ module _ (built : Ref → Bool) (A : Pass) where
   abbrev pub Rewrites : Program → Program → Type 0
   Rewrites P Q = (f : ℕ) → (body_of Q f ≡ body_of P f) ⊎ (body_of Q f ≡ rewritten f (body_of P f))
 
-module _ (K : Kit) (P Q : Program) (built : Ref → Bool) (A : Pass) (Here : ℕ → K.Ctx → Type 0) (Stands : K.Ctx → List (List ℕ) → Stmt → Type 0) where
+module _ (K : Kit) (P Q : Program) (built : Ref → Bool) (A : Pass) (Here : ℕ → K.Ctx → Type 0) (Stands : Standing K.Ctx) where
   open K use {J, J', tables, tables', World, bound, bound', Ctx, inside, outer, FunT, BindT, bind_inside, DeclaresT}
 
   -- what a pass owes in one scope, over whatever its calls do
@@ -53,7 +53,7 @@ module _ (K : Kit) (P Q : Program) (built : Ref → Bool) (A : Pass) (Here : ℕ
     pub written : (c : ℕ) → C c → (r : Ref) (f : ℕ) → BindT (outer c) r f → ⊥
     pub fine : (c : ℕ) → C c → FineStmts Ctx (allowed K Stands) (outer c) [] (body_of P c)
     pub here : (c : ℕ) → C c → Here c (outer c)
-    pub declares : (c : ℕ) → C c → (s : Stmt) → Stands (outer c) [] s → DeclaresT (declared_by tables s) (declared_by tables' s)
+    pub declares : (c : ℕ) → C c → (s : Stmt) → Stands.of_stmt (outer c) [] s → DeclaresT (declared_by tables s) (declared_by tables' s)
     pub rules : (c d d' : ℕ) → C c → (w : World) → bound w ≤ d → bound' w ≤ d' → AllBodiesT K P Q w → (tied : BodiesT K w (bodies J P d) (bodies J' Q d')) → ScopeRules c (below_of K P Q d d' w tied)
 
   module _ (T : PassT) (chosen : Rewrites built A P Q) where

@@ -15,7 +15,7 @@ use Rattle.cc_tied.proofs.Nodes as N
 use Rattle.cc_tied.proofs.Statements as S
 use Rattle.cc_tied.proofs.Turns as T
 use Rattle.cc_tied.proofs.Rewriting as R
-use Rattle.cc_tied.proofs.Rewriting.{allowed, BindsT, bound_by_write, bound_alone, SetsT, set_by_write, set_alone}
+use Rattle.cc_tied.proofs.Rewriting.{Standing, allowed, BindsT, bound_by_write, bound_alone, SetsT, set_by_write, set_alone}
 
 -- no step
 unfoldable pub stay : Expr → Expr
@@ -95,7 +95,7 @@ module _ (built : Ref → Bool) where
 
 -- ---- each fine tree follows itself
 
-module _ (K : Kit) (X : Below K) (built : Ref → Bool) (same : N.SameTables K X built) (Stands : K.Ctx → List (List ℕ) → Stmt → Type 0) where
+module _ (K : Kit) (X : Below K) (built : Ref → Bool) (same : N.SameTables K X built) (Stands : Standing K.Ctx) where
   abbrev Anywhere : K.Ctx → Type 0
   Anywhere c = Unit {0}
 
@@ -149,7 +149,7 @@ module _ (K : Kit) (X : Below K) (built : Ref → Bool) (same : N.SameTables K X
 
     pub like_declarator : (d : Declarator) → FineDeclarator K.Ctx (allowed K Stands) c d → S.FollowsSet K X c d d
     unfolding FineDeclarator
-    like_declarator d o = like_set d.site d.variable d.value o.0 o.1
+    like_declarator d o = like_set d.site d.variable d.value o.0.0 o.1
 
     pub like_declarators : (ds : List Declarator) → FineDeclarators K.Ctx (allowed K Stands) c ds → S.FollowsDecls K X c ds ds
     unfolding FineDeclarators
@@ -222,7 +222,7 @@ module _ (K : Kit) (X : Below K) (built : Ref → Bool) (same : N.SameTables K X
   like_body c nb ss o = record { hoist = like_hoist c nb ss o; runs = like_stmts c [] ss o }
 
   -- a chunk's own list, whose statements declare the same prototypes
-  pub like_chunk : (n : ℕ) → ((s : Stmt) → Stands (K.outer n) [] s → K.DeclaresT (declared_by K.tables s) (declared_by K.tables' s)) → (ss : Stmts) → FineStmts K.Ctx (allowed K Stands) (K.outer n) [] ss → T.FollowsChunk K X n ss ss
+  pub like_chunk : (n : ℕ) → ((s : Stmt) → Stands.of_stmt (K.outer n) [] s → K.DeclaresT (declared_by K.tables s) (declared_by K.tables' s)) → (ss : Stmts) → FineStmts K.Ctx (allowed K Stands) (K.outer n) [] ss → T.FollowsChunk K X n ss ss
   unfolding FineStmt
   like_chunk n d no_stmts o = T.follows_no_chunk K X
   like_chunk n d (more_stmts s ss) o = T.follows_more_chunk K X (d s o.0) (like_stmt (K.outer n) [] s o.1) (like_chunk n d ss o.2)
