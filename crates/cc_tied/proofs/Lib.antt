@@ -75,10 +75,16 @@ pub mod InjectEnds
 pub mod InjectRuns
 pub mod FineParts
 pub mod FineTogether
+pub mod FineScopes
 pub mod InjectFacts
 pub mod InjectPass
 pub mod InjectRewrites
+pub mod InjectFunctions
+pub mod InjectBound
 pub mod KeptPaths
 pub mod KeptSets
 pub mod MixedSame
+pub mod MixedBound
 pub mod FoldKeeps
+pub mod InlineExample
+pub mod InlineKeeps

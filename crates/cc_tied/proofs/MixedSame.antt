@@ -56,35 +56,41 @@ module _ (built : Ref → Bool) (step : Expr → Expr) (step_call : ℕ → Expr
   bodies_chosen (as_it_was m) (suc f) = bodies_chosen m f
   bodies_chosen (with_other e m) (suc f) = bodies_chosen m f
 
+  -- ---- of the program with these scopes
+
+  module _ (P : Program) (ts : List Scope) (m : MixedScopes whole_rewrite 0 P.scopes ts) where
+    abbrev pub with_scopes : Program
+    with_scopes = record P { scopes = ts }
+
+    pub same_but_set : SameButSet P with_scopes
+    unfolding tables_of
+    same_but_set = record { tables = ap (λ z. record (tables_of with_scopes) { heads = z }) (heads_kept m) }
+
+    pub sets_more : Within (tables_of P).set (tables_of with_scopes).set
+    unfolding tables_of
+    sets_more = sets_kept P.chunks m
+
+    pub chosen : Rewrites built whole_pass P with_scopes
+    unfolding rewritten body_of
+    chosen f = bodies_chosen m f
+
   module _ (P : Program) (W : WellMade P) (none : HasNoPaths P) (builts : (r : Ref) → built r ≡ false → built_of (tables_of P) r ≡ None) (ts : List Scope) (m : MixedScopes whole_rewrite 0 P.scopes ts) where
     abbrev Q : Program
-    Q = record P { scopes = ts }
+    Q = with_scopes P ts m
 
     abbrev Anywhere : Ctx → Type 0
     Anywhere c = Unit {0}
 
-    same_but_set : SameButSet P Q
-    unfolding tables_of
-    same_but_set = record { tables = ap (λ z. record (tables_of Q) { heads = z }) (heads_kept m) }
-
     abbrev pub mixed_kit : Kit
     mixed_kit = pass_kit (plain_facts P) P Q none built builts
 
-    sets_more : Within (tables_of P).set (tables_of Q).set
-    unfolding tables_of
-    sets_more = sets_kept P.chunks m
-
-    chosen : Rewrites built whole_pass P Q
-    unfolding rewritten body_of
-    chosen f = bodies_chosen m f
-
     module _ (steps : (X : Below mixed_kit) → StepRules mixed_kit X built Anywhere anything step step_call) where
-      pass : PlainPass P Q W none same_but_set built builts whole_pass
+      pass : PlainPass P Q W none (same_but_set P ts m) built builts whole_pass
       pass = record {
         steps = λ f X. steps X;
-        cuts = λ f X. whole_rules mixed_kit X built Anywhere anything step step_call (same_tables (plain_facts P) P Q none built builts X) (λ n s h. record { keeps = declares_within (tables_of P) (tables_of Q).set sets_more built step step_call S s });
-        declares = λ s. record { keeps = declares_same (tables_of P) (tables_of Q).set sets_more s };
+        cuts = λ f X. whole_rules mixed_kit X built Anywhere anything step step_call (same_tables (plain_facts P) P Q none built builts X) (λ n s h. record { keeps = declares_within (tables_of P) (tables_of Q).set (sets_more P ts m) built step step_call S s });
+        declares = λ s. record { keeps = declares_same (tables_of P) (tables_of Q).set (sets_more P ts m) s };
       }
 
       pub same_by_scopes : Same P Q
-      same_by_scopes = pass_same P Q W none same_but_set built builts whole_pass pass chosen
+      same_by_scopes = pass_same P Q W none (same_but_set P ts m) built builts whole_pass pass (chosen P ts m)
