@@ -19,7 +19,7 @@ use Rattle.cc_fold.proofs.Pass.{checked_adds}
 
 fold_stays : Stays fold same_call
 unfolding fold same_call
-fold_stays = record { var = λ i r. refl; fun = λ i f. refl; object = λ i fs. refl; member = λ i e p. refl; assign = λ i op u e. refl; call = λ i f es. refl }
+fold_stays = record { var = λ i r. refl; fun = λ i f. refl; object = λ i fs. refl; member = λ i e p. refl; assign = λ i op u e. refl; call = λ i j e p es. refl }
 
 pub folding_keeps : FoldingKeeps
 unfolding same_declarator same_name same_stmt

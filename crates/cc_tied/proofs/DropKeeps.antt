@@ -61,7 +61,7 @@ keeps_sets dead = record { trims = live_sets dead; cuts = drop_sets }
 
 no_step_stays : Stays (λ e. e) stay_call
 unfolding stay_call
-no_step_stays = record { var = λ i r. refl; fun = λ i f. refl; object = λ i fs. refl; member = λ i e p. refl; assign = λ i op u e. refl; call = λ i f es. refl }
+no_step_stays = record { var = λ i r. refl; fun = λ i f. refl; object = λ i fs. refl; member = λ i e p. refl; assign = λ i op u e. refl; call = λ i j e p es. refl }
 
 module _ (dead : (function place : ℕ) → Bool) (P : Program) where
   abbrev drop_pass : Pass

@@ -70,7 +70,7 @@ pub owner_chunk : (P : Program) (f : ℕ) → IsTrue (is_chunk P f) → owner P 
 unfolding owner
 owner_chunk P f e = rw e refl
 
-head_get : (ss : List Scope) (f : ℕ) (s : Scope) → slice_get ss f ≡ Some s → slice_get (map head_of ss) f ≡ Some (head_of s)
+pub head_get : (ss : List Scope) (f : ℕ) (s : Scope) → slice_get ss f ≡ Some s → slice_get (map head_of ss) f ≡ Some (head_of s)
 head_get [] f s e = absurd (cc)
 head_get (x ∷ ss) zero s e = let d : x ≡ s = cc in ap (λ z. Some (head_of z)) d
 head_get (x ∷ ss) (suc f) s e = head_get ss f s e

@@ -65,6 +65,21 @@ module _ (F : Facts) (P Q : Program) (none : HasNoPaths P) (built : Ref → Bool
     builts = λ r e. sym (built_same S (tables_of Q).set r) ∙ builts r e;
   }
 
+-- ---- the parts of a well made program
+
+module _ (P : Program) where
+  pub mention_sound : (f k : ℕ) (r : Ref) → Reached P f → IsPart P f (mentions k r) → IsSound P f k r
+  mention_sound f k r h (a_mention _ _ s) = s h
+
+  pub declared_sound : (f k : ℕ) (r : Ref) → Reached P f → IsPart P f (declares k r) → IsSound P f k r
+  declared_sound f k r h (a_declaration _ _ p s) = s h
+
+  pub declared_placed : (f k : ℕ) (r : Ref) → IsPart P f (declares k r) → IsPlaced P f k r
+  declared_placed f k r (a_declaration _ _ p s) = p
+
+  pub made_apart : (f k g : ℕ) (d : Bool) → IsPart P f (makes k g d) → IsFalse (is_chunk P g)
+  made_apart f k g d (a_function _ _ _ m) = m.function
+
 -- ---- a well made program is fine, where no more is known of it
 
 -- what a pass asks beside what the kit ties, which each well made program has
@@ -99,28 +114,16 @@ module _ (P : Program) (W : WellMade P) (set' : List (Path × ℕ)) (Stands : St
   write_sound (sound_global n d g i) = writes_global (λ h z. z)
   write_sound (sound_outer n g e d) = writes_global (λ h z. z)
 
-  mention_sound : (f k : ℕ) (r : Ref) → Reached P f → IsPart P f (mentions k r) → IsSound P f k r
-  mention_sound f k r h (a_mention _ _ s) = s h
-
-  declared_sound : (f k : ℕ) (r : Ref) → Reached P f → IsPart P f (declares k r) → IsSound P f k r
-  declared_sound f k r h (a_declaration _ _ p s) = s h
-
-  declared_placed : (f k : ℕ) (r : Ref) → IsPart P f (declares k r) → IsPlaced P f k r
-  declared_placed f k r (a_declaration _ _ p s) = p
-
-  made_apart : (f k g : ℕ) (d : Bool) → IsPart P f (makes k g d) → IsFalse (is_chunk P g)
-  made_apart f k g d (a_function _ _ _ m) = m.function
-
   parts_allow : (f : ℕ) → Reached P f → PartsAllow Ctx (allowed K Stands) (λ k. at (owner P f) k) (λ x. In x (parts_of P f))
   parts_allow f h = record {
     caught = λ k. refl;
-    reads = λ k r i. read_sound (mention_sound f k r h (part_of P W f _ i));
-    writes = λ k r i. write_sound (mention_sound f k r h (part_of P W f _ i));
-    declared = λ k r i. write_sound (declared_sound f k r h (part_of P W f _ i));
-    bound = λ k r g i. bound_by_write (write_sound (declared_sound f k r h (part_of P W f _ i)));
-    set = λ k r o i. let d = part_of P W f _ i in (set_by_write (write_sound (declared_sound f k r h d)), all.of_declared f k r (declared_placed f k r d));
+    reads = λ k r i. read_sound (mention_sound P f k r h (part_of P W f _ i));
+    writes = λ k r i. write_sound (mention_sound P f k r h (part_of P W f _ i));
+    declared = λ k r i. write_sound (declared_sound P f k r h (part_of P W f _ i));
+    bound = λ k r g i. bound_by_write (write_sound (declared_sound P f k r h (part_of P W f _ i)));
+    set = λ k r o i. let d = part_of P W f _ i in (set_by_write (write_sound (declared_sound P f k r h d)), all.of_declared f k r (declared_placed P f k r d));
     receivers = λ k. this_at;
-    made = λ k g d i. let e = parent_is P W f k g d i in stands_at (record { reached = function_reached f g k d h i; function = made_apart f k g d (part_of P W f _ i) }) (ap (λ z. z.0) e) (ap (λ z. z.1) e);
+    made = λ k g d i. let e = parent_is P W f k g d i in stands_at (record { reached = function_reached f g k d h i; function = made_apart P f k g d (part_of P W f _ i) }) (ap (λ z. z.0) e) (ap (λ z. z.1) e);
     stands = λ k ls s. all.of_stmt _ ls s;
   }
 

@@ -30,7 +30,7 @@ in_range [] c ds e = absurd (cc)
 in_range (x ∷ cs) zero ds e = grind (arith, nat_tests)
 in_range (x ∷ cs) (suc c) ds e = let h = in_range cs c ds e in grind (arith, nat_tests)
 
-is_chunk_of : (P : Program) (c : ℕ) → IsChunk (graph_of P) c → IsTrue (is_chunk P c)
+pub is_chunk_of : (P : Program) (c : ℕ) → IsChunk (graph_of P) c → IsTrue (is_chunk P c)
 unfolding is_chunk graph_of
 is_chunk_of P c h = in_range P.chunks c h.deps h.found
 
@@ -71,7 +71,6 @@ module _ (F : Facts) (P Q : Program) (none : HasNoPaths P) (same : SameButSet P 
     chunks = record {
       fine = λ c h. let r = is_chunk_of P c h in subst (λ z. FineStmts Ctx (allowed K Stands) (at z 0) [] (body_of P c)) (owner_chunk P c r) (pass.fine c (chunk_reached c r));
       here = λ c h. subst (λ z. Here c (at z 0)) (owner_chunk P c (is_chunk_of P c h)) (pass.here c);
-      written = λ c h r f b. not_bound b;
       declares = λ c h s k. pass.declares s;
       rules = λ c d d' h w le le' all tied. rules c (below_of K P Q d d' w tied);
     }
@@ -80,7 +79,7 @@ module _ (F : Facts) (P Q : Program) (none : HasNoPaths P) (same : SameButSet P 
     pub facts_pass_same : Same P Q
     facts_pass_same = same_by_inject F P Q same (record {
       bodies = pass_program K P Q built A Here Stands functions chosen;
-      chunks = pass_chunks K P Q built A Here Stands functions chosen (IsChunk (graph_of P)) chunks;
+      chunks = pass_chunks K P Q built A Here Stands functions chosen (IsChunk (graph_of P)) chunks (λ c h r f b. not_bound b);
     })
 
 -- ---- a pass that knows no more of a program than that it is well made

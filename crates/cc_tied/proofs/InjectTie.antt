@@ -84,7 +84,7 @@ module _ (F : Facts) where
       sets_known : {o : Option ℕ} {c n : ℕ} {p : Prim} → F.Known n (holds_literal p) → ((h : Held) → F.Known n h → h ≡ holds_literal p) → SetI (at o c) (Ref.Global n) p
 
     pub data BindI : Ctx → Ref → ℕ → Type 0 where
-      binds_known : {n f : ℕ} → F.Known n (holds_function f) → ((h : Held) → F.Known n h → h ≡ holds_function f) → BindI (at None 0) (Ref.Global n) f
+      binds_known : {c n f : ℕ} → F.Known n (holds_function f) → ((h : Held) → F.Known n h → h ≡ holds_function f) → BindI (at None c) (Ref.Global n) f
 
     pub no_bind : {f g : ℕ} {r : Ref} → BindI (at (Some f) 0) r g → ⊥
     no_bind h = elim h [ ]

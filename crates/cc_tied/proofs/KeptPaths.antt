@@ -1,4 +1,4 @@
--- A rewriting that exchanges no variables, accesses, calls, assignments, functions and object literals
+-- A rewriting that exchanges no variables, accesses, calls of them, assignments, functions and object literals
 -- keeps the paths of a program, and the prototypes that its statements declare.
 use Rattle.std.proofs.Common.{◌≡◌, ℕ, Bool, true, false, Option, Some, None, refl, sym, ap, subst, ◌∙◌}
 use Rattle.std.specs.Prelude.{◌&&◌, is_some}
@@ -17,9 +17,10 @@ pub record Stays (step : Expr → Expr) (step_call : ℕ → Expr → Exprs → 
   pub var : (i : ℕ) (r : Ref) → step (var i r) ≡ var i r
   pub fun : (i f : ℕ) → step (fun i f) ≡ fun i f
   pub object : (i : ℕ) (fs : Fields) → step (object i fs) ≡ object i fs
+  -- calls of accesses
+  pub call : (i j : ℕ) (e : Expr) (p : ℕ) (es : Exprs) → step_call i (member j e p) es ≡ call i (member j e p) es
   pub member : (i : ℕ) (e : Expr) (p : ℕ) → step (member i e p) ≡ member i e p
   pub assign : (i : ℕ) (op : Option BinOp) (u : Target) (e : Expr) → step (assign i op u e) ≡ assign i op u e
-  pub call : (i : ℕ) (f : Expr) (es : Exprs) → step_call i f es ≡ call i f es
 
 module _ (built : Ref → Bool) (step : Expr → Expr) (step_call : ℕ → Expr → Exprs → Expr) (S : Stays step step_call) where
   abbrev R : Bool → Place → Expr → Expr
@@ -57,9 +58,13 @@ module _ (built : Ref → Bool) (step : Expr → Expr) (step_call : ℕ → Expr
   unfolding re
   re_object t q i fs = put_same t q _ (S.object i _)
 
-  pub re_call : (t : Bool) (q : Place) (i : ℕ) (f : Expr) (es : Exprs) → R t q (call i f es) ≡ call i (R t a_callee f) (re_all built step step_call t es)
-  unfolding re put_call
-  re_call t q i f es = ap (λ z. guard built t q (call i (R t a_callee f) (re_all built step step_call t es)) z) (S.call i _ _) ∙ guard_same t q _
+  re_call_of : (t : Bool) (q : Place) (i j : ℕ) (e f : Expr) (p : ℕ) (es : Exprs) → f ≡ member j e p → put_call built step step_call t q i f es ≡ call i f es
+  unfolding put_call
+  re_call_of t q i j e f p es d = subst (λ z. guard built t q (call i z es) (step_call i z es) ≡ call i z es) (sym d) (ap (λ z. guard built t q (call i (member j e p) es) z) (S.call i j e p es) ∙ guard_same t q _)
+
+  pub re_call : (t : Bool) (q : Place) (i j : ℕ) (e : Expr) (p : ℕ) (es : Exprs) → R t q (call i (member j e p) es) ≡ call i (R t a_callee (member j e p)) (re_all built step step_call t es)
+  unfolding re
+  re_call t q i j e p es = re_call_of t q i j (R t an_object e) (R t a_callee (member j e p)) p (re_all built step step_call t es) (re_member t a_callee j e p)
 
   pub re_assign : (t : Bool) (q : Place) (i : ℕ) (op : Option BinOp) (u : Target) (e : Expr) → R t q (assign i op u e) ≡ assign i op (re_target built step step_call u) (R t an_assigned e)
   unfolding re
@@ -132,9 +137,14 @@ module _ (built : Ref → Bool) (step : Expr → Expr) (step_call : ℕ → Expr
   alone_kept T t (more_exprs e no_exprs) h = prototype_kept T t a_value e h
   alone_kept T t (more_exprs e (more_exprs d es)) h = absurd (cc)
 
+  created : (T : Tables) (t : Bool) (q : Place) (i : ℕ) (f : Expr) (es : Exprs) → is_create T f ≡ true → is_prototype_alone T es ≡ true → creates T (R t q (call i f es)) ≡ true
+  unfolding creates is_create
+  created T t q i (member j e p) es h k = subst (λ z. creates T z ≡ true) (sym (re_call t q i j e p es)) (both_and (create_kept T t a_callee (member j e p) h) (alone_kept T t es k))
+  created T t q i f es h k = absurd (cc)
+
   pub creates_kept : (T : Tables) (t : Bool) (q : Place) (e : Expr) → creates T e ≡ true → creates T (R t q e) ≡ true
   unfolding creates
   creates_kept T t q (call i f es) h =
       let b = and_both (is_create T f) (is_prototype_alone T es) h in
-      subst (λ z. creates T z ≡ true) (sym (re_call t q i f es)) (both_and (create_kept T t a_callee f b.0) (alone_kept T t es b.1))
+      created T t q i f es b.0 b.1
   creates_kept T t q e h = absurd (cc)

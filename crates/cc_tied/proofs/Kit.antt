@@ -1,5 +1,5 @@
 -- What a relation between runs owes, so that programs keep it.
-use Rattle.std.proofs.Common.{◌≡◌, ℕ, suc, ◌≤◌, Bool, false, List, [], ◌∷◌, Option, Some, None}
+use Rattle.std.proofs.Common.{◌≡◌, ℕ, suc, ◌≤◌, Bool, false, List, [], ◌∷◌, Option, Some}
 use Rattle.cc_ast.specs.Syntax.{Prim, undefined}
 use Rattle.cc_ast.specs.declared.operator.BinOp.TheVariants.{Instance}
 use Rattle.cc_ast.specs.declared.operator.UnOp.TheVariants.{Typeof}

@@ -75,10 +75,14 @@ pub mod InjectEnds
 pub mod InjectRuns
 pub mod FineParts
 pub mod FineBoth
+pub mod FineTogether
+pub mod FineScopes
 pub mod InjectFacts
 pub mod InjectAbove
 pub mod InjectPass
 pub mod InjectRewrites
+pub mod InjectFunctions
+pub mod InjectBound
 pub mod KeptPaths
 pub mod KeptSets
 pub mod MixedTables
@@ -87,3 +91,6 @@ pub mod DropExample
 pub mod FoldKeeps
 pub mod DropFacts
 pub mod DropKeeps
+pub mod MixedBound
+pub mod InlineExample
+pub mod InlineKeeps

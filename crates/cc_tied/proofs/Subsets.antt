@@ -49,8 +49,6 @@ module _ (K : Kit) (P Q : Program) (built : Ref → Bool) (A : Pass) (Here : ℕ
 
   -- and in the chunks that may be loaded
   pub record PassChunksT (C : ℕ → Type 0) : Type 0 where
-    -- no function is bound but by a write
-    pub written : (c : ℕ) → C c → (r : Ref) (f : ℕ) → BindT (outer c) r f → ⊥
     pub fine : (c : ℕ) → C c → FineStmts Ctx (allowed K Stands) (outer c) [] (body_of P c)
     pub here : (c : ℕ) → C c → Here c (outer c)
     pub declares : (c : ℕ) → C c → (s : Stmt) → Stands.of_stmt (outer c) [] s → DeclaresT (declared_by tables s) (declared_by tables' s)
@@ -71,18 +69,28 @@ module _ (K : Kit) (P Q : Program) (built : Ref → Bool) (A : Pass) (Here : ℕ
     pass_program = record { parts = λ f f' d d' ft w ld ld' all tied. same_number f f' (T.one_number f f' ft) (below_of K P Q d d' w tied) ft (λ h. T.rules f d d' h w ld ld' all tied) }
 
     module _ (C : ℕ → Type 0) (D : PassChunksT C) where
-      one_chunk : (c : ℕ) (X : Below K) → C c → ScopeRules c X → ChunkT K X P Q c
+      one_runs : (c : ℕ) (X : Below K) → C c → ScopeRules c X → FollowsChunk K X c (body_of P c) (body_of Q c)
       unfolding rewritten
-      one_chunk c X q r = elim (chosen c) [
-        | inl e ↦ record {
-          hoist = subst (λ z. FollowsHoist K X (outer c) (body_of P c) z) (sym e) (like_hoist K X built (T.same X) Stands (outer c) (D.written c q) (body_of P c) (D.fine c q));
-          runs = subst (λ z. FollowsChunk K X c (body_of P c) z) (sym e) (like_chunk K X built (T.same X) Stands c (D.declares c q) (body_of P c) (D.fine c q));
-        }
-        | inr e ↦ record {
-          hoist = subst (λ z. FollowsHoist K X (outer c) (body_of P c) z) (sym e) (re_like_hoist K X built (Here c) Stands (A.step c) (A.step_call c) (A.trim c) (A.trim_in c) (A.cut c) (T.same X) r.steps r.cuts (outer c) (D.here c q) (D.written c q) (body_of P c) (D.fine c q));
-          runs = subst (λ z. FollowsChunk K X c (body_of P c) z) (sym e) (re_like_chunk K X built (Here c) Stands (A.step c) (A.step_call c) (A.trim c) (A.trim_in c) (A.cut c) (T.same X) r.steps r.cuts c (D.here c q) (body_of P c) (D.fine c q));
-        }
+      one_runs c X q r = elim (chosen c) [
+        | inl e ↦ subst (λ z. FollowsChunk K X c (body_of P c) z) (sym e) (like_chunk K X built (T.same X) Stands c (D.declares c q) (body_of P c) (D.fine c q))
+        | inr e ↦ subst (λ z. FollowsChunk K X c (body_of P c) z) (sym e) (re_like_chunk K X built (Here c) Stands (A.step c) (A.step_call c) (A.trim c) (A.trim_in c) (A.cut c) (T.same X) r.steps r.cuts c (D.here c q) (body_of P c) (D.fine c q))
       ]
 
-      pub pass_chunks : ChunksT K P Q C
-      pass_chunks = record { lists = λ c d d' q w ld ld' all tied. one_chunk c (below_of K P Q d d' w tied) q (D.rules c d d' q w ld ld' all tied) }
+      -- the statements of a chunk's own list, after its functions are bound
+      pub pass_runs : (c d d' : ℕ) → C c → (w : World) → bound w ≤ d → bound' w ≤ d' → AllBodiesT K P Q w → (tied : BodiesT K w (bodies J P d) (bodies J' Q d')) → FollowsChunk K (below_of K P Q d d' w tied) c (body_of P c) (body_of Q c)
+      pass_runs c d d' q w ld ld' all tied = one_runs c (below_of K P Q d d' w tied) q (D.rules c d d' q w ld ld' all tied)
+
+      -- where no function is bound but by a write
+      module _ (written : (c : ℕ) → C c → (r : Ref) (f : ℕ) → BindT (outer c) r f → ⊥) where
+        one_hoist : (c : ℕ) (X : Below K) → C c → ScopeRules c X → FollowsHoist K X (outer c) (body_of P c) (body_of Q c)
+        unfolding rewritten
+        one_hoist c X q r = elim (chosen c) [
+          | inl e ↦ subst (λ z. FollowsHoist K X (outer c) (body_of P c) z) (sym e) (like_hoist K X built (T.same X) Stands (outer c) (written c q) (body_of P c) (D.fine c q))
+          | inr e ↦ subst (λ z. FollowsHoist K X (outer c) (body_of P c) z) (sym e) (re_like_hoist K X built (Here c) Stands (A.step c) (A.step_call c) (A.trim c) (A.trim_in c) (A.cut c) (T.same X) r.steps r.cuts (outer c) (D.here c q) (written c q) (body_of P c) (D.fine c q))
+        ]
+
+        one_chunk : (c : ℕ) (X : Below K) → C c → ScopeRules c X → ChunkT K X P Q c
+        one_chunk c X q r = record { hoist = one_hoist c X q r; runs = one_runs c X q r }
+
+        pub pass_chunks : ChunksT K P Q C
+        pass_chunks = record { lists = λ c d d' q w ld ld' all tied. one_chunk c (below_of K P Q d d' w tied) q (D.rules c d d' q w ld ld' all tied) }

@@ -1,10 +1,9 @@
 -- A small phase: a call of a function whose body is one `return` becomes a copy of what it returns, under
 -- the price of the call.
-use Rattle.std.specs.Prelude.{◌≡◌, ℕ, ◌+◌, Bool, true, false, ◌&&◌, is_some, List, [], Option, Some, None, slice_get}
+use Rattle.std.specs.Prelude.{◌≡◌, ℕ, ◌+◌, Bool, true, false, ◌&&◌, is_some, [], Option, Some, None, slice_get}
 use Rattle.cc_ast.specs.Syntax.{Expr, lit, var, call, tick, Exprs, no_exprs, more_exprs, return, Stmts, no_stmts, more_stmts, Scope, Program}
 use Rattle.cc_ast.specs.declared.tree.Ref.{Ref}
 use Rattle.cc_meaning.specs.Monad.{pick}
-use Rattle.cc_meaning.specs.State.{Tables}
 use Rattle.cc_meaning.specs.Shapes.{tables_of, body_of}
 use Rattle.cc_meaning.specs.Store.{of_chunk, global_kind}
 use Rattle.cc_meaning.specs.Same.{Same}

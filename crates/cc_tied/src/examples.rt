@@ -3,6 +3,7 @@
 
 ghost use Rattle.cc_tied.specs.FoldExample.{FoldingKeeps};
 ghost use Rattle.cc_tied.specs.DropExample.{DroppingKeeps};
+ghost use Rattle.cc_tied.specs.InlineExample.{InliningKeeps};
 
 /// Sums of literals become literals, and `&&` with a literal on the left the operand that it
 /// chooses, in whichever scopes.
@@ -14,4 +15,10 @@ pub fn folding_keeps()
 /// their pure values, in whichever scopes.
 pub fn dropping_keeps()
     ensures { DroppingKeeps }
+{}
+
+/// Calls of functions whose body is one `return` become copies of what is returned, under the price
+/// of the call, in whichever scopes.
+pub fn inlining_keeps()
+    ensures { InliningKeeps }
 {}
