@@ -1,0 +1,2 @@
+pub mod OneExpr
+pub mod OneStmt

@@ -1,0 +1,9 @@
+//! Whether two trees are the same.
+#![tactic(auto)]
+
+mod declared;
+mod expression;
+mod expression_views;
+mod parts;
+mod statement;
+mod statement_views;
