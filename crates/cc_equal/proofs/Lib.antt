@@ -1,2 +1,3 @@
 pub mod OneExpr
 pub mod OneStmt
+pub mod Bodies

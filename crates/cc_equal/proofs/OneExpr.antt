@@ -16,35 +16,35 @@ use Rattle.cc_ast.specs.Terms as T
 -- ---- what stands for a plain tree, by its outermost constructor
 
 data ExprOf : S.Expr → Expr → Type 0 where
-  undefined_is : (s : ℕ) {e : Expr} → e ≡ V.Undefined s → ExprOf (S.lit s S.undefined) e
-  null_is : (s : ℕ) {e : Expr} → e ≡ V.Null s → ExprOf (S.lit s S.null) e
-  truth_is : (s : ℕ) (v : Bool) {e : Expr} → e ≡ V.Truth s v → ExprOf (S.lit s (S.truth v)) e
-  whole_is : (s : ℕ) (v : ℤ) {e : Expr} → e ≡ V.Whole s v → ExprOf (S.lit s (S.whole v)) e
-  text_is : (s : ℕ) (t : List ℕ) {e : Expr} → e ≡ V.Text s t → ExprOf (S.lit s (S.text t)) e
-  var_is : (s : ℕ) (v : Ref) {e : Expr} → e ≡ V.Var s v → ExprOf (S.var s v) e
-  this_is : (s : ℕ) {e : Expr} → e ≡ V.This s → ExprOf (S.this s) e
-  fun_is : (s : ℕ) (f : ℕ) {e : Expr} → e ≡ V.Fun s f → ExprOf (S.fun s f) e
-  list_is : (s : ℕ) (es : List Expr) (es' : S.Exprs) {e : Expr} → terms es ≡ es' → e ≡ V.List s es → ExprOf (S.list s es') e
-  object_is : (s : ℕ) (fs : List (Key × Expr)) (fs' : S.Fields) {e : Expr} → term_fields fs ≡ fs' → e ≡ V.Object s fs → ExprOf (S.object s fs') e
-  unary_is : (s : ℕ) (op : UnOp) (a : Expr) (a' : S.Expr) {e : Expr} → term a ≡ a' → e ≡ V.Unary s op a → ExprOf (S.unary s op a') e
-  binary_is : (s : ℕ) (op : BinOp) (a : Expr) (c : Expr) (a' : S.Expr) (c' : S.Expr) {e : Expr} → term a ≡ a' → term c ≡ c' → e ≡ V.Binary s op a c → ExprOf (S.binary s op a' c') e
-  and_is : (s : ℕ) (a : Expr) (c : Expr) (a' : S.Expr) (c' : S.Expr) {e : Expr} → term a ≡ a' → term c ≡ c' → e ≡ V.And s a c → ExprOf (S.and s a' c') e
-  or_is : (s : ℕ) (a : Expr) (c : Expr) (a' : S.Expr) (c' : S.Expr) {e : Expr} → term a ≡ a' → term c ≡ c' → e ≡ V.Or s a c → ExprOf (S.or s a' c') e
-  cond_is : (s : ℕ) (t : Expr) (a : Expr) (c : Expr) (t' : S.Expr) (a' : S.Expr) (c' : S.Expr) {e : Expr} → term t ≡ t' → term a ≡ a' → term c ≡ c' → e ≡ V.Cond s t a c → ExprOf (S.cond s t' a' c') e
-  assign_is : (s : ℕ) (op : Option BinOp) (t : Target) (a : Expr) (t' : S.Target) (a' : S.Expr) {e : Expr} → target t ≡ t' → term a ≡ a' → e ≡ V.Assign s op t a → ExprOf (S.assign s op t' a') e
-  step_is : (s : ℕ) (up : Bool) (prefix : Bool) (t : Target) (t' : S.Target) {e : Expr} → target t ≡ t' → e ≡ V.Step s up prefix t → ExprOf (S.step s up prefix t') e
-  member_is : (s : ℕ) (a : Expr) (p : ℕ) (a' : S.Expr) {e : Expr} → term a ≡ a' → e ≡ V.Member s a p → ExprOf (S.member s a' p) e
-  index_is : (s : ℕ) (a : Expr) (c : Expr) (a' : S.Expr) (c' : S.Expr) {e : Expr} → term a ≡ a' → term c ≡ c' → e ≡ V.Index s a c → ExprOf (S.index s a' c') e
-  call_is : (s : ℕ) (f : Expr) (es : List Expr) (f' : S.Expr) (es' : S.Exprs) {e : Expr} → term f ≡ f' → terms es ≡ es' → e ≡ V.Call s f es → ExprOf (S.call s f' es') e
-  new_is : (s : ℕ) (f : Expr) (es : List Expr) (f' : S.Expr) (es' : S.Exprs) {e : Expr} → term f ≡ f' → terms es ≡ es' → e ≡ V.New s f es → ExprOf (S.new s f' es') e
-  comma_is : (s : ℕ) (a : Expr) (c : Expr) (a' : S.Expr) (c' : S.Expr) {e : Expr} → term a ≡ a' → term c ≡ c' → e ≡ V.Comma s a c → ExprOf (S.comma s a' c') e
-  cast_is : (s : ℕ) (d : ℕ) (a : Expr) (a' : S.Expr) {e : Expr} → term a ≡ a' → e ≡ V.Cast s d a → ExprOf (S.cast s d a') e
-  tick_is : (s : ℕ) (p : ℕ) (a : Expr) (a' : S.Expr) {e : Expr} → term a ≡ a' → e ≡ V.Tick s p a → ExprOf (S.tick s p a') e
+  undefined_is : (s : ℕ) {tree : Expr} → tree ≡ V.Undefined s → ExprOf (S.lit s S.undefined) tree
+  null_is : (s : ℕ) {tree : Expr} → tree ≡ V.Null s → ExprOf (S.lit s S.null) tree
+  truth_is : (s : ℕ) (v : Bool) {tree : Expr} → tree ≡ V.Truth s v → ExprOf (S.lit s (S.truth v)) tree
+  whole_is : (s : ℕ) (v : ℤ) {tree : Expr} → tree ≡ V.Whole s v → ExprOf (S.lit s (S.whole v)) tree
+  text_is : (s : ℕ) (t : List ℕ) {tree : Expr} → tree ≡ V.Text s t → ExprOf (S.lit s (S.text t)) tree
+  var_is : (s : ℕ) (v : Ref) {tree : Expr} → tree ≡ V.Var s v → ExprOf (S.var s v) tree
+  this_is : (s : ℕ) {tree : Expr} → tree ≡ V.This s → ExprOf (S.this s) tree
+  fun_is : (s : ℕ) (f : ℕ) {tree : Expr} → tree ≡ V.Fun s f → ExprOf (S.fun s f) tree
+  list_is : (s : ℕ) (es : List Expr) (es' : S.Exprs) {tree : Expr} → terms es ≡ es' → tree ≡ V.List s es → ExprOf (S.list s es') tree
+  object_is : (s : ℕ) (fs : List (Key × Expr)) (fs' : S.Fields) {tree : Expr} → term_fields fs ≡ fs' → tree ≡ V.Object s fs → ExprOf (S.object s fs') tree
+  unary_is : (s : ℕ) (op : UnOp) (a : Expr) (a' : S.Expr) {tree : Expr} → term a ≡ a' → tree ≡ V.Unary s op a → ExprOf (S.unary s op a') tree
+  binary_is : (s : ℕ) (op : BinOp) (a : Expr) (c : Expr) (a' : S.Expr) (c' : S.Expr) {tree : Expr} → term a ≡ a' → term c ≡ c' → tree ≡ V.Binary s op a c → ExprOf (S.binary s op a' c') tree
+  and_is : (s : ℕ) (a : Expr) (c : Expr) (a' : S.Expr) (c' : S.Expr) {tree : Expr} → term a ≡ a' → term c ≡ c' → tree ≡ V.And s a c → ExprOf (S.and s a' c') tree
+  or_is : (s : ℕ) (a : Expr) (c : Expr) (a' : S.Expr) (c' : S.Expr) {tree : Expr} → term a ≡ a' → term c ≡ c' → tree ≡ V.Or s a c → ExprOf (S.or s a' c') tree
+  cond_is : (s : ℕ) (t : Expr) (a : Expr) (c : Expr) (t' : S.Expr) (a' : S.Expr) (c' : S.Expr) {tree : Expr} → term t ≡ t' → term a ≡ a' → term c ≡ c' → tree ≡ V.Cond s t a c → ExprOf (S.cond s t' a' c') tree
+  assign_is : (s : ℕ) (op : Option BinOp) (t : Target) (a : Expr) (t' : S.Target) (a' : S.Expr) {tree : Expr} → target t ≡ t' → term a ≡ a' → tree ≡ V.Assign s op t a → ExprOf (S.assign s op t' a') tree
+  step_is : (s : ℕ) (up : Bool) (prefix : Bool) (t : Target) (t' : S.Target) {tree : Expr} → target t ≡ t' → tree ≡ V.Step s up prefix t → ExprOf (S.step s up prefix t') tree
+  member_is : (s : ℕ) (a : Expr) (p : ℕ) (a' : S.Expr) {tree : Expr} → term a ≡ a' → tree ≡ V.Member s a p → ExprOf (S.member s a' p) tree
+  index_is : (s : ℕ) (a : Expr) (c : Expr) (a' : S.Expr) (c' : S.Expr) {tree : Expr} → term a ≡ a' → term c ≡ c' → tree ≡ V.Index s a c → ExprOf (S.index s a' c') tree
+  call_is : (s : ℕ) (f : Expr) (es : List Expr) (f' : S.Expr) (es' : S.Exprs) {tree : Expr} → term f ≡ f' → terms es ≡ es' → tree ≡ V.Call s f es → ExprOf (S.call s f' es') tree
+  new_is : (s : ℕ) (f : Expr) (es : List Expr) (f' : S.Expr) (es' : S.Exprs) {tree : Expr} → term f ≡ f' → terms es ≡ es' → tree ≡ V.New s f es → ExprOf (S.new s f' es') tree
+  comma_is : (s : ℕ) (a : Expr) (c : Expr) (a' : S.Expr) (c' : S.Expr) {tree : Expr} → term a ≡ a' → term c ≡ c' → tree ≡ V.Comma s a c → ExprOf (S.comma s a' c') tree
+  cast_is : (s : ℕ) (d : ℕ) (a : Expr) (a' : S.Expr) {tree : Expr} → term a ≡ a' → tree ≡ V.Cast s d a → ExprOf (S.cast s d a') tree
+  tick_is : (s : ℕ) (p : ℕ) (a : Expr) (a' : S.Expr) {tree : Expr} → term a ≡ a' → tree ≡ V.Tick s p a → ExprOf (S.tick s p a') tree
 
 data TargetOf : S.Target → Target → Type 0 where
-  variable_is : (s : ℕ) (v : Ref) {e : Target} → e ≡ W.Variable s v → TargetOf (S.to_var s v) e
-  dotted_is : (s : ℕ) (o : Expr) (p : ℕ) (o' : S.Expr) {e : Target} → term o ≡ o' → e ≡ W.Dotted s o p → TargetOf (S.to_member s o' p) e
-  bracketed_is : (s : ℕ) (o : Expr) (k : Expr) (o' : S.Expr) (k' : S.Expr) {e : Target} → term o ≡ o' → term k ≡ k' → e ≡ W.Bracketed s o k → TargetOf (S.to_index s o' k') e
+  variable_is : (s : ℕ) (v : Ref) {tree : Target} → tree ≡ W.Variable s v → TargetOf (S.to_var s v) tree
+  dotted_is : (s : ℕ) (o : Expr) (p : ℕ) (o' : S.Expr) {tree : Target} → term o ≡ o' → tree ≡ W.Dotted s o p → TargetOf (S.to_member s o' p) tree
+  bracketed_is : (s : ℕ) (o : Expr) (k : Expr) (o' : S.Expr) (k' : S.Expr) {tree : Target} → term o ≡ o' → term k ≡ k' → tree ≡ W.Bracketed s o k → TargetOf (S.to_index s o' k') tree
 
 term_layer : (x : Expr-F Expr Target) → ExprOf (term (roll-Expr x)) (roll-Expr x)
 term_layer (Expr-F.Undefined s) = subst (λ z. ExprOf z (roll-Expr (Expr-F.Undefined s))) (sym (ap term (V.rolls-Undefined s) ∙ T.term-Undefined s)) (undefined_is s (V.rolls-Undefined s))

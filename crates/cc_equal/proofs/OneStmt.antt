@@ -62,22 +62,22 @@ one_for_target _ _ _ p q = absurd (cc)
 -- ---- what stands for a plain statement, by its outermost constructor
 
 data StmtOf : S.Stmt → Stmt → Type 0 where
-  simple_is : (s : ℕ) (e : Expr) (e' : S.Expr) {e : Stmt} → term e ≡ e' → e ≡ V.Simple s e → StmtOf (S.simple s e') e
-  var_is : (s : ℕ) (ds : List Declarator) (ds' : List S.Declarator) {e : Stmt} → map declarator ds ≡ ds' → e ≡ V.Var s ds → StmtOf (S.vars s ds') e
-  fun_is : (s : ℕ) (v : Ref) (f : ℕ) {e : Stmt} → e ≡ V.Fun s v f → StmtOf (S.fun_decl s v f) e
-  if_is : (s : ℕ) (t : Expr) (a : List Stmt) (c : List Stmt) (t' : S.Expr) (a' : S.Stmts) (c' : S.Stmts) {e : Stmt} → term t ≡ t' → term_stmts a ≡ a' → term_stmts c ≡ c' → e ≡ V.If s t a c → StmtOf (S.if s t' a' c') e
-  while_is : (s : ℕ) (t : Expr) (c : List Stmt) (t' : S.Expr) (c' : S.Stmts) {e : Stmt} → term t ≡ t' → term_stmts c ≡ c' → e ≡ V.While s t c → StmtOf (S.while s t' c') e
-  do_while_is : (s : ℕ) (c : List Stmt) (t : Expr) (c' : S.Stmts) (t' : S.Expr) {e : Stmt} → term_stmts c ≡ c' → term t ≡ t' → e ≡ V.DoWhile s c t → StmtOf (S.do_while s c' t') e
-  for_is : (s : ℕ) (h : ForInit) (t : Option Expr) (u : Option Expr) (c : List Stmt) (h' : S.ForInit) (t' : Option S.Expr) (u' : Option S.Expr) (c' : S.Stmts) {e : Stmt} → for_init h ≡ h' → option_term t ≡ t' → option_term u ≡ u' → term_stmts c ≡ c' → e ≡ V.For s h t u c → StmtOf (S.for s h' t' u' c') e
-  for_in_is : (s : ℕ) (h : ForTarget) (t : Expr) (c : List Stmt) (h' : S.ForTarget) (t' : S.Expr) (c' : S.Stmts) {e : Stmt} → for_target h ≡ h' → term t ≡ t' → term_stmts c ≡ c' → e ≡ V.ForIn s h t c → StmtOf (S.for_in s h' t' c') e
-  return_is : (s : ℕ) (o : Option Expr) (o' : Option S.Expr) {e : Stmt} → option_term o ≡ o' → e ≡ V.Return s o → StmtOf (S.return s o') e
-  throw_is : (s : ℕ) (e : Expr) (e' : S.Expr) {e : Stmt} → term e ≡ e' → e ≡ V.Throw s e → StmtOf (S.throw s e') e
-  break_is : (s : ℕ) (l : Option (List ℕ)) {e : Stmt} → e ≡ V.Break s l → StmtOf (S.break s l) e
-  continue_is : (s : ℕ) (l : Option (List ℕ)) {e : Stmt} → e ≡ V.Continue s l → StmtOf (S.continue s l) e
-  label_is : (s : ℕ) (l : List ℕ) (c : List Stmt) (c' : S.Stmts) {e : Stmt} → term_stmts c ≡ c' → e ≡ V.Label s l c → StmtOf (S.label s l c') e
-  switch_is : (s : ℕ) (e : Expr) (cs : List Case) (e' : S.Expr) (cs' : S.Cases) {e : Stmt} → term e ≡ e' → term_cases cs ≡ cs' → e ≡ V.Switch s e cs → StmtOf (S.switch s e' cs') e
-  try_is : (s : ℕ) (c : List Stmt) (k : Option (List Stmt)) (f : Option (List Stmt)) (c' : S.Stmts) (k' : S.MaybeStmts) (f' : S.MaybeStmts) {e : Stmt} → term_stmts c ≡ c' → maybe_stmts k ≡ k' → maybe_stmts f ≡ f' → e ≡ V.Try s c k f → StmtOf (S.try s c' k' f') e
-  tick_is : (s : ℕ) (p : ℕ) {e : Stmt} → e ≡ V.Tick s p → StmtOf (S.pay_stmt s p) e
+  simple_is : (s : ℕ) (e : Expr) (e' : S.Expr) {tree : Stmt} → term e ≡ e' → tree ≡ V.Simple s e → StmtOf (S.simple s e') tree
+  var_is : (s : ℕ) (ds : List Declarator) (ds' : List S.Declarator) {tree : Stmt} → map declarator ds ≡ ds' → tree ≡ V.Var s ds → StmtOf (S.vars s ds') tree
+  fun_is : (s : ℕ) (v : Ref) (f : ℕ) {tree : Stmt} → tree ≡ V.Fun s v f → StmtOf (S.fun_decl s v f) tree
+  if_is : (s : ℕ) (t : Expr) (a : List Stmt) (c : List Stmt) (t' : S.Expr) (a' : S.Stmts) (c' : S.Stmts) {tree : Stmt} → term t ≡ t' → term_stmts a ≡ a' → term_stmts c ≡ c' → tree ≡ V.If s t a c → StmtOf (S.if s t' a' c') tree
+  while_is : (s : ℕ) (t : Expr) (c : List Stmt) (t' : S.Expr) (c' : S.Stmts) {tree : Stmt} → term t ≡ t' → term_stmts c ≡ c' → tree ≡ V.While s t c → StmtOf (S.while s t' c') tree
+  do_while_is : (s : ℕ) (c : List Stmt) (t : Expr) (c' : S.Stmts) (t' : S.Expr) {tree : Stmt} → term_stmts c ≡ c' → term t ≡ t' → tree ≡ V.DoWhile s c t → StmtOf (S.do_while s c' t') tree
+  for_is : (s : ℕ) (h : ForInit) (t : Option Expr) (u : Option Expr) (c : List Stmt) (h' : S.ForInit) (t' : Option S.Expr) (u' : Option S.Expr) (c' : S.Stmts) {tree : Stmt} → for_init h ≡ h' → option_term t ≡ t' → option_term u ≡ u' → term_stmts c ≡ c' → tree ≡ V.For s h t u c → StmtOf (S.for s h' t' u' c') tree
+  for_in_is : (s : ℕ) (h : ForTarget) (t : Expr) (c : List Stmt) (h' : S.ForTarget) (t' : S.Expr) (c' : S.Stmts) {tree : Stmt} → for_target h ≡ h' → term t ≡ t' → term_stmts c ≡ c' → tree ≡ V.ForIn s h t c → StmtOf (S.for_in s h' t' c') tree
+  return_is : (s : ℕ) (o : Option Expr) (o' : Option S.Expr) {tree : Stmt} → option_term o ≡ o' → tree ≡ V.Return s o → StmtOf (S.return s o') tree
+  throw_is : (s : ℕ) (e : Expr) (e' : S.Expr) {tree : Stmt} → term e ≡ e' → tree ≡ V.Throw s e → StmtOf (S.throw s e') tree
+  break_is : (s : ℕ) (l : Option (List ℕ)) {tree : Stmt} → tree ≡ V.Break s l → StmtOf (S.break s l) tree
+  continue_is : (s : ℕ) (l : Option (List ℕ)) {tree : Stmt} → tree ≡ V.Continue s l → StmtOf (S.continue s l) tree
+  label_is : (s : ℕ) (l : List ℕ) (c : List Stmt) (c' : S.Stmts) {tree : Stmt} → term_stmts c ≡ c' → tree ≡ V.Label s l c → StmtOf (S.label s l c') tree
+  switch_is : (s : ℕ) (e : Expr) (cs : List Case) (e' : S.Expr) (cs' : S.Cases) {tree : Stmt} → term e ≡ e' → term_cases cs ≡ cs' → tree ≡ V.Switch s e cs → StmtOf (S.switch s e' cs') tree
+  try_is : (s : ℕ) (c : List Stmt) (k : Option (List Stmt)) (f : Option (List Stmt)) (c' : S.Stmts) (k' : S.MaybeStmts) (f' : S.MaybeStmts) {tree : Stmt} → term_stmts c ≡ c' → maybe_stmts k ≡ k' → maybe_stmts f ≡ f' → tree ≡ V.Try s c k f → StmtOf (S.try s c' k' f') tree
+  tick_is : (s : ℕ) (p : ℕ) {tree : Stmt} → tree ≡ V.Tick s p → StmtOf (S.pay_stmt s p) tree
 
 stmt_layered : (x : Stmt-F Stmt Case) → StmtOf (term_stmt (roll-Stmt x)) (roll-Stmt x)
 stmt_layered (Stmt-F.Simple s e) = subst (λ z. StmtOf z (roll-Stmt (Stmt-F.Simple s e))) (sym (ap term_stmt (V.rolls-Simple s e) ∙ T.term_stmt-Simple s e)) (simple_is s e (term e) refl (V.rolls-Simple s e))

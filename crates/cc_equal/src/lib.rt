@@ -5,5 +5,6 @@ mod declared;
 mod expression;
 mod expression_views;
 mod parts;
+pub mod scope;
 mod statement;
 mod statement_views;
