@@ -1,0 +1,3 @@
+pub mod OneExpr
+pub mod OneStmt
+pub mod Bodies
