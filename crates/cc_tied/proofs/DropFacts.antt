@@ -57,7 +57,7 @@ module _ (dead : (function place : ℕ) → Bool) (P : Program) where
   abbrev T : Tables
   T = tables_of P
 
-  -- one place for each of the three
+  -- one place, as each of the three sets of rules names it
   data Near : Ctx → Option ℕ × ℕ → Ctx → Type 0 where
     near : {o : Option ℕ} {k : ℕ} → Near (at o k) (o, k) (at o k)
 
