@@ -1,7 +1,7 @@
 -- What folding owes for every node, over every kit for which sites don't count and prices add up.
-use Rattle.std.proofs.Common.{◌≡◌, refl, sym, ap, ◌∙◌, ℕ, zero, suc, ◌+◌, Bool, true, false, List, Option, Some, None, unwrap_or, subst}
+use Rattle.std.proofs.Common.{◌≡◌, refl, sym, ap, ◌∙◌, ℕ, zero, suc, ◌+◌, Bool, true, false, Option, Some, None, unwrap_or, subst}
 use Rattle.std.specs.Prelude.{nat_eq, if◌then◌else◌}
-use Rattle.cc_ast.specs.Syntax.{Prim, Expr, lit, unary, binary, and, or, cond, tick, Stmt}
+use Rattle.cc_ast.specs.Syntax.{Prim, Expr, lit, unary, binary, and, or, cond, tick}
 use Rattle.cc_ast.specs.declared.operator.BinOp.{BinOp}
 use Rattle.cc_ast.specs.declared.operator.BinOp.TheVariants.{Instance, Has}
 use Rattle.cc_ast.specs.declared.operator.UnOp.{UnOp}

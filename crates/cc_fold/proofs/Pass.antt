@@ -1,5 +1,5 @@
 -- Folding as a pass: its cuts, what it makes of a body, what is built in, and that prices add up.
-use Rattle.std.proofs.Common.{◌≡◌, refl, ap, ◌∙◌, ℕ, zero, suc, ◌+◌, Bool, List, [], Option, Some, None, arith}
+use Rattle.std.proofs.Common.{◌≡◌, refl, ap, ◌∙◌, ℕ, zero, suc, ◌+◌, Bool, [], Option, Some, None, arith}
 use Rattle.cc_ast.specs.Syntax.{Stmt, Scope}
 use Rattle.cc_ast.specs.declared.tree.Ref.{Ref}
 use Rattle.cc_meaning.specs.State.{State}

@@ -1,16 +1,19 @@
 -- Lists of statements, joined and cut: what follows a jump is never reached, and a statement may become a list.
-use Rattle.std.proofs.Common.{◌≡◌, refl, sym, ap, subst, ◌∙◌, ℕ, List, Option, Some, None}
-use Rattle.cc_ast.specs.Syntax.{Prim, undefined, Expr, Stmt, return, throw, break, continue, Stmts, no_stmts, more_stmts}
+use Rattle.std.proofs.Common.{◌≡◌, refl, sym, ap, subst, ◌∙◌, ℕ, List, [], Option, Some, None}
+use Rattle.cc_ast.specs.Syntax.{Prim, undefined, Expr, Stmt, vars, return, throw, break, continue, Stmts, no_stmts, more_stmts}
 use Rattle.cc_meaning.specs.Values.{prim}
 use Rattle.cc_meaning.specs.State.{Env}
-use Rattle.cc_meaning.specs.Monad.{M, ret, raise, ◌>>=◌, Mode}
+use Rattle.cc_meaning.specs.Monad.{M, ret, raise, ◌>>=◌, with_tables, Mode}
 use Rattle.cc_meaning.specs.Calls.{Bodies}
-use Rattle.cc_meaning.specs.Meaning.{Comp, normal, returns, breaks, continues, next, thrown_at, value_at, ex, exs}
+use Rattle.cc_meaning.specs.Meaning.{Comp, normal, returns, breaks, continues, next, thrown_at, value_at, declare, ex, exs, ex_chunk}
+use Rattle.cc_meaning.specs.Shapes.{declared_by}
+use Rattle.cc_meaning.specs.Script.{top}
 use Rattle.cc_tied.specs.Rewrites.{splice}
 use Rattle.cc_tied.proofs.Kit.{Kit}
 use Rattle.cc_tied.proofs.Parts.{CompV, Below}
-use Rattle.cc_tied.proofs.Laws.{bind_assoc, ret_bind, raise_bind, bind_alike}
+use Rattle.cc_tied.proofs.Laws.{bind_assoc, ret_bind, raise_bind, bind_alike, tables_alike}
 use Rattle.cc_tied.proofs.Statements.{FollowsStmt, FollowsStmts, follows_more_stmts, follows_no_stmts}
+use Rattle.cc_tied.proofs.Turns.{FollowsChunk, follows_more_chunk}
 
 -- a statement that never ends normally
 pub data Jumps : Stmt → Type 0 where
@@ -63,3 +66,31 @@ module _ (K : Kit) (X : Below K) (c : K.Ctx) where
   pub becomes : {ls : List (List ℕ)} {s s' : Stmt} (a : Stmts) {ss ss' : Stmts} → ((g : Env) → ex J' B' g ls s' ≡ exs J' B' g ls a) → FollowsStmt K X c ls s s' → FollowsStmts K X c ls ss ss' → FollowsStmts K X c ls (more_stmts s ss) (splice a ss')
   unfolding ex
   becomes {ls = ls} {s = s} {s' = s'} a {ss = ss} {ss' = ss'} e h k = record { by = λ v l g g' t. subst (λ z. Rel (CompV K) v (exs J B g ls (more_stmts s ss)) z) (ap (λ z. z >>= λ c. next c (exs J' B' g' ls ss')) (e g') ∙ sym (runs_splice J' B' g' ls a ss')) ((follows_more_stmts K X c h k).by v l g g' t) }
+
+-- ---- a statement of which no declarator is left
+
+no_vars : (J : Mode) (B : Bodies) (g : Env) (ls : List (List ℕ)) (i : ℕ) → ex J B g ls (vars i []) ≡ ret normal
+unfolding ex declare
+no_vars J B g ls i = ret_bind tt (λ _. ret normal)
+
+no_tables : {A : Type 0} (m : M A) → with_tables (λ T. m) ≡ m
+unfolding with_tables
+no_tables m = refl
+
+no_vars_first : (J : Mode) (B : Bodies) (g : Env) (i : ℕ) (ss : Stmts) → ex_chunk J B g (more_stmts (vars i []) ss) ≡ ex_chunk J B g ss
+unfolding ex_chunk next
+no_vars_first J B g i ss =
+    ap (λ z. z >>= λ c. next c (ex_chunk J B g ss)) (tables_alike (λ T. ex J B (record g { declares = declared_by T (vars i []) }) [] (vars i [])) (λ T. ret normal) (λ T. no_vars J B (record g { declares = declared_by T (vars i []) }) [] i) ∙ no_tables (ret normal))
+    ∙ ret_bind normal (λ c. next c (ex_chunk J B g ss))
+
+module _ (K : Kit) (X : Below K) where
+  open K use {J, J', outer, DeclaresT, tables, tables', Rel}
+  open X use {B, B'}
+
+  pub no_vars_goes : (c : K.Ctx) {ls : List (List ℕ)} {s : Stmt} {i : ℕ} {ss ss' : Stmts} → FollowsStmt K X c ls s (vars i []) → FollowsStmts K X c ls ss ss' → FollowsStmts K X c ls (more_stmts s ss) ss'
+  unfolding splice ex
+  no_vars_goes c {ls = ls} {i = i} h k = becomes K X c no_stmts (λ g. no_vars J' B' g ls i) h k
+
+  -- .. in a chunk's own list
+  pub no_vars_of_chunk : {n : ℕ} {s : Stmt} {i : ℕ} {ss ss' : Stmts} → DeclaresT (declared_by tables s) (declared_by tables' (vars i [])) → FollowsStmt K X (outer n) [] s (vars i []) → FollowsChunk K X n ss ss' → FollowsChunk K X n (more_stmts s ss) ss'
+  no_vars_of_chunk {s = s} {i = i} {ss = ss} {ss' = ss'} d h k = record { by = λ v l q. subst (λ z. Rel (CompV K) v (ex_chunk J B top (more_stmts s ss)) z) (no_vars_first J' B' top i ss') ((follows_more_chunk K X d h k).by v l q) }

@@ -111,6 +111,15 @@ module _ (P : Program) (W : WellMade P) where
   unfolding parent_of parent_by
   parent_is g d f b i = rw (parent_scope g f b (made_in g d f b (part_of g _ i)), catches_is f d b (parts_of P g) (parts_distinct g) i) refl
 
+  -- a scope that is a function
+  pub owner_is : (f g : ℕ) → owner P f ≡ Some g → f ≡ g
+  unfolding owner
+  owner_is f g e = by_test (is_chunk P f) e
+    where
+      by_test : (b : Bool) → pick b None (Some f) ≡ Some g → f ≡ g
+      by_test true h = absurd (cc)
+      by_test false h = cc
+
   -- ---- frames outwards, where functions stand where the program has them
   module _ (F : Facts) (parents : (f : ℕ) → F.parent f ≡ parent_of P f) where
     catch_above : (o : Option ℕ) (c u : ℕ) → u < c → (l : Level) × Above F S (innermost o c) u l
@@ -156,12 +165,16 @@ module _ (P : Program) (W : WellMade P) where
         by_test true q = let k : IsFalse s.own = (W.scopes f s e).chunk_own q in absurd (cc)
         by_test false q = refl
 
+    -- the frame of the function itself
+    pub own_above : (f c : ℕ) → Above F S (innermost (Some f) c) c (called f)
+    own_above f c = let z : c + 0 ≡ c = omega arith in subst (λ z. Above F S (innermost (Some f) c) z (called f)) z (frame_above (Some f) c (call_here f))
+
     at_owner : (f c u : ℕ) (l : Level) → IsFalse (is_chunk P f) → Above F S (innermost (Some f) c) u l → Above F S (innermost (owner P f) c) u l
     at_owner f c u l e h = subst (λ z. Above F S (innermost z c) u l) (sym (owner_function P f e)) h
 
     pub holds_above : {f c u n : ℕ} → Holds P f c u n → (l : Level) × Above F S (innermost (owner P f) c) u l
     holds_above (of_catch f c u h) = catch_above (owner P f) c u h
-    holds_above (of_frame f c n s e k o) = (called f, at_owner f c c (called f) k (let z : c + 0 ≡ c = omega arith in subst (λ z. Above F S (innermost (Some f) c) z (called f)) z (frame_above (Some f) c (call_here f))))
+    holds_above (of_frame f c n s e k o) = (called f, at_owner f c c (called f) k (own_above f c))
     holds_above (of_own f c s e o) =
         (named f, at_owner f c (suc c) (named f) (own_function f s e o) (let z : c + 1 ≡ suc c = omega arith in subst (λ z. Above F S (innermost (Some f) c) z (named f)) z (frame_above (Some f) c (call_above f (subst (λ z. Above F S z 0 (named f)) (sym (outward_own f (owns_own P f s e ∙ o))) above_here)))))
     holds_above (of_outer f g c d u n s b e k o i h) =

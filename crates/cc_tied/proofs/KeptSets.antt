@@ -1,5 +1,5 @@
--- What a rewriting of whole statements keeps of what globals and paths are set to, and of the
--- prototypes that statements declare.
+-- What a rewriting keeps of what globals and paths are set to, and of the prototypes that statements
+-- declare.
 use Rattle.std.proofs.Common.{◌≡◌, ◌⊎◌, inl, inr, ℕ, Bool, true, false, List, [], ◌∷◌, ◌++◌, Option, Some, None, refl, sym, ap, subst, ◌∙◌}
 use Rattle.std.specs.Prelude.{◌&&◌, nat_eq, is_some}
 use Rattle.cc_ast.specs.Syntax.{Expr, fun, object, assign, member, call, Target, to_var, to_member, to_index, Exprs, no_exprs, more_exprs, Fields, no_fields, more_fields, Declarator, Stmt, simple, vars, fun_decl, Stmts, no_stmts, more_stmts}
@@ -12,7 +12,7 @@ use Rattle.cc_meaning.specs.Store.{name_of, global_kind, same_numbers, set_to}
 use Rattle.cc_meaning.specs.Alike.{In, here, there}
 use Rattle.cc_meaning.specs.Shapes.{longer, path_of, path_of_ref, path_of_key, path_of_target, names_object, is_named, is_create, is_prototype, is_prototype_alone, creates, set_by, prototype_target, declared_in, declared_by, sets_by, sets_by_fields, sets_by_option, sets_by_vars, sets_by_value, sets_by_stmt, sets_by_stmts}
 use Rattle.cc_tied.specs.Placed.{Place, a_value, an_assigned, an_object}
-use Rattle.cc_tied.specs.Rewrites.{re, re_target, re_fields, re_value, re_option, re_declarator, re_declarators, re_stmt, re_stmts, whole, whole_in}
+use Rattle.cc_tied.specs.Rewrites.{re, re_target, re_fields, re_value, re_option, re_declarator, re_declarators, re_stmt, re_stmts, whole}
 use Rattle.cc_tied.proofs.KeptPaths.{Stays, re_fun, re_object, re_assign, path_kept, target_kept, creates_kept}
 
 -- ---- lists
@@ -72,22 +72,41 @@ set_within (x ∷ xs) ys p w f i = elim (picked (IsAt x p) x.1 (set_to xs p) f i
 
 -- ---- what expressions and statements set
 
+-- what is left of declarators and of statements before others sets no less than they did
+pub record KeepsSets (trim : Declarator → List Declarator) (cut : Stmt → Stmts → Stmts) : Type 0 where
+  pub trims : (d : Declarator) → Within (sets_by_option (path_of_ref d.variable) d.value) (sets_by_vars (trim d))
+  pub cuts : (s : Stmt) (ss : Stmts) → Within (sets_by_stmt s ++ sets_by_stmts ss) (sets_by_stmts (cut s ss))
+
+pub whole_sets : KeepsSets whole more_stmts
+unfolding sets_by_vars sets_by_stmts
+whole_sets = record { trims = λ d x j. in_left [] j; cuts = λ s ss x j. j }
+
+vars_joined : (ds es : List Declarator) → Within (sets_by_vars ds ++ sets_by_vars es) (sets_by_vars (ds ++ es))
+unfolding sets_by_vars
+vars_joined [] es x j = j
+vars_joined (d ∷ ds) es x j = joined_on (sets_by_option (path_of_ref d.variable) d.value) (sets_by_vars ds) (sets_by_vars es) (vars_joined ds es) x j
+  where
+    joined_on : {A : Type 0} (us vs ws : List A) {zs : List A} → Within (vs ++ ws) zs → Within ((us ++ vs) ++ ws) (us ++ zs)
+    joined_on [] vs ws h x j = h x j
+    joined_on (u ∷ us) vs ws h x here = here
+    joined_on (u ∷ us) vs ws h x (there j) = there (joined_on us vs ws h x j)
+
+-- a path that is none is set to nothing
+mutual
+  unfolding sets_by sets_by_fields path_of_key longer
+
+  pub set_nothing : (e : Expr) (x : Path × ℕ) → In x (sets_by None e) → ⊥
+  set_nothing (object i fs) x j = fields_nothing fs x j
+  set_nothing e x j = elim j [ ]
+
+  fields_nothing : (fs : Fields) (x : Path × ℕ) → In x (sets_by_fields None fs) → ⊥
+  fields_nothing no_fields x j = elim j [ ]
+  fields_nothing (more_fields (Key.Dotted p) e fs) x j = elim (in_either (sets_by None e) j) [ inl k ↦ set_nothing e x k | inr k ↦ fields_nothing fs x k ]
+  fields_nothing (more_fields (Key.Quoted t) e fs) x j = elim (in_either (sets_by None e) j) [ inl k ↦ set_nothing e x k | inr k ↦ fields_nothing fs x k ]
+
 module _ (built : Ref → Bool) (step : Expr → Expr) (step_call : ℕ → Expr → Exprs → Expr) (S : Stays step step_call) where
   abbrev R : Bool → Place → Expr → Expr
   R t q e = re built step step_call t q e
-
-  -- a path that is none is set to nothing
-  mutual
-    unfolding sets_by sets_by_fields path_of_key longer
-
-    set_nothing : (e : Expr) (x : Path × ℕ) → In x (sets_by None e) → ⊥
-    set_nothing (object i fs) x j = fields_nothing fs x j
-    set_nothing e x j = elim j [ ]
-
-    fields_nothing : (fs : Fields) (x : Path × ℕ) → In x (sets_by_fields None fs) → ⊥
-    fields_nothing no_fields x j = elim j [ ]
-    fields_nothing (more_fields (Key.Dotted p) e fs) x j = elim (in_either (sets_by None e) j) [ inl k ↦ set_nothing e x k | inr k ↦ fields_nothing fs x k ]
-    fields_nothing (more_fields (Key.Quoted t) e fs) x j = elim (in_either (sets_by None e) j) [ inl k ↦ set_nothing e x k | inr k ↦ fields_nothing fs x k ]
 
   mutual
     unfolding sets_by sets_by_fields re_fields
@@ -106,11 +125,6 @@ module _ (built : Ref → Bool) (step : Expr → Expr) (step_call : ℕ → Expr
   option_within w None x j = j
   option_within w (Some e) x j = sets_within w false a_value e x j
 
-  vars_within : (ds : List Declarator) → Within (sets_by_vars ds) (sets_by_vars (re_declarators built step step_call whole whole_in ds))
-  unfolding sets_by_vars re_declarators re_declarator
-  vars_within [] x j = j
-  vars_within (d ∷ ds) x j = within_both (sets_by_option (path_of_ref d.variable) d.value) (option_within (path_of_ref d.variable) d.value) (vars_within ds) x j
-
   by_path : (o o' : Option Path) (e : Expr) → ((w : Path) → o ≡ Some w → o' ≡ Some w) → Within (sets_by o e) (sets_by o' (R false an_assigned e))
   by_path None o' e k x j = absurd (set_nothing e x j)
   by_path (Some w) o' e k x j = subst (λ z. In x (sets_by z (R false an_assigned e))) (sym (k w refl)) (sets_within (Some w) false an_assigned e x j)
@@ -120,20 +134,26 @@ module _ (built : Ref → Bool) (step : Expr → Expr) (step_call : ℕ → Expr
   value_within (assign i None u e) x j = subst (λ z. In x (sets_by_value z)) (sym (re_assign built step step_call S false a_value i None u e)) (by_path (path_of_target u) _ e (target_kept built step step_call S u) x j)
   value_within e x j = elim j [ ]
 
-  abbrev RS : Stmt → Stmt
-  RS s = re_stmt built step step_call whole whole_in more_stmts s
+  module _ (trim : Declarator → List Declarator) (trim_in : Declarator → Declarator) (cut : Stmt → Stmts → Stmts) (keeps : KeepsSets trim cut) where
+    vars_within : (ds : List Declarator) → Within (sets_by_vars ds) (sets_by_vars (re_declarators built step step_call trim trim_in ds))
+    unfolding sets_by_vars re_declarators re_declarator
+    vars_within [] x j = j
+    vars_within (d ∷ ds) x j = vars_joined (trim (re_declarator built step step_call d)) _ x (within_both (sets_by_option (path_of_ref d.variable) d.value) (λ y i. keeps.trims _ y (option_within (path_of_ref d.variable) d.value y i)) (vars_within ds) x j)
 
-  stmt_within : (s : Stmt) → Within (sets_by_stmt s) (sets_by_stmt (RS s))
-  unfolding sets_by_stmt re_stmt re_value
-  stmt_within (simple i e) x j = value_within e x j
-  stmt_within (vars i ds) x j = vars_within ds x j
-  stmt_within (fun_decl i r f) x j = j
-  stmt_within s x j = elim j [ ]
+    abbrev RS : Stmt → Stmt
+    RS s = re_stmt built step step_call trim trim_in cut s
 
-  pub stmts_within : (ss : Stmts) → Within (sets_by_stmts ss) (sets_by_stmts (re_stmts built step step_call whole whole_in more_stmts ss))
-  unfolding sets_by_stmts re_stmts
-  stmts_within no_stmts x j = j
-  stmts_within (more_stmts s ss) x j = within_both (sets_by_stmt s) (stmt_within s) (stmts_within ss) x j
+    stmt_within : (s : Stmt) → Within (sets_by_stmt s) (sets_by_stmt (RS s))
+    unfolding sets_by_stmt re_stmt re_value
+    stmt_within (simple i e) x j = value_within e x j
+    stmt_within (vars i ds) x j = vars_within ds x j
+    stmt_within (fun_decl i r f) x j = j
+    stmt_within s x j = elim j [ ]
+
+    pub stmts_within : (ss : Stmts) → Within (sets_by_stmts ss) (sets_by_stmts (re_stmts built step step_call trim trim_in cut ss))
+    unfolding sets_by_stmts re_stmts
+    stmts_within no_stmts x j = j
+    stmts_within (more_stmts s ss) x j = keeps.cuts (RS s) _ x (within_both (sets_by_stmt s) (stmt_within s) (stmts_within ss) x j)
 
 -- ---- what statements declare, where paths are set to no less
 
@@ -223,7 +243,7 @@ module _ (T : Tables) (set' : List (Path × ℕ)) where
       declared_within e f j = elim j [ ]
 
       -- a statement that is rewritten declares no less than before
-      pub declares_within : (s : Stmt) → Within (declared_by T s) (declared_by T' (re_stmt built step step_call whole whole_in more_stmts s))
+      pub declares_within : (trim : Declarator → List Declarator) (trim_in : Declarator → Declarator) (cut : Stmt → Stmts → Stmts) (s : Stmt) → Within (declared_by T s) (declared_by T' (re_stmt built step step_call trim trim_in cut s))
       unfolding declared_by re_stmt re_value
-      declares_within (simple i e) f j = declared_within e f j
-      declares_within s f j = elim j [ ]
+      declares_within trim trim_in cut (simple i e) f j = declared_within e f j
+      declares_within trim trim_in cut s f j = elim j [ ]

@@ -93,6 +93,25 @@ module _ (built : Ref → Bool) where
   unfolding re_declarator
   re_declarator_same d = rw (re_option_same d.value) refl
 
+  -- .. and where the step answers what it is given
+  pub value_same : (e : Expr) → re_value built (λ e. e) stay_call e ≡ e
+  unfolding stay
+  value_same e = re_value_same e
+
+  pub declarator_same : (d : Declarator) → re_declarator built (λ e. e) stay_call d ≡ d
+  unfolding stay
+  declarator_same d = re_declarator_same d
+
+-- a pass whose steps answer what they are given
+pub no_step_rules : (K : Kit) (X : Below K) (built : Ref → Bool) → N.SameTables K X built → (Here : K.Ctx → Type 0) → ((c : K.Ctx) → Here c → Here (K.in_catch c)) → (Stands : Standing K.Ctx) → R.StepRules K X built Here Stands (λ e. e) stay_call
+unfolding stay_call
+no_step_rules K X built same Here caught Stands = record {
+  caught = caught;
+  reads = λ c h i r rd. (E.follows_var K X c (same.sites i) rd, N.var_valued K X built same c i r rd);
+  steps = λ c h e e' n. N.node_valued K X built same c n;
+  calls = λ c h i f f' es es' hf ha. N.call_valued K X built same c i hf ha;
+}
+
 -- ---- each fine tree follows itself
 
 module _ (K : Kit) (X : Below K) (built : Ref → Bool) (same : N.SameTables K X built) (Stands : Standing K.Ctx) where
@@ -103,13 +122,8 @@ module _ (K : Kit) (X : Below K) (built : Ref → Bool) (same : N.SameTables K X
   Written c = (r : Ref) (f : ℕ) → K.BindT c r f → ⊥
 
   no_steps : R.StepRules K X built Anywhere Stands stay stay_call
-  unfolding stay stay_call
-  no_steps = record {
-    caught = λ c h. tt;
-    reads = λ c h i r rd. (E.follows_var K X c (same.sites i) rd, N.var_valued K X built same c i r rd);
-    steps = λ c h e e' n. N.node_valued K X built same c n;
-    calls = λ c h i f f' es es' hf ha. N.call_valued K X built same c i hf ha;
-  }
+  unfolding stay
+  no_steps = no_step_rules K X built same Anywhere (λ c h. h) Stands
 
   module _ (c : K.Ctx) where
     pub like : (e : Expr) → Fine K.Ctx (allowed K Stands) c e → W.FollowsValue K X built c e e

@@ -1,0 +1,5 @@
+use Rattle.cc_tied.proofs.examples.dropping_keeps.Goals as goal
+use Rattle.cc_tied.proofs.DropKeeps.{dropping_keeps}
+
+pub returns : goal.returns
+returns c = dropping_keeps
