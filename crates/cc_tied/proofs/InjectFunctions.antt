@@ -7,19 +7,19 @@ use Rattle.cc_meaning.specs.State.{Path}
 use Rattle.cc_meaning.specs.Shapes.{tables_of, body_of}
 use Rattle.cc_meaning.specs.Alike.{In}
 use Rattle.cc_meaning.specs.Parts.{mentions, declares}
-use Rattle.cc_meaning.specs.WellMade.{parts_of, Reached, function_reached, IsSound, sound_place, sound_global, sound_outer, IsPlaced, placed_global, placed_local, WellMade}
+use Rattle.cc_meaning.specs.WellMade.{parts_of, Reached, function_reached, IsSound, IsPlaced, placed_global, placed_local, WellMade}
 use Rattle.cc_tied.specs.Fine.{Allowed, FineStmts}
-use Rattle.cc_tied.specs.Facts.{Level, called, caught, named, Held, holds_function, Facts, DeadAt, FixedAt}
+use Rattle.cc_tied.specs.Facts.{Held, holds_function, Facts}
 use Rattle.cc_tied.specs.PlainFacts.{owner, plain_facts}
 use Rattle.cc_tied.specs.InlineExample.{binds_alone}
 use Rattle.cc_tied.proofs.Kit.{Kit}
 use Rattle.cc_tied.proofs.Rewriting.{anything, allowed, BindsT, bound_by_write, bound_alone, SetsT, set_by_write}
-use Rattle.cc_tied.proofs.FineTogether.{Each, Together, stmts_both}
+use Rattle.cc_tied.proofs.FineTogether.{Each, Together, stmts_together}
 use Rattle.cc_tied.proofs.FineScopes.{by_parts, fine_by_parts}
-use Rattle.cc_tied.proofs.InjectTie.{Ctx, at, in_catch, this_at, stands_at, ReadI, reads_global, reads_place, WriteI, writes_global, writes_place, binds_known}
+use Rattle.cc_tied.proofs.InjectTie.{Ctx, at, in_catch, this_at, stands_at, ReadI, WriteI, writes_global, binds_known}
 use Rattle.cc_tied.proofs.InjectUpkeep.{inject_kit}
-use Rattle.cc_tied.proofs.InjectFacts.{part_of, parent_is, holds_above, owner_chunk}
-use Rattle.cc_tied.proofs.InjectPass.{mention_sound, declared_sound, declared_placed, made_apart}
+use Rattle.cc_tied.proofs.InjectFacts.{part_of, parent_is, owner_chunk}
+use Rattle.cc_tied.proofs.InjectPass.{mention_sound, declared_sound, declared_placed, made_apart, read_sound, write_sound}
 
 -- what a global holds, where its function is known
 pub data HoldsKnown (function_of : ℕ → Option ℕ) (n : ℕ) : Held → Type 0 where
@@ -58,26 +58,9 @@ module _ (P : Program) (W : WellMade P) (function_of : ℕ → Option ℕ) (alon
   abbrev K : Kit
   K = inject_kit F (tables_of P) set'
 
-  not_dead : (l : Level) (n : ℕ) → DeadAt F l n → ⊥
-  not_dead (called f) n d = d
-  not_dead (caught o c) n d = d
-  not_dead (named f) n d = d
-
-  not_fixed : (l : Level) (n : ℕ) → FixedAt F l n → ⊥
-  not_fixed (called f) n d = d
-  not_fixed (caught o c) n d = d
-  not_fixed (named f) n d = d
-
-  read_sound : {f k : ℕ} {r : Ref} → IsSound P f k r → ReadI F (tables_of P) (at (owner P f) k) r r
-  read_sound (sound_place u n h) = let a = holds_above P W F (λ f. refl) h in reads_place a.1 (not_dead a.0 n)
-  read_sound (sound_global n d g i) = reads_global (λ z. z)
-  read_sound (sound_outer n g e d) = reads_global (λ z. z)
-
   -- what is no known global may be written
-  write_sound : {f k : ℕ} {r : Ref} → IsSound P f k r → ((n h : ℕ) → function_of n ≡ Some h → r ≡ Ref.Global n → ⊥) → WriteI F (tables_of P) (at (owner P f) k) r r
-  write_sound (sound_place u n h) free = let a = holds_above P W F (λ f. refl) h in writes_place a.1 (not_fixed a.0 n)
-  write_sound (sound_global n d g i) free = writes_global (none_held (λ f e. free n f e refl))
-  write_sound (sound_outer n g e d) free = writes_global (none_held (λ f q. free n f q refl))
+  write_free : {f k : ℕ} {r : Ref} → IsSound P f k r → ((n h : ℕ) → function_of n ≡ Some h → r ≡ Ref.Global n → ⊥) → WriteI F (tables_of P) (at (owner P f) k) r r
+  write_free s free = write_sound P W (HoldsKnown function_of) s (λ n h e k. none_held (λ f q. free n f q e) h k)
 
   -- a known global is bound alone, in a chunk's own list
   global_bound : (k n f : ℕ) (o : Option ℕ) → function_of n ≡ o → ((h : ℕ) → o ≡ Some h → f ≡ h) → BindsT K (at None k) (Ref.Global n) f
@@ -86,7 +69,7 @@ module _ (P : Program) (W : WellMade P) (function_of : ℕ → Option ℕ) (alon
 
   bound_placed : {g k : ℕ} {r : Ref} (f : ℕ) → IsSound P g k r → IsPlaced P g k r → ((n h : ℕ) → function_of n ≡ Some h → r ≡ Ref.Global n → f ≡ h) → BindsT K (at (owner P g) k) r f
   bound_placed {g = g} {k = k} f s (placed_global n d c e) one = subst (λ z. BindsT K (at z k) (Ref.Global n) f) (sym (owner_chunk P g c)) (global_bound k n f (function_of n) refl (λ h q. one n h q refl))
-  bound_placed f s (placed_local n z c e l) one = bound_by_write (write_sound s (λ m h q d. absurd (cc)))
+  bound_placed f s (placed_local n z c e l) one = bound_by_write (write_free s (λ m h q d. absurd (cc)))
 
   module _ (g : ℕ) (reached : Reached P g) where
     abbrev At : Each (Aspect function_of) Place (asked P g) Ctx (allowed K anything) → Ctx → Type 0
@@ -99,10 +82,10 @@ module _ (P : Program) (W : WellMade P) (function_of : ℕ → Option ℕ) (alon
     together : Together (Aspect function_of) Place (asked P g) Ctx (allowed K anything) At
     together = record {
       caught = λ cs x e. ap in_catch e;
-      reads = λ cs x e r h. subst (λ z. ReadI F (tables_of P) z r r) (sym e) (read_sound (mention_sound P g _ r reached (part_of P W g _ (h of_parts))));
-      writes = λ cs x e r h. subst (λ z. WriteI F (tables_of P) z r r) (sym e) (write_sound (sound_either _ r (h of_parts)) (λ n f q. h (of_global n f q)));
+      reads = λ cs x e r h. subst (λ z. ReadI F (tables_of P) z r r) (sym e) (read_sound P W (HoldsKnown function_of) (mention_sound P g _ r reached (part_of P W g _ (h of_parts))));
+      writes = λ cs x e r h. subst (λ z. WriteI F (tables_of P) z r r) (sym e) (write_free (sound_either _ r (h of_parts)) (λ n f q. h (of_global n f q)));
       binds = λ cs x e r f h. let p = part_of P W g _ (h of_parts) in subst (λ z. BindsT K z r f) (sym e) (bound_placed f (declared_sound P g _ r reached p) (declared_placed P g _ r p) (λ n m q. h (of_global n m q)));
-      sets = λ cs x e r v h. subst (λ z. SetsT K z r v × Unit {0}) (sym e) (set_by_write (write_sound (declared_sound P g _ r reached (part_of P W g _ (h of_parts))) (λ n f q. h (of_global n f q))), tt);
+      sets = λ cs x e r v h. subst (λ z. SetsT K z r v × Unit {0}) (sym e) (set_by_write (write_free (declared_sound P g _ r reached (part_of P W g _ (h of_parts))) (λ n f q. h (of_global n f q))), tt);
       this_here = λ cs x e h. subst K.ThisT (sym e) this_at;
       makes = λ cs x e f h. let m = h of_parts in let d = parent_is P W g _ f m.0 m.1 in subst (λ z. K.StandT z f f) (sym e) (stands_at (record { reached = function_reached g f _ m.0 reached m.1; function = made_apart P g _ f m.0 (part_of P W g _ m.1) }) (ap (λ z. z.0) d) (ap (λ z. z.1) d));
       stands = λ cs x e ls s h. tt;
@@ -113,4 +96,4 @@ module _ (P : Program) (W : WellMade P) (function_of : ℕ → Option ℕ) (alon
     each_fine (of_global n f e) = alone n f e g reached
 
     pub fine_functions : FineStmts Ctx (allowed K anything) (at (owner P g) 0) [] (body_of P g)
-    fine_functions = stmts_both (Aspect function_of) Place (asked P g) Ctx (allowed K anything) At together (λ a. first a) (at (owner P g) 0) refl [] (body_of P g) each_fine
+    fine_functions = stmts_together (Aspect function_of) Place (asked P g) Ctx (allowed K anything) At together (λ a. first a) (at (owner P g) 0) refl [] (body_of P g) each_fine

@@ -13,7 +13,7 @@ use Rattle.cc_meaning.specs.WellMade.{is_chunk, parts_of, Reached, function_reac
 use Rattle.cc_tied.specs.Tied.{built_of, OptT, none_t}
 use Rattle.cc_tied.specs.Promises.{HasNoPaths}
 use Rattle.cc_tied.specs.Fine.{FineStmts}
-use Rattle.cc_tied.specs.Facts.{Level, called, caught, named, Facts, DeadAt, FixedAt}
+use Rattle.cc_tied.specs.Facts.{Level, called, caught, named, Held, Facts, DeadAt, FixedAt}
 use Rattle.cc_tied.specs.PlainFacts.{owner, plain_facts}
 use Rattle.cc_tied.proofs.Kit.{Kit}
 use Rattle.cc_tied.proofs.Parts.{Below, PathT}
@@ -80,6 +80,33 @@ module _ (P : Program) where
   pub made_apart : (f k g : ℕ) (d : Bool) → IsPart P f (makes k g d) → IsFalse (is_chunk P g)
   made_apart f k g d (a_function _ _ _ m) = m.function
 
+-- ---- what may be read and written, where no more is known than what some globals hold
+
+module _ (P : Program) (W : WellMade P) (Known : ℕ → Held → Type 0) where
+  abbrev KnownFacts : Facts
+  KnownFacts = record (plain_facts P) { Known = Known }
+
+  not_dead : (l : Level) (n : ℕ) → DeadAt KnownFacts l n → ⊥
+  not_dead (called f) n d = d
+  not_dead (caught o c) n d = d
+  not_dead (named f) n d = d
+
+  not_fixed : (l : Level) (n : ℕ) → FixedAt KnownFacts l n → ⊥
+  not_fixed (called f) n d = d
+  not_fixed (caught o c) n d = d
+  not_fixed (named f) n d = d
+
+  pub read_sound : {f k : ℕ} {r : Ref} → IsSound P f k r → ReadI KnownFacts (tables_of P) (at (owner P f) k) r r
+  read_sound (sound_place u n h) = let a = holds_above P W KnownFacts (λ f. refl) h in reads_place a.1 (not_dead a.0 n)
+  read_sound (sound_global n d g i) = reads_global (λ z. z)
+  read_sound (sound_outer n g e d) = reads_global (λ z. z)
+
+  -- what is no known global
+  pub write_sound : {f k : ℕ} {r : Ref} → IsSound P f k r → ((n : ℕ) (h : Held) → r ≡ Ref.Global n → Known n h → ⊥) → WriteI KnownFacts (tables_of P) (at (owner P f) k) r r
+  write_sound (sound_place u n h) free = let a = holds_above P W KnownFacts (λ f. refl) h in writes_place a.1 (not_fixed a.0 n)
+  write_sound (sound_global n d g i) free = writes_global (λ h k. free n h refl k)
+  write_sound (sound_outer n g e d) free = writes_global (λ h k. free n h refl k)
+
 -- ---- a well made program is fine, where no more is known of it
 
 -- what a pass asks beside what the kit ties, which each well made program has
@@ -94,34 +121,17 @@ module _ (P : Program) (W : WellMade P) (set' : List (Path × ℕ)) (Stands : St
   abbrev K : Kit
   K = inject_kit F (tables_of P) set'
 
-  not_dead : (l : Level) (n : ℕ) → DeadAt F l n → ⊥
-  not_dead (called f) n d = d
-  not_dead (caught o c) n d = d
-  not_dead (named f) n d = d
-
-  not_fixed : (l : Level) (n : ℕ) → FixedAt F l n → ⊥
-  not_fixed (called f) n d = d
-  not_fixed (caught o c) n d = d
-  not_fixed (named f) n d = d
-
-  read_sound : {f k : ℕ} {r : Ref} → IsSound P f k r → ReadI F (tables_of P) (at (owner P f) k) r r
-  read_sound (sound_place u n h) = let a = holds_above P W F (λ f. refl) h in reads_place a.1 (not_dead a.0 n)
-  read_sound (sound_global n d g i) = reads_global (λ z. z)
-  read_sound (sound_outer n g e d) = reads_global (λ z. z)
-
-  write_sound : {f k : ℕ} {r : Ref} → IsSound P f k r → WriteI F (tables_of P) (at (owner P f) k) r r
-  write_sound (sound_place u n h) = let a = holds_above P W F (λ f. refl) h in writes_place a.1 (not_fixed a.0 n)
-  write_sound (sound_global n d g i) = writes_global (λ h z. z)
-  write_sound (sound_outer n g e d) = writes_global (λ h z. z)
+  write_free : {f k : ℕ} {r : Ref} → IsSound P f k r → WriteI F (tables_of P) (at (owner P f) k) r r
+  write_free h = write_sound P W (λ n h. ⊥) h (λ n h e k. k)
 
   parts_allow : (f : ℕ) → Reached P f → PartsAllow Ctx (allowed K Stands) (λ k. at (owner P f) k) (λ x. In x (parts_of P f))
   parts_allow f h = record {
     caught = λ k. refl;
-    reads = λ k r i. read_sound (mention_sound P f k r h (part_of P W f _ i));
-    writes = λ k r i. write_sound (mention_sound P f k r h (part_of P W f _ i));
-    declared = λ k r i. write_sound (declared_sound P f k r h (part_of P W f _ i));
-    bound = λ k r g i. bound_by_write (write_sound (declared_sound P f k r h (part_of P W f _ i)));
-    set = λ k r o i. let d = part_of P W f _ i in (set_by_write (write_sound (declared_sound P f k r h d)), all.of_declared f k r (declared_placed P f k r d));
+    reads = λ k r i. read_sound P W (λ n h. ⊥) (mention_sound P f k r h (part_of P W f _ i));
+    writes = λ k r i. write_free (mention_sound P f k r h (part_of P W f _ i));
+    declared = λ k r i. write_free (declared_sound P f k r h (part_of P W f _ i));
+    bound = λ k r g i. bound_by_write (write_free (declared_sound P f k r h (part_of P W f _ i)));
+    set = λ k r o i. let d = part_of P W f _ i in (set_by_write (write_free (declared_sound P f k r h d)), all.of_declared f k r (declared_placed P f k r d));
     receivers = λ k. this_at;
     made = λ k g d i. let e = parent_is P W f k g d i in stands_at (record { reached = function_reached f g k d h i; function = made_apart P f k g d (part_of P W f _ i) }) (ap (λ z. z.0) e) (ap (λ z. z.1) e);
     stands = λ k ls s. all.of_stmt _ ls s;

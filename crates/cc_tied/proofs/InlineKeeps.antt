@@ -1,5 +1,5 @@
 -- Whichever scopes of a program have their known calls inlined, the program does the same.
-use Rattle.std.proofs.Common.{◌≡◌, ℕ, false, Option, Some, None, is_some, refl, sym, subst}
+use Rattle.std.proofs.Common.{ℕ, Option, refl, sym, subst}
 use Rattle.cc_ast.specs.Syntax.{Expr}
 use Rattle.cc_meaning.specs.Shapes.{tables_of}
 use Rattle.cc_meaning.specs.Same.{Same}
@@ -7,16 +7,13 @@ use Rattle.cc_tied.specs.Tied.{built_of}
 use Rattle.cc_tied.specs.FoldExample.{is_built_in}
 use Rattle.cc_tied.specs.InlineExample.{inline_call, InliningKeeps}
 use Rattle.cc_tied.proofs.KeptPaths.{Stays}
+use Rattle.cc_tied.proofs.FoldKeeps.{none_of}
 use Rattle.cc_tied.proofs.InlineExample.{function_of, known_alone, inline_rules}
 use Rattle.cc_tied.proofs.MixedBound.{same_by_bound_scopes}
 
 inline_stays : (known : ℕ → Option Expr) → Stays (λ e. e) (inline_call known)
 unfolding inline_call
 inline_stays known = record { var = λ i r. refl; fun = λ i f. refl; object = λ i fs. refl; member = λ i e p. refl; assign = λ i op u e. refl; call = λ i j e p es. refl }
-
-none_of : {A : Type 0} (o : Option A) → is_some o ≡ false → o ≡ None
-none_of None h = refl
-none_of (Some x) h = absurd (cc)
 
 pub inlining_keeps : InliningKeeps
 inlining_keeps known P Q W none able m =

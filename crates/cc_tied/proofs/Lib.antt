@@ -74,8 +74,8 @@ pub mod InjectDead
 pub mod InjectEnds
 pub mod InjectRuns
 pub mod FineParts
-pub mod FineBoth
 pub mod FineTogether
+pub mod FineBoth
 pub mod FineScopes
 pub mod InjectFacts
 pub mod InjectAbove
@@ -87,10 +87,10 @@ pub mod KeptPaths
 pub mod KeptSets
 pub mod MixedTables
 pub mod MixedSame
+pub mod MixedBound
 pub mod DropExample
 pub mod FoldKeeps
 pub mod DropFacts
 pub mod DropKeeps
-pub mod MixedBound
 pub mod InlineExample
 pub mod InlineKeeps

@@ -22,11 +22,11 @@ use Rattle.cc_tied.proofs.Parts.{BodiesT}
 use Rattle.cc_tied.proofs.Turns.{AllBodiesT, below_of}
 use Rattle.cc_tied.proofs.Rewriting.{anything, StepRules}
 use Rattle.cc_tied.proofs.RewritingBodies.{whole_rules}
-use Rattle.cc_tied.proofs.Subsets.{rewritten, Rewrites}
+use Rattle.cc_tied.proofs.Subsets.{rewritten}
 use Rattle.cc_tied.proofs.KeptPaths.{Stays}
-use Rattle.cc_tied.proofs.KeptSets.{Within, whole_sets, stmts_within, declares_same, declares_within}
-use Rattle.cc_tied.proofs.MixedTables.{same_but_set, sets_more, mixed_bodies}
-use Rattle.cc_tied.proofs.MixedSame.{whole_rewrite, whole_pass}
+use Rattle.cc_tied.proofs.KeptSets.{declares_same, declares_within}
+use Rattle.cc_tied.proofs.MixedTables.{same_but_set}
+use Rattle.cc_tied.proofs.MixedSame.{whole_rewrite, whole_pass, more, chosen}
 use Rattle.cc_tied.proofs.InjectTie.{Ctx}
 use Rattle.cc_tied.proofs.InjectPass.{pass_kit, same_tables}
 use Rattle.cc_tied.proofs.InjectFunctions.{function_facts, fine_functions}
@@ -53,16 +53,6 @@ module _ (built : Ref → Bool) (step : Expr → Expr) (step_call : ℕ → Expr
     abbrev Q : Program
     Q = record P { scopes = ts }
 
-    abbrev New : (scope : ℕ) → Stmts → Stmts
-    New = whole_rewrite built step step_call S
-
-    more : Within (tables_of P).set (tables_of Q).set
-    more = sets_more New P ts m (λ f ss. stmts_within built step step_call S whole whole_in more_stmts whole_sets ss)
-
-    chosen : Rewrites built (whole_pass built step step_call S) P Q
-    unfolding rewritten
-    chosen f = mixed_bodies New P ts m f
-
     abbrev pub bound_kit : Kit
     bound_kit = pass_kit F P Q none built builts
 
@@ -71,7 +61,7 @@ module _ (built : Ref → Bool) (step : Expr → Expr) (step_call : ℕ → Expr
 
     hoists_kept : (c : ℕ) → hoist checked top (body_of Q c) ≡ hoist checked top (body_of P c)
     unfolding rewritten
-    hoists_kept c = elim (chosen c) [
+    hoists_kept c = elim (chosen built step step_call S P W none builts ts m c) [
       | inl e ↦ ap (λ z. hoist checked top z) e
       | inr e ↦ ap (λ z. hoist checked top z) e ∙ hoist_kept checked top (body_of P c)
     ]
@@ -81,18 +71,18 @@ module _ (built : Ref → Bool) (step : Expr → Expr) (step_call : ℕ → Expr
     StepsT = (d d' : ℕ) (w : bound_kit.World) → bound_kit.bound w ≤ d → bound_kit.bound' w ≤ d' → AllBodiesT bound_kit P Q w → (tied : BodiesT bound_kit w (bodies checked P d) (bodies checked Q d')) → StepRules bound_kit (below_of bound_kit P Q d d' w tied) built Anywhere anything step step_call
 
     module _ (steps : StepsT) where
-      pass : BoundPass F P Q none (same_but_set New P ts m) built builts (whole_pass built step step_call S) (λ f c. Unit {0}) anything
+      pass : BoundPass F P Q none (same_but_set (whole_rewrite built step step_call S) P ts m) built builts (whole_pass built step step_call S) (λ f c. Unit {0}) anything
       pass = record {
         reached = λ f h. h;
         fine = λ f h. fine_functions P W function_of alone (tables_of Q).set f h;
         here = λ f. tt;
         rules = λ f d d' w le le' all tied. record {
           steps = steps d d' w le le' all tied;
-          cuts = whole_rules bound_kit (below_of bound_kit P Q d d' w tied) built Anywhere anything step step_call (same_tables F P Q none built builts (below_of bound_kit P Q d d' w tied)) (λ n s h. record { keeps = declares_within (tables_of P) (tables_of Q).set more built step step_call S whole whole_in more_stmts s });
+          cuts = whole_rules bound_kit (below_of bound_kit P Q d d' w tied) built Anywhere anything step step_call (same_tables F P Q none built builts (below_of bound_kit P Q d d' w tied)) (λ n s h. record { keeps = declares_within (tables_of P) (tables_of Q).set (more built step step_call S P W none builts ts m) built step step_call S whole whole_in more_stmts s });
         };
         hoists = hoists_kept;
-        declares = λ s. record { keeps = declares_same (tables_of P) (tables_of Q).set more s };
+        declares = λ s. record { keeps = declares_same (tables_of P) (tables_of Q).set (more built step step_call S P W none builts ts m) s };
       }
 
       pub same_by_bound_scopes : Same P Q
-      same_by_bound_scopes = bound_pass_same F P Q none (same_but_set New P ts m) built builts (whole_pass built step step_call S) (λ f c. Unit {0}) anything pass chosen
+      same_by_bound_scopes = bound_pass_same F P Q none (same_but_set (whole_rewrite built step step_call S) P ts m) built builts (whole_pass built step step_call S) (λ f c. Unit {0}) anything pass (chosen built step step_call S P W none builts ts m)

@@ -41,10 +41,10 @@ module _ (built : Ref → Bool) (step : Expr → Expr) (step_call : ℕ → Expr
     abbrev pub mixed_kit : Kit
     mixed_kit = pass_kit (plain_facts P) P Q none built builts
 
-    more : Within (tables_of P).set (tables_of Q).set
+    pub more : Within (tables_of P).set (tables_of Q).set
     more = sets_more whole_rewrite P ts m (λ f ss. stmts_within built step step_call S whole whole_in more_stmts whole_sets ss)
 
-    chosen : Rewrites built whole_pass P Q
+    pub chosen : Rewrites built whole_pass P Q
     unfolding rewritten
     chosen f = mixed_bodies whole_rewrite P ts m f
 

@@ -17,8 +17,8 @@ pub fn dropping_keeps()
     ensures { DroppingKeeps }
 {}
 
-/// Calls of functions whose body is one `return` become copies of what is returned, under the price
-/// of the call, in whichever scopes.
+/// Calls of known functions whose body is one `return` become copies of what is returned, under the
+/// price of the call, in whichever scopes.
 pub fn inlining_keeps()
     ensures { InliningKeeps }
 {}
