@@ -138,7 +138,7 @@ one_deeper : {m : ℕ} {xs ys zs : Symbols} → Nest m xs ys → Sign mark.Close
 one_deeper (bare v h) c = bare v (closed_behind h c)
 one_deeper (nested o h) c = nested o (one_deeper h c)
 
-no_variable : (e : RawExpr) → target_of e ≡ None → is_variable e ≡ true → ⊥
+pub no_variable : (e : RawExpr) → target_of e ≡ None → is_variable e ≡ true → ⊥
 no_variable (raw.var p n) q f = cc
 no_variable (raw.cast p e) q f = no_variable e q f
 no_variable _ q f = cc

@@ -141,7 +141,7 @@ module _ (d n : ℕ) (inner : In) (sound : SoundInner d inner) (all : FailsInner
         first = λ zs. same refl;
       })) (λ _ zs q. fine))
       (λ _. fails_fork (is_mark mark.Comma (look xs).kind) _ _
-      (λ q. stop refl (λ w. cc) 0 (inl (omega arith)) (by_element refl (mark_true mark.Comma _ q) 0 (record {
+      (λ q. stop refl (λ w. cc) 0 (omega arith) (by_element refl (mark_true mark.Comma _ q) 0 (record {
         front = stays xs;
         more = λ zs. real (token (k.mark mark.CloseBracket)) ∷ zs;
         tree = [];
@@ -209,7 +209,7 @@ module _ (d n : ℕ) (inner : In) (sound : SoundInner d inner) (all : FailsInner
   key_fails : {b : ℕ} (xs : Symbols) (v : Option RawKey) → key_of (look xs).kind ≡ v → 0 < b → Fails b (λ j i. Begun (FF j) xs i) (s.key_by d n inner v xs)
   key_fails xs None e some = fails_here xs 0 (omega arith) (no_field_yet xs 0)
   key_fails xs (Some y) e some = fails_fork (is_accessor (look xs).kind && is_some (key_of (look (rest xs)).kind)) _ _
-      (λ t. let c = found key_of xs y refl refl e in let q = both_true (is_accessor (look xs).kind) _ t in stop refl (λ w. cc) 0 (inl some) (by_key refl c q.0 q.1 0 (key_due xs 0)) (key_begun 0 c e)) (λ _. fine)
+      (λ t. let c = found key_of xs y refl refl e in let q = both_true (is_accessor (look xs).kind) _ t in stop refl (λ w. cc) 0 some (by_key refl c q.0 q.1 0 (key_due xs 0)) (key_begun 0 c e)) (λ _. fine)
 
   -- a key and its colon
   key_held : {y : Place × RawKey} {xs ys zs : Symbols} {i : Spot} (j : ℕ) → IsKey xs y ys → Sign mark.Colon ys zs → Begun (EE j true 1) zs i → Begun (FF j) xs i

@@ -31,7 +31,7 @@ use Rattle.cc_grammar.proofs.SoundJumps.{Blocked, block_in_sound, catch_sound, f
 use Rattle.cc_grammar.proofs.Moves.{Front, stays, joined, Fits, look_kept, kept_fits, no_tail}
 use Rattle.cc_grammar.proofs.Moves as moves
 use Rattle.cc_grammar.proofs.MovesDerived.{e_moves, t_moves, declarators_move, catch_moves}
-use Rattle.cc_grammar.proofs.Fails.{token, new_at, taken, again, variable_taken, variable_again, First, same, fresh, Spot, here, due, left, put, Begun, EE, TT, no_e, no_t, Fails, fine, stop, deep, at_is, fails_after, fails_map, fails_fork, fails_choice, fails_here, expect_fails, expect_word_fails, variable_fails, deeper_fails, FailsInner}
+use Rattle.cc_grammar.proofs.Fails.{token, new_at, taken, again, variable_taken, variable_again, First, same, fresh, Spot, here, due, anew, left, put, Begun, EE, TT, no_e, no_t, Fails, fine, stop, at_is, fails_after, fails_map, fails_fork, fails_choice, fails_here, expect_fails, expect_word_fails, variable_fails, deeper_fails, FailsInner}
 use Rattle.cc_grammar.proofs.FrontsLists.{CC, no_body, body_fails, UU, no_function, function_fails}
 use Rattle.cc_grammar.proofs.FrontsPrimary.{whole_e, callee_fails}
 use Rattle.cc_grammar.proofs.FrontsExpressions.{expr_fails, after_head_fails}
@@ -59,6 +59,15 @@ from_nothing c {j} {i = due p ys} w u = record {
   first = λ zs. fresh (ap (λ l. is_tail (look l).kind) (u _));
 }
 
+from_nothing c {j} {i = anew t q us v ys} w u = record {
+  front = w.front;
+  more = λ zs. w.more (real (token (k.mark mark.Semicolon)) ∷ zs);
+  tree = raw.simple t.place w.tree ∷ [];
+  holds = λ zs _. subst (λ (z : Lexeme). T c j (w.front.go (put (anew t q us v ys) (w.more (real (token (k.mark mark.Semicolon)) ∷ zs)))) (raw.simple z.place w.tree ∷ []) zs) (ap look (u _))
+      (g.simple (ap (λ l. opens_no_expression (look l).kind) (u _) ∙ ap opens_no_expression q) (w.holds _) end_now);
+  first = λ zs. fresh (ap (λ l. is_tail (look l).kind) (u _) ∙ ap is_tail q);
+}
+
 pub simple_begun : (c : Context) {j : ℕ} {xs : Symbols} {i : Spot} → opens_no_expression (look xs).kind ≡ false → Begun (EE j true 0) xs i → Begun (TT c j) xs i
 simple_begun c {j} {xs} {i} b w = by (started w.front) where
   by : Started w.front → Begun (TT c j) xs i
@@ -82,6 +91,7 @@ on_line {j} {xs} {i} e w = by i w (started w.front) where
   by : (i : Spot) (w : Begun (EE j true 0) xs i) → Started w.front → OnLine j xs i
   by i w (some kept) = record { begun = w; line = λ zs. ap (λ z. z.after_line) (kept (put i (w.more zs))) ∙ e }
   by (due p ys) w (none q u) = record { begun = w; line = λ zs. ap (λ l. (look l).after_line) (u _) ∙ ap (λ l. (look l).after_line) (sym q) ∙ e }
+  by (anew t r us v ys) w (none q u) = record { begun = w; line = λ zs. ap (λ l. (look l).after_line) (u _) ∙ ap (λ l. (look l).after_line) (sym q) ∙ e }
   by (here ys) w (none q u) = record {
     begun = record {
       front = w.front;

@@ -4,11 +4,14 @@ use Rattle.std.proofs.Common.{refl, sym, ap, ◌∙◌, subst, arith, append_ass
 use Rattle.std.proofs.lemmas.List.{append_cancel_right}
 use Rattle.cc_ast.specs.declared.reading.Construct.TheVariants as construct
 use Rattle.cc_lexer.specs.declared.token.Mark.TheVariants as mark
+use Rattle.cc_grammar.specs.declared.word.Word.TheVariants as word
 use Rattle.cc_grammar.specs.Symbols.{Kind, Lexeme, Symbol, Symbols, real, inserted, look, lexemes_of, is_mark}
+use Rattle.cc_grammar.specs.Symbols as k
 use Rattle.cc_grammar.specs.RawTree.{RawStmt}
+use Rattle.cc_grammar.specs.Grammar.{At}
 use Rattle.cc_grammar.specs.Fronts.{Derives, IsFront, IsFrontWithin, Offends, offending, Justified, offends}
 use Rattle.cc_grammar.specs.Laws.{IsText, last, before, is_last, is_inner}
-use Rattle.cc_grammar.specs.Reading.{Outcome, Sized, Fault, Cause, fault, look_token, syntax, depth, spent, refused, read_symbols, read_tokens}
+use Rattle.cc_grammar.specs.Reading.{Outcome, Sized, Fault, Cause, fault, look_token, goes_on, syntax, depth, spent, refused, read_symbols, read_tokens}
 use Rattle.cc_grammar.specs.Reading as r
 use Rattle.cc_grammar.proofs.Views.{mark_true}
 use Rattle.cc_grammar.proofs.Shrinks.{reals}
@@ -16,14 +19,16 @@ use Rattle.cc_grammar.proofs.Complete.{program_read}
 use Rattle.cc_grammar.proofs.Alike.{is_limit, is_spent}
 use Rattle.cc_grammar.proofs.NoFront.{no_front, unread_there}
 use Rattle.cc_grammar.proofs.Mono.{higher_body}
-use Rattle.cc_grammar.proofs.Fails.{Why, Fails, fine, stop, deep, here}
+use Rattle.cc_grammar.proofs.Steps.{kind_at}
+use Rattle.cc_grammar.proofs.Deletions.{Nest, nest_told}
+use Rattle.cc_grammar.proofs.Fails.{Why, Raises, Fails, fine, stop, deleted, deep, here, due, anew}
 use Rattle.cc_grammar.proofs.FrontsProgram.{FrontAt, FrontOf, Open, program_fails}
 use Rattle.cc_grammar.proofs.Paired.{is_fresh, Begun, Paired, end_ready, body_ready}
 use Rattle.cc_grammar.proofs.Copies.{L, Copy, end, take, insert, put, put_lexemes, lexemes_real, look_real, Each, each_map, StopsAt, Just, Shut, Bar, Copies, read, Quiet}
 use Rattle.cc_grammar.proofs.Copies as copies
 use Rattle.cc_grammar.proofs.CopyPrograms.{program_copy}
 use Rattle.cc_grammar.proofs.SoundTokens.{begun_behind, no_limit}
-use Rattle.cc_grammar.proofs.TokenFronts.{tail_is, head_is, same_head, same_tail, nothing_some, lexemes_append, put_front, shorter, first_token, higher_within, justified_before}
+use Rattle.cc_grammar.proofs.TokenFronts.{tail_is, head_is, real_is, same_head, same_tail, nothing_some, lexemes_append, put_front, shorter, first_token, higher_within, justified_before}
 
 -- ---- what is known of the symbols before a stop
 
@@ -31,6 +36,13 @@ use Rattle.cc_grammar.proofs.TokenFronts.{tail_is, head_is, same_head, same_tail
 abbrev pub is_deletion : Cause → Bool
 is_deletion (refused construct.DeleteName) = true
 is_deletion _ = false
+
+-- Why reading the list xs stops behind the symbols p and before i: for the next symbol, behind a front within the depth, or for
+-- a variable that is deleted.
+pub data Reason (d : ℕ) (c : Fault) (p xs i : Symbols) : Type 0 where
+  at_next : IsFrontWithin d p → Why (FrontOf xs) c i → Reason d c p xs i
+  behind : {ys vs : Symbols} → c ≡ record { cause = refused construct.DeleteName; place = (look ys).place } → (o : At (k.word word.Delete) ys vs) → (n : Nest 0 vs i) → (j : ℕ) → j ≤ d → FrontOf xs j (due k.operand ys)
+      → ((t : Lexeme) → goes_on t ≡ true → (u : ℕ) × FrontOf xs u (anew (look ys) (kind_at o) (nest_told n).tokens t vs)) → Reason d c p xs i
 
 -- They are a front within the depth, but where a variable is deleted perhaps a higher one. At the depth they are one with the next token.
 pub record Stopped (d : ℕ) (c : Fault) (p : Symbols) (us : L) : Type 0 where
@@ -41,7 +53,8 @@ pub record Stopped (d : ℕ) (c : Fault) (p : Symbols) (us : L) : Type 0 where
   pub placed_deep : is_limit c.cause ≡ true → c.place ≡ (look_token us).place
   pub within : is_deletion c.cause ≡ false → IsFrontWithin d p
   pub deeper : is_limit c.cause ≡ true → (t : Lexeme) (vs : L) → us ≡ t ∷ vs → IsFront (p ++ real t ∷ [])
-  pub why : is_limit c.cause ≡ false → Why (FrontOf (p ++ map real us)) c (map real us)
+  pub raised : is_limit c.cause ≡ true → (t : Lexeme) (vs : L) → us ≡ t ∷ vs → Raises t.kind (map real vs)
+  pub why : is_limit c.cause ≡ false → Reason d c p (p ++ map real us) (map real us)
 
 clash : true ≡ false → ⊥
 clash e = cc
@@ -60,14 +73,16 @@ record FrontIs (j : ℕ) (p : Symbols) : Type 0 where
 front_at : {j : ℕ} {xs i : Symbols} (p : Symbols) → xs ≡ p ++ i → FrontAt j xs (here i) → FrontIs j p
 front_at {j} {i} p e f = subst (λ z. FrontIs j z) (append_cancel_right f.before p i (sym f.is ∙ e)) (record { within = f.front; unclosed = f.unclosed })
 
-low_front : {d j : ℕ} {p : Symbols} {c : Cause} → IsFrontWithin j p → is_deletion c ≡ false → (j < suc d) ⊎ (c ≡ refused construct.DeleteName) → IsFrontWithin d p
-low_front f m (inl lt) = higher_within (omega arith) f
-low_front f m (inr e) = absurd (clash (sym (ap is_deletion e) ∙ m))
+reason_by : {d : ℕ} {a c : Fault} {p xs ys i l : Symbols} → a ≡ c → xs ≡ ys → i ≡ l → Reason d a p xs i → Reason d c p ys l
+reason_by {d} {c} {p} {xs} {ys} {i} e f g h =
+    let x = let P : Fault → Type 0 = λ a. Reason d a p xs i in subst P e h in
+    let y = let P : Symbols → Type 0 = λ l. Reason d c p l i in subst P f x in
+    let P : Symbols → Type 0 = λ l. Reason d c p ys l in subst P g y
 
-pub stopped : {d : ℕ} {c : Fault} {xs : Symbols} (p : Symbols) (us : L) {o : Outcome Symbols (Sized (List RawStmt))} → xs ≡ p ++ map real us → Fails (suc d) (FrontOf xs) o → o ≡ Err (c, map real us) → Stopped d c p us
-stopped p us e fine q = absurd (cc)
-stopped {c} {xs} p us e (stop {c = a} {i} l o j lt w h) q =
-    let pairs : ◌≡◌ {A = Fault × Symbols} (a, i) (c, map real us) = cc in
+-- what is known where it stops, but not at a limit
+sharply : {d j : ℕ} {a c : Fault} {xs i : Symbols} (p : Symbols) (us : L) → xs ≡ p ++ map real us → ◌≡◌ {A = Fault × Symbols} (a, i) (c, map real us) → is_limit a.cause ≡ false → (a.cause ≡ syntax → a.place ≡ (look i).place) → FrontAt j xs (here i)
+    → (is_deletion c.cause ≡ false → IsFrontWithin d p) → Reason d a p xs i → Stopped d c p us
+sharply {j} {a} {c} {i} p us e pairs l o h within w =
     let same : a ≡ c = ap (λ (z : Fault × Symbols). z.0) pairs in
     let place : i ≡ map real us = ap (λ (z : Fault × Symbols). z.1) pairs in
     let limited : is_limit c.cause ≡ true → ⊥ = λ m. clash (sym m ∙ ap (λ (z : Fault). is_limit z.cause) (sym same) ∙ l) in
@@ -78,13 +93,27 @@ stopped {c} {xs} p us e (stop {c = a} {i} l o j lt w h) q =
       unspent = ap (λ (z : Fault). is_spent z.cause) (sym same) ∙ not_spent a.cause l;
       placed = λ m. ap (λ (z : Fault). z.place) (sym same) ∙ o (ap (λ (z : Fault). z.cause) same ∙ m) ∙ ap (λ z. (look z).place) place ∙ ap (λ z. z.place) (look_real us);
       placed_deep = λ m. absurd (limited m);
-      within = λ m. low_front f.within (ap (λ (z : Fault). is_deletion z.cause) same ∙ m) lt;
+      within = within;
       deeper = λ m t vs f. absurd (limited m);
-      why = λ _. let y = subst (λ z. Why (FrontOf z) a i) e w in
-          let z = let P : Fault → Type 0 = λ x. Why (FrontOf (p ++ map real us)) x i in subst P same y in
-          let P : Symbols → Type 0 = λ x. Why (FrontOf (p ++ map real us)) c x in subst P place z;
+      raised = λ m t vs f. absurd (limited m);
+      why = λ _. reason_by same e place w;
     }
-stopped {d} {c} {xs} p us e (deep {c = a} {i} {ys} m o j lt h t s u w) q =
+
+low_at : {d j : ℕ} {xs i : Symbols} (p : Symbols) (us : L) → xs ≡ p ++ map real us → i ≡ map real us → j < suc d → FrontAt j xs (here i) → IsFrontWithin d p
+low_at p us e place lt h = higher_within (omega arith) (front_at p (e ∙ ap (λ l. p ++ l) (sym place)) h).within
+
+pub stopped : {d : ℕ} {c : Fault} {xs : Symbols} (p : Symbols) (us : L) {o : Outcome Symbols (Sized (List RawStmt))} → xs ≡ p ++ map real us → Fails (suc d) (FrontOf xs) o → o ≡ Err (c, map real us) → Stopped d c p us
+stopped p us e fine q = absurd (cc)
+stopped {d} {c} {xs} p us e (stop {c = a} {i} l o j lt w h) q =
+    let pairs : ◌≡◌ {A = Fault × Symbols} (a, i) (c, map real us) = cc in
+    let low = low_at p us e (ap (λ (z : Fault × Symbols). z.1) pairs) lt h in
+    sharply p us e pairs l o h (λ _. low) (at_next low w)
+stopped {d} {c} {xs} p us e (deleted {c = a} {i} r o n j lt h g u w) q =
+    let pairs : ◌≡◌ {A = Fault × Symbols} (a, i) (c, map real us) = cc in
+    let refusing = ap (λ (z : Fault). z.cause) r in
+    sharply p us e pairs (ap is_limit refusing) (λ m. let no : syntax ≡ refused construct.DeleteName = sym m ∙ refusing in absurd (cc)) w
+    (λ m. absurd (clash (sym (ap (λ (z : Fault × Symbols). is_deletion z.0.cause) (sym pairs) ∙ ap is_deletion refusing) ∙ m))) (behind r o n j (omega arith) h g)
+stopped {d} {c} {xs} p us e (deep {c = a} {i} {ys} m o j lt h t s r u w) q =
     let pairs : ◌≡◌ {A = Fault × Symbols} (a, i) (c, map real us) = cc in
     let same : a ≡ c = ap (λ (z : Fault × Symbols). z.0) pairs in
     let place : i ≡ map real us = ap (λ (z : Fault × Symbols). z.1) pairs in
@@ -100,6 +129,9 @@ stopped {d} {c} {xs} p us e (deep {c = a} {i} {ys} m o j lt h t s u w) q =
       deeper = λ _ v vs f. let both : real t ∷ ys ≡ real v ∷ map real vs = s ∙ place ∙ ap (λ (l : L). map real l) f in
           let token : real t ≡ real v = head_is (real t) (real v) ys (map real vs) both in
           record { height = u; within = (front_at (p ++ real v ∷ []) (e ∙ ap (λ l. p ++ l) (ap (λ (l : L). map real l) f ∙ ap (λ l. real v ∷ l) (sym (tail_is (real t) (real v) ys (map real vs) both))) ∙ sym (append_assoc p (real v ∷ []) ys)) w).within };
+      raised = λ _ v vs f. let both : real t ∷ ys ≡ real v ∷ map real vs = s ∙ place ∙ ap (λ (l : L). map real l) f in
+          let token : t ≡ v = real_is t v (head_is (real t) (real v) ys (map real vs) both) in
+          let y = subst (λ (z : Lexeme). Raises z.kind ys) token r in subst (λ z. Raises v.kind z) (tail_is (real t) (real v) ys (map real vs) both) y;
       why = λ f. absurd (clash (ap is_limit (sym m) ∙ ap (λ (z : Fault). is_limit z.cause) same ∙ f));
     }
 

@@ -41,7 +41,9 @@ pub mod NoFront
 pub mod Moves
 pub mod MovesDerived
 pub mod Deletions
+pub mod Nests
 pub mod Fails
+pub mod Onward
 pub mod FrontsLists
 pub mod FrontsPrimary
 pub mod FrontsExpressions

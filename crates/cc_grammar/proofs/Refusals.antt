@@ -17,12 +17,12 @@ use Rattle.cc_grammar.specs.Laws.{IsText}
 use Rattle.cc_grammar.specs.Reading.{Fault, Cause, fault, either, look_token, syntax, refused, read_tokens}
 use Rattle.cc_grammar.specs.Reading as r
 use Rattle.cc_grammar.proofs.Alike.{is_limit}
-use Rattle.cc_grammar.proofs.Fails.{Spot, here, due, left, Why, by_token, by_variable, by_operand, by_element, by_statement, by_name, by_key, by_deletion}
+use Rattle.cc_grammar.proofs.Fails.{Spot, here, due, left, Why, by_token, by_variable, by_operand, by_element, by_statement, by_name, by_key}
 use Rattle.cc_grammar.proofs.Deletions.{Nest, Told, nest_told, nest_found, all_closed}
 use Rattle.cc_grammar.proofs.FrontsProgram.{FrontAt, FrontOf}
 use Rattle.cc_grammar.proofs.Copies.{L, lexemes_real, look_real}
 use Rattle.cc_grammar.proofs.TokenFronts.{Filled, Closed, lexemes_append, shorter, justified_part}
-use Rattle.cc_grammar.proofs.Halts.{Stopped, Halt, halt}
+use Rattle.cc_grammar.proofs.Halts.{Reason, at_next, behind, Stopped, Halt, halt}
 
 -- what is refused at a token, and where it stands
 pub record Refusal (ts : L) (f : Fault) (c : Construct) : Type 0 where
@@ -160,7 +160,9 @@ module _ (ts : L) (f : Fault) (p : Symbols) (t : Lexeme) (vs : L) (tokens : ts �
       (subst (λ y. Begins w.before u (t ∷ vs) y) (same_construct x c (sym (ap (λ (x : Fault). x.cause) e) ∙ q)) (name m n (due_front k.variable u w) (λ (h : is_mark mark.Colon t.kind ≡ true). clash (sym h ∙ o))))
   refusal c q (by_key e (g.at_token u m) n o j w) = earlier w.before u [] c (before_is w.before u [] _ refl w.is) (shorter w.before (any k.key u ∷ []) (due_front k.key u w)) (ap (λ (x : Fault). x.place) e)
       (subst (λ y. Begins w.before u (t ∷ vs) y) (same_construct construct.Accessor c (sym (ap (λ (x : Fault). x.cause) e) ∙ q)) (accessor (ap is_accessor m ∙ n) (due_front k.key u w) o))
-  refusal c q (by_deletion e (g.at_token u m) nest j w) =
+
+  deletion : (c : Construct) → f.cause ≡ refused c → {ys us : Symbols} → f ≡ record { cause = refused construct.DeleteName; place = (look ys).place } → At (k.word word.Delete) ys us → Nest 0 us next → {j : ℕ} → FrontOf (p ++ next) j (due k.operand ys) → Refusal ts f c
+  deletion c q e (g.at_token u m) nest w =
       let h = nest_told nest in
       let x = nest_found false 13 (h.moved []) in
       let is = before_is w.before u h.tokens _ (ap (λ l. real u ∷ l) h.is) w.is in
@@ -169,11 +171,15 @@ module _ (ts : L) (f : Fault) (p : Symbols) (t : Lexeme) (vs : L) (tokens : ts �
       (delete x.height false x.tree h.tokens vs t m (due_front k.operand u w) refl (subst (λ l. E x.height false 13 l x.tree []) (append-nil (map real h.tokens)) (all_closed x)) x.variable
       (subst (λ l. IsFront l) is front) (λ y. sharp (subst (λ l. IsFront l) (sym (append_assoc w.before (real u ∷ map real h.tokens) (real t ∷ [])) ∙ ap (λ l. l ++ real t ∷ []) (sym is)) y))))
 
+  by_reason : {d : ℕ} (c : Construct) → f.cause ≡ refused c → Reason d f p (p ++ next) next → Refusal ts f c
+  by_reason c q (at_next w y) = refusal c q y
+  by_reason c q (behind e o n j le w g) = deletion c q e o n w
+
 -- What reading refuses begins there.
 pub refused_there : (n d : ℕ) {ts us : L} {f : Fault} (c : Construct) → IsText ts → length ts < n → read_tokens n d ts ≡ Err (f, us) → f.cause ≡ refused c → Refusal ts f c
 refused_there n d {ts} {us} {f} c text lt q e =
     let h = halt n d text lt q in
     let l : is_limit f.cause ≡ false = ap is_limit e in
     let s = h.stopped_there in
-    refusal ts f h.before h.token h.after (h.tokens ∙ append_assoc (lexemes_of h.before) (h.token ∷ []) h.after) h.justified s.front
+    by_reason ts f h.before h.token h.after (h.tokens ∙ append_assoc (lexemes_of h.before) (h.token ∷ []) h.after) h.justified s.front
     (λ x. h.none x.height (h.before ++ real h.token ∷ []) x.within h.justified (inl l) (lexemes_append h.before (real h.token ∷ []))) c e (s.why l)
