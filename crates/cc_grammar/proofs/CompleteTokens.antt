@@ -73,7 +73,7 @@ reading {turns} {d} {h} {ts} {b} text lt p le q (read {a} {us} w e j k z) =
           let pairs : ◌≡◌ {A = Sized (List RawStmt) × Symbols} (a, []) ((b, r.height), []) = cc in
           record { height = r.height; low = r.low; is = q ∙ ap (λ (v : Sized (List RawStmt)). Ok (v, [])) (ap (λ (v : Sized (List RawStmt) × Symbols). v.0) pairs) }
 reading {turns} {d} {h} {ts} {b} text lt p le q (copy.stop {c} {us} w e j k z) = absurd (by (halt turns d text lt q)) where
-  by : Halt d ts c → ⊥
+  by : Halt turns d ts c → ⊥
   by s =
       let part = part_front_within p.symbols [] (subst (λ z. Justified z) (sym (append-nil p.symbols)) p.justified) (lexemes_of s.before ++ s.token ∷ []) s.after (p.tokens ∙ s.tokens) d
       (record { more = []; tree = b; derives = subst (λ z. Derives d z b) (sym (append-nil p.symbols)) (record { last = p.derives.last; body = higher_body d le p.derives.body; ends = p.derives.ends }) }) in

@@ -37,7 +37,7 @@ plain_whole (refused x) e = absurd (clash (sym e))
 
 -- ---- where reading stops
 
-module _ (d : ℕ) (ts : L) (c : Fault) (s : Halt d ts c) where
+module _ (n d : ℕ) (ts : L) (c : Fault) (s : Halt n d ts c) where
   number : ℕ
   number = length (lexemes_of s.before)
 
@@ -150,11 +150,11 @@ first_plain_fault turns d ts us f text lt q m = let s = halt turns d text lt q i
   token = s.token;
   after = s.after;
   number = length (lexemes_of s.before);
-  splits = there d ts f s;
-  place = placed d ts f s f.cause refl m;
-  is = fault_there d ts f s f.cause refl m;
-  least = least d ts f s (plain_whole f.cause m);
-  ranked = ranked d ts f s;
+  splits = there turns d ts f s;
+  place = placed turns d ts f s f.cause refl m;
+  is = fault_there turns d ts f s f.cause refl m;
+  least = least turns d ts f s (plain_whole f.cause m);
+  ranked = ranked turns d ts f s;
 }
 
 -- ---- what is read

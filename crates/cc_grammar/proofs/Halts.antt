@@ -24,10 +24,10 @@ use Rattle.cc_grammar.proofs.Deletions.{Nest, nest_told}
 use Rattle.cc_grammar.proofs.Fails.{Why, Raises, Fails, fine, stop, deleted, deep, here, due, anew}
 use Rattle.cc_grammar.proofs.FrontsProgram.{FrontAt, FrontOf, Open, program_fails}
 use Rattle.cc_grammar.proofs.Paired.{is_fresh, Begun, Paired, end_ready, body_ready}
-use Rattle.cc_grammar.proofs.Copies.{L, Copy, end, take, insert, put, put_lexemes, lexemes_real, look_real, Each, each_map, StopsAt, Just, Shut, Bar, Copies, read, Quiet}
+use Rattle.cc_grammar.proofs.Copies.{L, Copy, end, take, insert, put, put_lexemes, lexemes_real, look_real, Each, each_map, StopsAt, Just, Shut, Bar, bar_same, Copies, read, Quiet}
 use Rattle.cc_grammar.proofs.Copies as copies
 use Rattle.cc_grammar.proofs.CopyPrograms.{program_copy}
-use Rattle.cc_grammar.proofs.SoundTokens.{begun_behind, no_limit}
+use Rattle.cc_grammar.proofs.SoundTokens.{at_insertion, begun_behind, no_limit}
 use Rattle.cc_grammar.proofs.TokenFronts.{tail_is, head_is, real_is, same_head, same_tail, nothing_some, lexemes_append, put_front, shorter, first_token, higher_within, justified_before}
 
 -- ---- what is known of the symbols before a stop
@@ -222,8 +222,28 @@ module _ (n d : ℕ) {ts us : L} {c : Fault} (w : Copy ts us) (e : read_symbols 
     pub no_front_there : lexemes_of s ≡ lexemes_of (put w []) ++ t ∷ [] → ⊥
     no_front_there l = walk [] w s refl refl (all_tokens ∙ ap (λ z. z ++ vs) (sym l)) just
 
+-- An insertion behind the symbols: the reader of symbols stops without it at the token that follows.
+pub record Inserts (n d : ℕ) (ts : L) (a : Symbols) : Type 0 where
+  pub tokens : L
+  pub all : ts ≡ lexemes_of a ++ tokens
+  pub holds : StopsAt (read_symbols n d) tokens (a ++ map real tokens)
+
+-- the insertions of the reader of tokens
+pub inserts : (n d : ℕ) {ts us : L} (w : Copy ts us) → Just (read_symbols n d) w → (a b : Symbols) → put w [] ≡ a ++ (inserted ∷ b) → Inserts n d ts a
+inserts n d {us} w j a b e =
+    let i = at_insertion (StopsAt (read_symbols n d)) w [] never j a b e in
+    record {
+      tokens = i.tokens;
+      all = sym (put_lexemes w (map real us) (lexemes_real us)) ∙ ap lexemes_of (put_front w (map real us) ∙ ap (λ z. z ++ map real us) e ∙ append_assoc a (inserted ∷ b) (map real us)) ∙ lexemes_append a (inserted ∷ (b ++ map real us))
+          ∙ ap (λ l. lexemes_of a ++ l) (ap (λ z. lexemes_of (z ++ map real us)) i.is ∙ ap lexemes_of (sym (put_front i.copy (map real us))) ∙ put_lexemes i.copy (map real us) (lexemes_real us));
+      holds = i.holds;
+    } where
+      never : (b a : Symbols) → [] ≡ b ++ (inserted ∷ a) → ⊥
+      never [] a e = cc
+      never (m ∷ b) a e = cc
+
 -- Where reading a text stops, but the turns were enough.
-pub record Halt (d : ℕ) (ts : L) (c : Fault) : Type 0 where
+pub record Halt (n d : ℕ) (ts : L) (c : Fault) : Type 0 where
   pub before : Symbols
   pub token : Lexeme
   pub after : L
@@ -231,10 +251,13 @@ pub record Halt (d : ℕ) (ts : L) (c : Fault) : Type 0 where
   pub justified : Justified (before ++ real token ∷ [])
   pub stopped_there : Stopped d c before (token ∷ after)
   pub none : (h : ℕ) (s : Symbols) → IsFrontWithin h s → Justified s → (is_limit c.cause ≡ false) ⊎ (h ≤ d) → lexemes_of s ≡ lexemes_of before ++ token ∷ [] → ⊥
+  pub reads : read_symbols n d (before ++ map real (token ∷ after)) ≡ Err (c, map real (token ∷ after))
+  pub insertions : (a b : Symbols) → before ≡ a ++ (inserted ∷ b) → Inserts n d ts a
+  pub barred : is_limit c.cause ≡ false → offends token ≡ true → (is_mark mark.Colon token.kind ≡ true) ⊎ Shut (read_symbols n d (before ++ (inserted ∷ map real (token ∷ after)))) (map real (token ∷ after))
 
-pub halt : (n d : ℕ) {ts us : L} {c : Fault} → IsText ts → length ts < n → read_tokens n d ts ≡ Err (c, us) → Halt d ts c
+pub halt : (n d : ℕ) {ts us : L} {c : Fault} → IsText ts → length ts < n → read_tokens n d ts ≡ Err (c, us) → Halt n d ts c
 halt n d {ts} {us} {c} text lt q = by (program_copy n d ts) q where
-  there : {c : Fault} (us : L) (w : Copy ts us) → read_symbols n d (put w (map real us)) ≡ Err (c, map real us) → Just (read_symbols n d) w → Bar c (read_symbols n d) w → Stopped d c (put w []) us → Halt d ts c
+  there : {c : Fault} (us : L) (w : Copy ts us) → read_symbols n d (put w (map real us)) ≡ Err (c, map real us) → Just (read_symbols n d) w → Bar c (read_symbols n d) w → Stopped d c (put w []) us → Halt n d ts c
   there [] w e j z f = absurd (open_text (put w []) f.unclosed text (sym (put_lexemes w [] refl)))
   there (t ∷ vs) w e j z f = record {
     before = put w [];
@@ -244,11 +267,14 @@ halt n d {ts} {us} {c} text lt q = by (program_copy n d ts) q where
     justified = justified_before n d w j t vs refl f.front.within.more (body_ready f.front.within.derives.body (end_ready f.front.within.derives.ends)).paired;
     stopped_there = f;
     none = λ h s x k low. no_front_there n d w e j z f t vs refl h s x k low;
+    reads = ap (read_symbols n d) (sym (put_front w (map real (t ∷ vs)))) ∙ e;
+    insertions = inserts n d w j;
+    barred = λ l o. bar_same (ap (read_symbols n d) (sym (put_front w (inserted ∷ map real (t ∷ vs))))) (z l o);
   }
 
-  by : {o : Outcome L (Sized (List RawStmt))} → Copies false Quiet (read_symbols n d) ts o → o ≡ Err (c, us) → Halt d ts c
+  by : {o : Outcome L (Sized (List RawStmt))} → Copies false Quiet (read_symbols n d) ts o → o ≡ Err (c, us) → Halt n d ts c
   by (read w e j k z) r = absurd (cc)
   by (copies.stop {c = a} {us = v} w e j k z) r =
       let pairs : ◌≡◌ {A = Fault × L} (a, v) (c, us) = cc in
-      subst (λ (x : Fault). Halt d ts x) (ap (λ (x : Fault × L). x.0) pairs)
+      subst (λ (x : Fault). Halt n d ts x) (ap (λ (x : Fault × L). x.0) pairs)
       (there v w e j z (stopped (put w []) v (put_front w (map real v)) (program_fails n d (put w (map real v)) (omega (arith, ap length (put_lexemes w (map real v) (lexemes_real v))))) e))

@@ -66,10 +66,15 @@ pub mod CopyPrograms
 pub mod SoundTokens
 pub mod TokenFronts
 pub mod Halts
+pub mod Meeting
 pub mod FirstFaults
 pub mod Refusals
 pub mod Swap
 pub mod SwapSites
 pub mod SwapAhead
 pub mod SwapExpressions
+pub mod Verdicts
+pub mod Foreign
+pub mod GoesOn
+pub mod Refutations
 pub mod CompleteTokens
