@@ -69,5 +69,6 @@ pub mod Refusals
 pub mod Swap
 pub mod SwapSites
 pub mod SwapAhead
-pub mod SwapExpressions
+pub mod SwapParts
+pub mod SwapLists
 pub mod CompleteTokens

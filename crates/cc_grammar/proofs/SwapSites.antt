@@ -56,8 +56,9 @@ word_free w d (name q) e = let no : false ≡ true = e in absurd (cc)
 word_free w d (accessor q) e = let no : false ≡ true = e in absurd (cc)
 word_free w d delete e = let no : false ≡ true = sym d ∙ e in absurd (cc)
 
-pub same_end : {p : k.Part} {y : Kind} {b : Bool} {c : Construct} {n : Next} (f : Kind → Bool) → f (k.mark mark.Slash) ≡ false → f (k.mark mark.SlashEqual) ≡ false → f (k.mark mark.Comma) ≡ false → f (k.word word.Function) ≡ false → f (k.word word.Delete) ≡ false
-    → ((v : List ℕ) → f (k.name v) ≡ false) → Pair p y b c n → f y ≡ false
+-- what a table has for all such tokens
+pub same_end : {X : Type 0} {o : X} {p : k.Part} {y : Kind} {b : Bool} {c : Construct} {n : Next} (f : Kind → X) → f (k.mark mark.Slash) ≡ o → f (k.mark mark.SlashEqual) ≡ o → f (k.mark mark.Comma) ≡ o → f (k.word word.Function) ≡ o → f (k.word word.Delete) ≡ o
+    → ((v : List ℕ) → f (k.name v) ≡ o) → Pair p y b c n → f y ≡ o
 same_end f a u v w d g slash = a
 same_end f a u v w d g slash_equal = u
 same_end f a u v w d g comma = v

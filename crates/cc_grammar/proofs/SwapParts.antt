@@ -1,4 +1,4 @@
--- Two readings of the same symbols up to a place where a part is due: lists and expressions.
+-- Two readings of the same symbols up to a place where a part is due: variables and parameters, and what is known of what stands inside.
 use Rattle.std.specs.Prelude.{◌≡◌, ℕ, zero, suc, ◌+◌, ◌<◌, ◌≤◌, max, ◌&&◌, ◌==◌, Bool, true, false, Ok, Err, cond, nat_lt, is_some, List, [], ◌∷◌, ◌++◌, Option, Some, None}
 use Rattle.std.proofs.Common.{refl, sym, ap, ◌∙◌, subst, arith, inl, inr}
 use Rattle.cc_ast.specs.declared.operator.BinOp.{BinOp}
@@ -47,7 +47,7 @@ module _ (x : Change) (w : IsPair x) where
   params_swap (suc m) (suc u) found lt = swap_after x variable_swap (λ v. swap_look x (mark_test x w mark.Comma
       (λ _. behind x (params_swap m u (found ++ v ∷ []) (omega arith))) (steady x (swap_close x w mark.CloseParen (found ++ v ∷ [])))))
 
-  params_of_swap : (m u : ℕ) → m ≤ u → Swap x (s.params_of m) (s.params_of u)
+  pub params_of_swap : (m u : ℕ) → m ≤ u → Swap x (s.params_of m) (s.params_of u)
   unfolding r.params_of
   params_of_swap m u lt = swap_look x (mark_test x w mark.CloseParen (λ _. behind x (swap_pure x [])) (steady x (params_swap m u [] lt)))
 
@@ -56,7 +56,7 @@ module _ (x : Change) (w : IsPair x) where
   own_name_later None false = (swap_fail x r.a_variable).later
   own_name_later (Some v) b = (take_then x (λ t. swap_pure x (Some (record { place = t.place; name = v })))).later
 
-  own_name_swap : Swap x s.own_name s.own_name
+  pub own_name_swap : Swap x s.own_name s.own_name
   unfolding r.own_name
   own_name_swap = swap_look x {p = λ t. s.own_name_by (variable_of t.kind) (is_mark mark.OpenParen t.kind)} {q = λ t. s.own_name_by (variable_of t.kind) (is_mark mark.OpenParen t.kind)}
       (record { first = own_name_first w; later = λ t. own_name_later (variable_of t.kind) (is_mark mark.OpenParen t.kind) })
