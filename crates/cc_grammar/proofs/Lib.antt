@@ -71,4 +71,5 @@ pub mod SwapSites
 pub mod SwapAhead
 pub mod SwapParts
 pub mod SwapLists
+pub mod SwapPrimary
 pub mod CompleteTokens
