@@ -72,4 +72,5 @@ pub mod SwapAhead
 pub mod SwapParts
 pub mod SwapLists
 pub mod SwapPrimary
+pub mod SwapOperators
 pub mod CompleteTokens

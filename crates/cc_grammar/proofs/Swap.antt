@@ -131,13 +131,13 @@ module _ (x : Change) where
   pub falls_by : {A : Type 0} {xs : Symbols} {o u : Outcome Symbols A} → o ≡ u → Falls xs u → Falls xs o
   falls_by {xs} e h = let P : Outcome Symbols _ → Type 0 = λ y. Falls xs y in subst P (sym e) h
 
-  err_after : {A B : Type 0} {o : Outcome Symbols A} (f : A → s.Reader B) → IsErr o → IsErr (and_then o f)
+  pub err_after : {A B : Type 0} {o : Outcome Symbols A} (f : A → s.Reader B) → IsErr o → IsErr (and_then o f)
   err_after f is_err = is_err
 
-  limit_after : {A B : Type 0} {o : Outcome Symbols A} (f : A → s.Reader B) → IsLimit o → IsLimit (and_then o f)
+  pub limit_after : {A B : Type 0} {o : Outcome Symbols A} (f : A → s.Reader B) → IsLimit o → IsLimit (and_then o f)
   limit_after f (held e) = held e
 
-  refused_after : {A B : Type 0} {o : Outcome Symbols A} (f : A → s.Reader B) → IsRefused o → IsRefused (and_then o f)
+  pub refused_after : {A B : Type 0} {o : Outcome Symbols A} (f : A → s.Reader B) → IsRefused o → IsRefused (and_then o f)
   refused_after f (is_refused e) = is_refused e
 
   falls_after : {A B : Type 0} {xs : Symbols} {o : Outcome Symbols A} (f : A → s.Reader B) → Falls xs o → Falls xs (and_then o f)

@@ -29,6 +29,11 @@ pub record SwapInner (x : Change) (inner outer : In) : Type 0 where
   pub named : x.part ≡ k.variable → (b : Bool) (l : ℕ) (before : Symbols) → Opens before → Settled x (inner.expr b l) (outer.expr b l) before
   pub keyed : x.part ≡ k.key → (b : Bool) (l : ℕ) (before : Symbols) → Opens before → (xs : Symbols) → IsErr (outer.expr b l (before ++ part x ∷ xs))
 
+-- what makes a tree higher
+pub deeper : {A : Type 0} (x : Change) (d e h : ℕ) (p q : s.Reader A) → Taking x p q
+    → Taking x (λ i. cond (nat_lt h d) (p i) (Err (record { cause = depth; place = (look i).place }, i))) (λ i. cond (nat_lt h e) (q i) (Err (record { cause = depth; place = (look i).place }, i)))
+deeper x d e h p q l = taking_deeper x (nat_lt h d) (nat_lt h e) p q l
+
 module _ (x : Change) (w : IsPair x) where
   -- ---- variables and parameters
 

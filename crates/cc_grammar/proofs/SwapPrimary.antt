@@ -14,9 +14,9 @@ use Rattle.cc_grammar.specs.Reading.{Sized, Head, Suffix, head_of, suffix_of, de
 use Rattle.cc_grammar.specs.Reading as r
 use Rattle.cc_grammar.proofs.Marked.{In}
 use Rattle.cc_grammar.proofs.Alike.{is_err}
-use Rattle.cc_grammar.proofs.Swap.{Next, Change, Pair, slash, slash_equal, comma, function, label, name, accessor, delete, IsPair, barred, Later, Swap, Taking, Look, swap_after, taking_after, swap_pure, swap_look, take_then, behind, swap_fail, swap_limit, taking_deeper, steady, alike_listed, mark_test, swap_close}
+use Rattle.cc_grammar.proofs.Swap.{Next, Change, Pair, slash, slash_equal, comma, function, label, name, accessor, delete, IsPair, barred, Later, Swap, Taking, Look, swap_after, taking_after, swap_pure, swap_look, take_then, behind, swap_fail, swap_stops, swap_limit, steady, alike_listed, mark_test, swap_close}
 use Rattle.cc_grammar.proofs.SwapSites.{primary_first, same_end}
-use Rattle.cc_grammar.proofs.SwapParts.{SwapInner, own_name_swap}
+use Rattle.cc_grammar.proofs.SwapParts.{SwapInner, deeper, own_name_swap}
 use Rattle.cc_grammar.proofs.SwapLists.{elements_swap, fields_swap, arguments_of_swap, function_swap}
 use Rattle.cc_grammar.proofs.OnSymbols as s
 
@@ -25,10 +25,6 @@ no_suffix_at true w = same_end (suffix_of true) refl refl refl refl refl (λ v. 
 no_suffix_at false w = same_end (suffix_of false) refl refl refl refl refl (λ v. refl) w
 
 module _ (x : Change) (w : IsPair x) (d e n o : ℕ) (inner outer : In) (lo : n ≤ o) (all : SwapInner x inner outer) where
-  deeper : {A : Type 0} (h : ℕ) (p q : s.Reader A) → Taking x p q
-      → Taking x (λ i. cond (nat_lt h d) (p i) (Err (record { cause = depth; place = (look i).place }, i))) (λ i. cond (nat_lt h e) (q i) (Err (record { cause = depth; place = (look i).place }, i)))
-  deeper h p q l = taking_deeper x (nat_lt h d) (nat_lt h e) p q l
-
   -- ---- primary expressions
 
   parentheses_swap : Taking x (s.parentheses d n inner) (s.parentheses e o outer)
@@ -59,11 +55,11 @@ module _ (x : Change) (w : IsPair x) (d e n o : ℕ) (inner outer : In) (lo : n 
   primary_later b (r.is_literal p) = (take_then x (λ t. swap_pure x (raw.lit t.place p, 0))).later
   primary_later b (r.is_variable v) = (take_then x (λ t. swap_pure x (raw.var t.place v, 0))).later
   primary_later b r.is_operand = (take_then x (λ t. swap_pure x (raw.lit t.place undefined, 0))).later
-  primary_later b r.is_paren = (deeper 0 _ _ parentheses_swap).later
-  primary_later b r.is_array = (deeper 0 _ _ array_swap).later
-  primary_later b r.is_object = (deeper 0 _ _ object_swap).later
-  primary_later b r.is_function = (deeper 0 _ _ function_expr_swap).later
-  primary_later b r.is_new = (deeper 0 _ _ (new_swap b)).later
+  primary_later b r.is_paren = (deeper x d e 0 _ _ parentheses_swap).later
+  primary_later b r.is_array = (deeper x d e 0 _ _ array_swap).later
+  primary_later b r.is_object = (deeper x d e 0 _ _ object_swap).later
+  primary_later b r.is_function = (deeper x d e 0 _ _ function_expr_swap).later
+  primary_later b r.is_new = (deeper x d e 0 _ _ (new_swap b)).later
 
   pub primary_swap : (b : Bool) → Swap x (s.primary d n inner b) (s.primary e o outer b)
   unfolding r.primary
@@ -99,9 +95,9 @@ module _ (x : Change) (w : IsPair x) (d e n o : ℕ) (inner outer : In) (lo : n 
 
   suffix_later : (again more : Sized RawExpr → s.Reader (Sized RawExpr)) (a : Sized RawExpr) → ((b : Sized RawExpr) → Swap x (again b) (more b)) → (y : Suffix) → Later x (s.suffix_by d n inner again a y) (s.suffix_by e o outer more a y)
   suffix_later again more a h r.no_suffix = (swap_pure x a).later
-  suffix_later again more a h r.by_dot = (deeper a.1 _ _ (taking_after x (dotted_swap a) h)).later
-  suffix_later again more a h r.by_bracket = (deeper a.1 _ _ (taking_after x (bracketed_swap a) h)).later
-  suffix_later again more a h r.by_call = (deeper a.1 _ _ (taking_after x (called_swap a) h)).later
+  suffix_later again more a h r.by_dot = (deeper x d e a.1 _ _ (taking_after x (dotted_swap a) h)).later
+  suffix_later again more a h r.by_bracket = (deeper x d e a.1 _ _ (taking_after x (bracketed_swap a) h)).later
+  suffix_later again more a h r.by_call = (deeper x d e a.1 _ _ (taking_after x (called_swap a) h)).later
 
   suffix_look : (calls : Bool) (again more : Sized RawExpr → s.Reader (Sized RawExpr)) (a : Sized RawExpr) → ((b : Sized RawExpr) → Swap x (again b) (more b))
       → Look x (λ t. s.suffix_by d n inner again a (suffix_of calls t.kind)) (λ t. s.suffix_by e o outer more a (suffix_of calls t.kind))
@@ -109,7 +105,7 @@ module _ (x : Change) (w : IsPair x) (d e n o : ℕ) (inner outer : In) (lo : n 
 
   pub suffixes_swap : (calls : Bool) (m u : ℕ) (a : Sized RawExpr) → m ≤ u → Swap x (s.suffixes d n inner calls m a) (s.suffixes e o outer calls u a)
   unfolding r.suffixes
-  suffixes_swap calls zero zero a lt = swap_look x (suffix_look calls _ _ a (λ b. swap_limit x depth _ refl))
+  suffixes_swap calls zero zero a lt = swap_look x (suffix_look calls _ _ a (λ b. swap_stops x depth))
   suffixes_swap calls zero (suc u) a lt = swap_look x (suffix_look calls _ _ a (λ b. swap_limit x depth (s.suffixes e o outer calls u b) refl))
   suffixes_swap calls (suc m) zero a lt = absurd (omega arith)
   suffixes_swap calls (suc m) (suc u) a lt = swap_look x (suffix_look calls _ _ a (λ b. suffixes_swap calls m u b (omega arith)))
@@ -120,7 +116,7 @@ module _ (x : Change) (w : IsPair x) (d e n o : ℕ) (inner outer : In) (lo : n 
   postfix_later a None g line = (swap_pure x a).later
   postfix_later a (Some up) None line = (swap_pure x a).later
   postfix_later a (Some up) (Some g) true = (swap_pure x a).later
-  postfix_later a (Some up) (Some g) false = (deeper a.1 _ _ (take_then x (λ t. swap_pure x (raw.step t.place up false g, a.1 + 1)))).later
+  postfix_later a (Some up) (Some g) false = (deeper x d e a.1 _ _ (take_then x (λ t. swap_pure x (raw.step t.place up false g, a.1 + 1)))).later
 
   pub postfix_swap : (a : Sized RawExpr) → Swap x (s.postfix d n inner a) (s.postfix e o outer a)
   unfolding r.postfix
