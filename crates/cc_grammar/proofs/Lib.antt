@@ -73,4 +73,5 @@ pub mod SwapParts
 pub mod SwapLists
 pub mod SwapPrimary
 pub mod SwapOperators
+pub mod SwapExpressions
 pub mod CompleteTokens

@@ -20,7 +20,7 @@ use Rattle.cc_grammar.proofs.Alike.{IsErr, is_err, Stands, whole, tail_of, stand
 use Rattle.cc_grammar.proofs.AlikeExpressions.{opened_alike}
 use Rattle.cc_grammar.proofs.Swap.{Next, Change, Pair, slash, slash_equal, comma, function, label, name, accessor, delete, IsPair, IsRefused, IsLimit, held, Swaps, barred, Later, Swap, Taking, Look, part, token, lexeme, first_taken, err_by, limit_by, refused_by, err_after, limit_after, refused_after, swap_after, swap_pure, swap_look, later_look, take_then, behind, swap_fork, later_fork, swap_fail, swap_stops, swap_refuse, swap_limit, steady, test, listed, mark_free, mark_test, swap_expect}
 use Rattle.cc_grammar.proofs.SwapSites.{no_remedy, remedy_free}
-use Rattle.cc_grammar.proofs.SwapAhead.{Opens, Settled, settled_refuses, settled_limited, settled_barred, later_guarded}
+use Rattle.cc_grammar.proofs.SwapAhead.{Opens, Settled, settled_after, settled_by, settled_deeper, later_guarded}
 use Rattle.cc_grammar.proofs.SwapParts.{SwapInner, deeper}
 use Rattle.cc_grammar.proofs.SwapPrimary.{suffixes_swap, postfix_swap}
 use Rattle.cc_grammar.proofs.OnSymbols as s
@@ -70,16 +70,8 @@ module _ (x : Change) (w : IsPair x) (d e n o : ℕ) (inner outer : In) (le : d 
   -- at a name that no variable has, in parentheses behind the operator
   prefix_settled : (b : Bool) (y : Prefix) (m : Symbol) (before : Symbols) → x.part ≡ k.variable → Opens before → Settled x (deep d n inner b y) (deep e o outer b y) (m ∷ before)
   unfolding r.prefix_expr
-  prefix_settled b y m before q u = by (nat_lt 0 d) (nat_lt 0 e) refl refl (all.named q b 13 before u) where
-    by : (v z : Bool) → nat_lt 0 d ≡ v → nat_lt 0 e ≡ z → Settled x (inner.expr b 13) (outer.expr b 13) before → Settled x (deep d n inner b y) (deep e o outer b y) (m ∷ before)
-    by false z f g h = settled_limited (λ xs. limit_by x (ap (λ c. cond c (s.prefix_expr d n inner b y (m ∷ (before ++ token x ∷ xs))) (Err (record { cause = depth; place = (lexeme_of m).place }, m ∷ (before ++ token x ∷ xs)))) f) (held refl))
-    by true false f g h = settled_barred (λ xs. err_by x (ap (λ c. cond c (s.prefix_expr e o outer b y (m ∷ (before ++ part x ∷ xs))) (Err (record { cause = depth; place = (lexeme_of m).place }, m ∷ (before ++ part x ∷ xs)))) g) is_err)
-    by true true f g (settled_refuses h) = settled_refuses (λ xs fits. refused_by x (ap (λ c. cond c (s.prefix_expr d n inner b y (m ∷ (before ++ token x ∷ xs))) (Err (record { cause = depth; place = (lexeme_of m).place }, m ∷ (before ++ token x ∷ xs)))) f)
-        (refused_after x (λ a. s.prefix_by d n inner y (lexeme_of m).place a (prefix_tree y (lexeme_of m).place a.0)) (h xs fits)))
-    by true true f g (settled_limited h) = settled_limited (λ xs. limit_by x (ap (λ c. cond c (s.prefix_expr d n inner b y (m ∷ (before ++ token x ∷ xs))) (Err (record { cause = depth; place = (lexeme_of m).place }, m ∷ (before ++ token x ∷ xs)))) f)
-        (limit_after x (λ a. s.prefix_by d n inner y (lexeme_of m).place a (prefix_tree y (lexeme_of m).place a.0)) (h xs)))
-    by true true f g (settled_barred h) = settled_barred (λ xs. err_by x (ap (λ c. cond c (s.prefix_expr e o outer b y (m ∷ (before ++ part x ∷ xs))) (Err (record { cause = depth; place = (lexeme_of m).place }, m ∷ (before ++ part x ∷ xs)))) g)
-        (err_after x (λ a. s.prefix_by e o outer y (lexeme_of m).place a (prefix_tree y (lexeme_of m).place a.0)) (h xs)))
+  prefix_settled b y m before q u = settled_deeper x (nat_lt 0 d) (nat_lt 0 e) (s.prefix_expr d n inner b y) (s.prefix_expr e o outer b y) (settled_by x (λ xs. refl) (λ xs. refl)
+      (settled_after x (λ a. s.prefix_by d n inner y (lexeme_of m).place a (prefix_tree y (lexeme_of m).place a.0)) (λ a. s.prefix_by e o outer y (lexeme_of m).place a (prefix_tree y (lexeme_of m).place a.0)) (all.named q b 13 before u)))
 
   -- at a key
   prefix_keyed : (b : Bool) (y : Prefix) (m : Symbol) (before : Symbols) → x.part ≡ k.key → Opens before → (xs : Symbols) → IsErr (deep e o outer b y (m ∷ (before ++ part x ∷ xs)))

@@ -71,7 +71,7 @@ same_end f a u v w d g delete = d
 -- ---- variables
 
 -- the fault at a name that no variable has
-name_fault : {t : Lexeme} {b : Bool} {c : Construct} {z : Next} {m : ℕ} {v : List ℕ} {A : Type 0} (d : r.Due) (ys : Symbols) → either None (r.refused_there d (k.name v)) ≡ refused c
+pub name_fault : {t : Lexeme} {b : Bool} {c : Construct} {z : Next} {m : ℕ} {v : List ℕ} {A : Type 0} (d : r.Due) (ys : Symbols) → either None (r.refused_there d (k.name v)) ≡ refused c
     → IsRefused (change t k.variable (k.name v) b c z m) {A = A} (Err (fault d (record t { kind = k.name v }), ys))
 name_fault d ys e = is_refused e
 
@@ -125,7 +125,7 @@ module _ (d e n o : ℕ) (inner outer : In) where
 
   -- ---- primary expressions
 
-  no_head : (v : List ℕ) {c : Construct} → refused_name v ≡ Some c → head_of (k.name v) ≡ r.no_head
+  pub no_head : (v : List ℕ) {c : Construct} → refused_name v ≡ Some c → head_of (k.name v) ≡ r.no_head
   unfolding head_of
   no_head v q = ap (λ a. head_by None (allowed a v) (k.name v)) q
 
