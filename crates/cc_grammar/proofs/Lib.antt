@@ -74,4 +74,5 @@ pub mod SwapLists
 pub mod SwapPrimary
 pub mod SwapOperators
 pub mod SwapExpressions
+pub mod SwapStatements
 pub mod CompleteTokens

@@ -7,7 +7,9 @@ use Rattle.cc_ast.specs.declared.place.Place.{Place}
 use Rattle.cc_ast.specs.declared.reading.Construct.TheVariants as construct
 use Rattle.cc_ast.specs.Syntax.{undefined}
 use Rattle.cc_lexer.specs.declared.token.Mark.TheVariants as mark
-use Rattle.cc_grammar.specs.Symbols.{Kind, Lexeme, Symbol, Symbols, real, look, rest, lexeme_of, is_mark}
+use Rattle.cc_grammar.specs.declared.word.Word.{Word}
+use Rattle.cc_grammar.specs.declared.word.Word.TheVariants as word
+use Rattle.cc_grammar.specs.Symbols.{Kind, Lexeme, Symbol, Symbols, real, look, rest, lexeme_of, is_mark, is_word}
 use Rattle.cc_grammar.specs.Symbols as k
 use Rattle.cc_grammar.specs.RawTree.{RawExpr, RawTarget, RawStmt, RawKey, RawField, Named, exprs, fields, stmts}
 use Rattle.cc_grammar.specs.RawTree as raw
@@ -18,8 +20,8 @@ use Rattle.cc_grammar.specs.Reading.{Outcome, Sized, Head, Suffix, and_then, sem
 use Rattle.cc_grammar.specs.Reading as r
 use Rattle.cc_grammar.proofs.Marked.{In}
 use Rattle.cc_grammar.proofs.Alike.{IsErr, is_err, Stands}
-use Rattle.cc_grammar.proofs.Swap.{Change, IsPair, IsRefused, IsLimit, held, Swaps, stops, barred, passes, limited, refuses, falls, Later, Swap, Taking, Look, part, token, lexeme, first_taken, later_after, swap_after, taking_after, swap_pure, swap_err, look_fail, swap_look, take_then, behind, swap_fork, later_fork, swap_fail, swap_stops, swap_refuse, swap_limit, taking_deeper, steady, test, listed, mark_free, mark_test, swap_expect, swap_close}
-use Rattle.cc_grammar.proofs.SwapSites.{variable_first, own_name_first, element_first, key_first, primary_first, prefix_first, no_remedy, remedy_free, same_end}
+use Rattle.cc_grammar.proofs.Swap.{Change, IsPair, IsRefused, IsLimit, held, Swaps, stops, barred, passes, limited, refuses, falls, Later, Swap, Taking, Look, part, token, lexeme, first_taken, later_after, swap_after, taking_after, swap_pure, swap_err, look_fail, swap_look, take_then, behind, swap_fork, later_fork, swap_fail, swap_stops, swap_refuse, swap_limit, taking_deeper, steady, test, listed, mark_free, mark_test, swap_expect, swap_expect_word, swap_close}
+use Rattle.cc_grammar.proofs.SwapSites.{word_free, variable_first, own_name_first, element_first, key_first, primary_first, prefix_first, no_remedy, remedy_free, same_end}
 use Rattle.cc_grammar.proofs.SwapAhead.{Opens, Settled, later_guarded}
 use Rattle.cc_grammar.proofs.OnSymbols as s
 
@@ -35,6 +37,12 @@ pub deeper : {A : Type 0} (x : Change) (d e h : ℕ) (p q : s.Reader A) → Taki
 deeper x d e h p q l = taking_deeper x (nat_lt h d) (nat_lt h e) p q l
 
 module _ (x : Change) (w : IsPair x) where
+  pub word_test : {A : Type 0} (z : Word) {p q u v : Lexeme → s.Reader A} → is_word z (k.word word.Delete) ≡ false → ((l : Lexeme) → Taking x (p l) (u l)) → Look x q v → Look x (λ l. cond (is_word z l.kind) (p l) (q l)) (λ l. cond (is_word z l.kind) (u l) (v l))
+  word_test z e h l = test x (λ t. is_word z t.kind) refl (word_free z e w) h l
+
+  pub swap_word : (z : Word) → is_word z (k.word word.Delete) ≡ false → Swap x (s.expect_word z) (s.expect_word z)
+  swap_word z e = swap_expect_word x w z (word_free z e w)
+
   -- ---- variables and parameters
 
   variable_later : (v : Option (List ℕ)) → Later x (s.variable_by v) (s.variable_by v)
