@@ -75,4 +75,6 @@ pub mod SwapPrimary
 pub mod SwapOperators
 pub mod SwapExpressions
 pub mod SwapStatements
+pub mod SwapClauses
+pub mod SwapPrograms
 pub mod CompleteTokens

@@ -13,7 +13,7 @@ use Rattle.cc_grammar.specs.RawTree.{RawExpr, RawStmt}
 use Rattle.cc_grammar.specs.Signs.{refused_name, is_accessor, key_of, prefix_of}
 use Rattle.cc_grammar.specs.Signs as sign
 use Rattle.cc_grammar.specs.Grammar.{Context}
-use Rattle.cc_grammar.specs.Reading.{Outcome, Fault, Sized, and_then, fault, either, semicolon_symbol, goes_on, allowed, variable_of, head_by, head_of, is_element, is_remedy, is_ending, start_of, refused}
+use Rattle.cc_grammar.specs.Reading.{Outcome, Fault, Sized, and_then, fault, either, semicolon_symbol, goes_on, allowed, variable_of, head_by, head_of, is_element, is_remedy, ends_return, refused}
 use Rattle.cc_grammar.specs.Reading as r
 use Rattle.cc_grammar.proofs.Alike.{IsErr, is_err, Stands}
 use Rattle.cc_grammar.proofs.Marked.{In}
@@ -44,6 +44,17 @@ remedy_free (label q) = refl
 remedy_free (name q) = refl
 remedy_free (accessor q) = refl
 remedy_free delete = refl
+
+-- both end a `return` on the next line, and only there
+pub ends_alike : (t : Lexeme) {p : k.Part} {y : Kind} {b : Bool} {c : Construct} {n : Next} → Pair p y b c n → ends_return (record t { kind = y }) ≡ ends_return (record t { kind = k.due p })
+ends_alike t slash = refl
+ends_alike t slash_equal = refl
+ends_alike t comma = refl
+ends_alike t function = refl
+ends_alike t (label q) = refl
+ends_alike t (name q) = refl
+ends_alike t (accessor q) = refl
+ends_alike t delete = refl
 
 -- neither `delete` nor `function` is another word
 pub word_free : {p : k.Part} {y : Kind} {b : Bool} {c : Construct} {n : Next} (w : Word) → is_word w (k.word word.Delete) ≡ false → Pair p y b c n → is_word w y ≡ true → b ≡ true
