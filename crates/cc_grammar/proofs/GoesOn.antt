@@ -25,7 +25,7 @@ use Rattle.cc_grammar.proofs.TokenFronts.{head_is, tail_is, not_real, lexemes_ap
 use Rattle.cc_grammar.proofs.Swap.{Pair, IsRefused, is_refused, Falls, falls_there, token}
 use Rattle.cc_grammar.proofs.Swap as swap
 use Rattle.cc_grammar.proofs.SwapSites.{change}
-use Rattle.cc_grammar.proofs.Verdicts.{SwapLaw, Verdict, passing, limiting, refusing, falling, verdict, unlimited}
+use Rattle.cc_grammar.proofs.Verdicts.{Verdict, passing, limiting, refusing, falling, verdict, unlimited}
 use Rattle.cc_grammar.proofs.Foreign.{foreign, Foreign, at_name, at_delete, refused_at_foreign}
 
 abbrev Read : Type 0
@@ -102,7 +102,7 @@ same_construct e = cc
 pub pair_delete : (t : Lexeme) → t.kind ≡ k.word word.Delete → Pair k.operand t.kind false construct.DeleteName swap.deleted
 pair_delete t e = subst (λ z. Pair k.operand z false construct.DeleteName swap.deleted) (sym e) swap.delete
 
-module _ (law : SwapLaw) (q : Symbols) (t : Lexeme) (us : L) (e : t.kind ≡ k.word word.Delete) (due : IsFront (q ++ any k.operand t ∷ [])) (nest : (ws : Symbols) → Nest 0 (map real us ++ ws) ws) (front : IsFront (q ++ real t ∷ map real us)) (u : Lexeme) (onward : goes_on u ≡ true) where
+module _ (q : Symbols) (t : Lexeme) (us : L) (e : t.kind ≡ k.word word.Delete) (due : IsFront (q ++ any k.operand t ∷ [])) (nest : (ws : Symbols) → Nest 0 (map real us ++ ws) ws) (front : IsFront (q ++ real t ∷ map real us)) (u : Lexeme) (onward : goes_on u ≡ true) where
   abbrev whole : Symbols
   whole = (q ++ real t ∷ map real us) ++ real (foreign t) ∷ []
 
@@ -131,10 +131,10 @@ module _ (law : SwapLaw) (q : Symbols) (t : Lexeme) (us : L) (e : t.kind ≡ k.w
   judged (refusing h) = by (read_symbols n front.height whole) refl (subst (λ l. IsRefused (change t k.operand t.kind false construct.DeleteName swap.deleted n) (read_symbols n front.height l)) (sym parts)
       (h (map real us ++ real (foreign t) ∷ []) (real (foreign t) ∷ [], nest_opened n less_behind (nest (real (foreign t) ∷ []))))) where
         by : (o : Read) → read_symbols n front.height whole ≡ o → IsRefused (change t k.operand t.kind false construct.DeleteName swap.deleted n) o → IsFront ((q ++ real t ∷ map real us) ++ real u ∷ [])
-        by o r (is_refused m) = goes r m
+        by o r (is_refused m p) = goes r m
   judged (falling f h) = by (read_symbols n front.height (q ++ real t ∷ [])) refl (h []) where
     by : (o : Read) → read_symbols n front.height (q ++ real t ∷ []) ≡ o → Falls (change t k.operand t.kind false construct.DeleteName swap.deleted n) [] o → IsFront ((q ++ real t ∷ map real us) ++ real u ∷ [])
     by o r (falls_there {f = c} l) = absurd (no_front n front.height q (real t) [] c l r (first_token q (real t) (map real us) front))
 
   pub goes_on_front : IsFront ((q ++ real t ∷ map real us) ++ real u ∷ [])
-  goes_on_front = judged (verdict law (change t k.operand t.kind false construct.DeleteName swap.deleted n) (pair_delete t e) front.height q due)
+  goes_on_front = judged (verdict (change t k.operand t.kind false construct.DeleteName swap.deleted n) (pair_delete t e) front.height q due)

@@ -31,7 +31,7 @@ use Rattle.cc_grammar.proofs.Swap.{Next, Pair, Fitting, anything, no_colon, a_ke
 use Rattle.cc_grammar.proofs.Swap as swap
 use Rattle.cc_grammar.proofs.SwapSites.{change}
 use Rattle.cc_grammar.proofs.Meeting.{Met, inside, one_more, at_end, one_less, Sharp, meets, Along, past, exactly, within, along}
-use Rattle.cc_grammar.proofs.Verdicts.{SwapLaw, Said, said_refused, said_limited, said_passed, said_fallen, said, verdict, no_such_front}
+use Rattle.cc_grammar.proofs.Verdicts.{Said, said_refused, said_limited, said_passed, said_fallen, said, verdict, no_such_front}
 use Rattle.cc_grammar.proofs.GoesOn.{same_tokens, pair_delete}
 use Rattle.cc_grammar.proofs.OnSymbols as symbols
 
@@ -181,7 +181,7 @@ deleting q t us vs u kind due is x v front sharp =
 
 -- ---- at an insertion
 
-module _ (law : SwapLaw) (n d : ℕ) (ts : L) (P : Symbols) (us : L) (c : Course n d ts P us) where
+module _ (n d : ℕ) (ts : L) (P : Symbols) (us : L) (c : Course n d ts P us) where
   -- without the insertion reading stops at the token
   stop_there : (a b : Symbols) → P ≡ a ++ (inserted ∷ b) → (m : Lexeme) (ms : L) → lexemes_of b ++ us ≡ m ∷ ms → read_symbols n d (a ++ real m ∷ map real ms) ≡ Err (fault r.a_token m, real m ∷ map real ms)
   stop_there a b e m ms l =
@@ -196,9 +196,9 @@ module _ (law : SwapLaw) (n d : ℕ) (ts : L) (P : Symbols) (us : L) (c : Course
   -- no such stop is where a part is due
   never_there : {p : k.Part} {y : Construct} {b : Bool} {z : Next} (q : Symbols) (t : Lexeme) (after : L) → Pair p t.kind b y z → IsFront (q ++ any p t ∷ []) → Fitting z n (map real after) → ¬ (z ≡ swap.deleted)
       → read_symbols n d (q ++ real t ∷ map real after) ≡ Err (fault r.a_token t, real t ∷ map real after) → ⊥
-  never_there {p} {y} {b} {z} q t after w due fits other e = by (said (map real after) (verdict law (change t p t.kind b y z n) w d q due) fits e) where
+  never_there {p} {y} {b} {z} q t after w due fits other e = by (said (map real after) (verdict (change t p t.kind b y z n) w d q due) fits e) where
     by : Said (change t p t.kind b y z n) d q (fault r.a_token t) (map real after) (real t ∷ map real after) → ⊥
-    by (said_refused m) = no_syntax (sym (ap (λ o. either o None) (pair_quiet w)) ∙ m)
+    by (said_refused m p) = no_syntax (sym (ap (λ o. either o None) (pair_quiet w)) ∙ m)
     by (said_limited l h) = clash (sym l ∙ no_limit (refused_kind t.kind) None)
     by (said_passed free s) = too_long s
     by (said_fallen o l s) = other o
@@ -242,22 +242,22 @@ module _ (law : SwapLaw) (n d : ℕ) (ts : L) (P : Symbols) (us : L) (c : Course
 
     name_inside : {x : Construct} {v : List ℕ} → t.kind ≡ k.name v → refused_name v ≡ Some x → IsFront (q ++ any k.variable t ∷ []) → next_is (is_mark mark.Colon) after ≡ false → (others : Symbols) → P ≡ q ++ real t ∷ others → Rest P us q t after x
     name_inside h v due other [] e = name_last e h v due other
-    name_inside h v due other (inserted ∷ others) e = absurd (no_such_front law t (name_pair t.kind h v) q (inserted ∷ others) due (λ m more lt. (refl, refl)) (subst (λ z. IsFront z) e c.front))
+    name_inside h v due other (inserted ∷ others) e = absurd (no_such_front t (name_pair t.kind h v) q (inserted ∷ others) due (λ m more lt. (refl, refl)) (subst (λ z. IsFront z) e c.front))
     name_inside h v due other (real w ∷ others) e = let l = behind_token (real w ∷ others) e in
-        absurd (no_such_front law t (name_pair t.kind h v) q (real w ∷ others) due
+        absurd (no_such_front t (name_pair t.kind h v) q (real w ∷ others) due
         (λ m more lt. (ap (next_is (is_mark mark.Colon)) l ∙ other, no_remedy c.text (lexemes_of q ++ t ∷ []) w (lexemes_of others ++ us) (splits ∙ ap (λ z. lexemes_of q ++ t ∷ z) (sym l) ∙ sym (append_assoc (lexemes_of q) (t ∷ []) (w ∷ (lexemes_of others ++ us))))))
         (subst (λ z. IsFront z) e c.front))
 
     key_inside : is_accessor t.kind ≡ true → IsFront (q ++ any k.key t ∷ []) → next_is (λ x. is_some (key_of x)) after ≡ true → (others : Symbols) → P ≡ q ++ real t ∷ others → Rest P us q t after construct.Accessor
     key_inside h due v [] e = key_last e refl h due v
-    key_inside h due v (real w ∷ others) e = absurd (no_such_front law t (key_pair t.kind h) q (real w ∷ others) due (λ m more lt. ap (next_is (λ x. is_some (key_of x))) (behind_token (real w ∷ others) e) ∙ v) (subst (λ z. IsFront z) e c.front))
+    key_inside h due v (real w ∷ others) e = absurd (no_such_front t (key_pair t.kind h) q (real w ∷ others) due (λ m more lt. ap (next_is (λ x. is_some (key_of x))) (behind_token (real w ∷ others) e) ∙ v) (subst (λ z. IsFront z) e c.front))
     key_inside h due v (inserted ∷ others) e = absurd (by after (behind_token (inserted ∷ others) e) v) where
       by : (vs : L) → lexemes_of others ++ us ≡ vs → next_is (λ x. is_some (key_of x)) vs ≡ true → ⊥
       by [] l v = never v
-      by (m ∷ ms) l v = answered (said (real m ∷ map real ms) (verdict law (change t k.key t.kind false construct.Accessor a_key n) (key_pair t.kind h) d q due) v
+      by (m ∷ ms) l v = answered (said (real m ∷ map real ms) (verdict (change t k.key t.kind false construct.Accessor a_key n) (key_pair t.kind h) d q due) v
           (ap (read_symbols n d) (sym (append_assoc q (real t ∷ []) (real m ∷ map real ms))) ∙ stop_there (q ++ real t ∷ []) others (e ∙ sym (append_assoc q (real t ∷ []) (inserted ∷ others))) m ms l)) where
             answered : Said (change t k.key t.kind false construct.Accessor a_key n) d q (fault r.a_token m) (real m ∷ map real ms) (real m ∷ map real ms) → ⊥
-            answered (said_refused w) = key_refuses m.kind v (itself_refused (refused_kind m.kind) construct.Accessor w)
+            answered (said_refused w p) = key_refuses m.kind v (itself_refused (refused_kind m.kind) construct.Accessor w)
             answered (said_limited w z) = clash (sym w ∙ no_limit (refused_kind m.kind) None)
             answered (said_passed free z) = never free
             answered (said_fallen o w z) = absurd (cc)
@@ -266,7 +266,7 @@ module _ (law : SwapLaw) (n d : ℕ) (ts : L) (P : Symbols) (us : L) (c : Course
     delete_inside w others e = by (along P us sharp_there (q ++ real t ∷ []) others w.operand (w.next ∷ w.others) (e ∙ sym (append_assoc q (real t ∷ []) others)) (behind_token others e ∙ w.is)
         (subst (λ z. IsFront z) (sym (append_assoc q (real t ∷ []) (map real w.operand))) w.front)) where
       at_next : (m : Symbol) (more : Symbols) → others ≡ map real w.operand ++ m ∷ more → Rest P us q t after construct.DeleteName
-      at_next inserted more o = absurd (no_such_front law t (pair_delete t w.kind) q others w.due
+      at_next inserted more o = absurd (no_such_front t (pair_delete t w.kind) q others w.due
           (λ m zs lt. (inserted ∷ (more ++ zs), ap (symbols.opened m 0) (ap (λ z. z ++ zs) o ∙ append_assoc (map real w.operand) (inserted ∷ more) zs)
           ∙ nest_opened m (subst (λ z. reals z < m) (ap (λ z. z ++ zs) o ∙ append_assoc (map real w.operand) (inserted ∷ more) zs) lt) (w.nest (inserted ∷ (more ++ zs)))))
           (subst (λ z. IsFront z) e c.front))

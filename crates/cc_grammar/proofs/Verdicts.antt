@@ -15,16 +15,13 @@ use Rattle.cc_grammar.proofs.NoFront.{unread_there}
 use Rattle.cc_grammar.proofs.Fails.{Fails, fine, stop, deleted, deep}
 use Rattle.cc_grammar.proofs.FrontsProgram.{FrontOf, program_fails}
 use Rattle.cc_grammar.proofs.TokenFronts.{lexemes_append}
-use Rattle.cc_grammar.proofs.Swap.{Next, Change, Pair, IsPair, Fitting, Fits, IsLimit, held, IsRefused, is_refused, Falls, falls_there, Swaps, stops, barred, passes, limited, refuses, falls, Swap, swaps_at, part, token}
+use Rattle.cc_grammar.proofs.Swap.{Next, Change, Pair, IsPair, Fitting, Fits, IsLimit, held, IsRefused, is_refused, Falls, falls_there, Swaps, stops, barred, passes, limited, refuses, falls, swaps_at, part, token}
 use Rattle.cc_grammar.proofs.Swap as swap
 use Rattle.cc_grammar.proofs.SwapSites.{change}
+use Rattle.cc_grammar.proofs.SwapPrograms.{program_swap}
 
 abbrev Read : Type 0
 Read = Outcome Symbols (Sized (List RawStmt))
-
--- What reading does with a token, and with the part that is due in its place.
-abbrev pub SwapLaw : Type 0
-SwapLaw = (x : Change) → IsPair x → (n u d e : ℕ) → x.turns ≡ n → n ≤ u → d ≤ e → Swap x (read_symbols n d) (read_symbols u e)
 
 -- ---- answers
 
@@ -40,8 +37,8 @@ answers {f} {g} {xs} {ys} e = let pairs : ◌≡◌ {A = Fault × Symbols} (f, x
 pub limit_is : {x : Change} {o : Read} {f : Fault} {ys : Symbols} → IsLimit x o → o ≡ Err (f, ys) → is_limit f.cause ≡ true
 limit_is (held e) q = ap (λ (z : Fault). is_limit z.cause) (sym (answers q).0) ∙ e
 
-refused_is : {x : Change} {o : Read} {f : Fault} {ys : Symbols} → IsRefused x o → o ≡ Err (f, ys) → f.cause ≡ refused x.construct
-refused_is (is_refused e) q = ap (λ (z : Fault). z.cause) (sym (answers q).0) ∙ e
+refused_is : {x : Change} {o : Read} {f : Fault} {ys : Symbols} → IsRefused x o → o ≡ Err (f, ys) → (f.cause ≡ refused x.construct) × (f.place ≡ x.place.place)
+refused_is (is_refused e p) q = (ap (λ (z : Fault). z.cause) (sym (answers q).0) ∙ e, ap (λ (z : Fault). z.place) (sym (answers q).0) ∙ p)
 
 falls_is : {x : Change} {xs : Symbols} {o : Read} {f : Fault} {ys : Symbols} → Falls x xs o → o ≡ Err (f, ys) → (is_limit f.cause ≡ false) × (ys ≡ token x ∷ xs)
 falls_is (falls_there e) q = (ap (λ (z : Fault). is_limit z.cause) (sym (answers q).0) ∙ e, sym (answers q).1)
@@ -50,7 +47,7 @@ never_limit : {A : Type 0} {x : Change} {o : Read} {a : Sized (List RawStmt) × 
 never_limit q (held e) = ok_err (sym q)
 
 never_refused : {A : Type 0} {x : Change} {o : Read} {a : Sized (List RawStmt) × Symbols} → o ≡ Ok a → IsRefused x o → A
-never_refused q (is_refused e) = ok_err (sym q)
+never_refused q (is_refused e p) = ok_err (sym q)
 
 never_falls : {A : Type 0} {x : Change} {xs : Symbols} {o : Read} {a : Sized (List RawStmt) × Symbols} → o ≡ Ok a → Falls x xs o → A
 never_falls q (falls_there e) = ok_err (sym q)
@@ -93,7 +90,7 @@ pub data Verdict (x : Change) (d : ℕ) (q : Symbols) : Type 0 where
 
 -- an answer to the whole list
 pub data Said (x : Change) (d : ℕ) (q : Symbols) (f : Fault) (xs ys : Symbols) : Type 0 where
-  said_refused : f.cause ≡ refused x.construct → Said x d q f xs ys
+  said_refused : f.cause ≡ refused x.construct → f.place ≡ x.place.place → Said x d q f xs ys
   said_limited : is_limit f.cause ≡ true → IsLimit x (read_symbols x.turns d (q ++ token x ∷ [])) → Said x d q f xs ys
   said_passed : x.free ≡ true → Suffix ys xs → Said x d q f xs ys
   said_fallen : x.next ≡ swap.deleted → is_limit f.cause ≡ false → ys ≡ token x ∷ xs → Said x d q f xs ys
@@ -104,7 +101,7 @@ stood {xs} e h = let P : Read → Type 0 = λ o. Stands xs o in subst P e h
 pub said : {x : Change} {d : ℕ} {q : Symbols} {f : Fault} (xs : Symbols) {ys : Symbols} → Verdict x d q → Fits x xs → read_symbols x.turns d (q ++ token x ∷ xs) ≡ Err (f, ys) → Said x d q f xs ys
 said xs (passing e h) w r = said_passed e (stood r (h xs))
 said xs (limiting h) w r = said_limited (limit_is (h xs) r) (h [])
-said xs (refusing h) w r = said_refused (refused_is (h xs w) r)
+said xs (refusing h) w r = let y = refused_is (h xs w) r in said_refused y.0 y.1
 said xs (falling e h) w r = let y = falls_is (h xs) r in said_fallen e y.0 y.1
 
 never_nothing : {A : Type 0} (a : Symbols) (y : Symbol) (b : Symbols) → a ++ y ∷ b ≡ [] → A
@@ -131,20 +128,19 @@ unread xs b w r (limiting h) = never_limit r (h xs)
 unread xs b w r (refusing h) = never_refused r (h xs w)
 unread xs b w r (falling e h) = never_falls r (h xs)
 
-module _ (law : SwapLaw) where
-  pub verdict : (x : Change) → IsPair x → (d : ℕ) (q : Symbols) → IsFront (q ++ part x ∷ []) → Verdict x d q
-  verdict x w d q front =
-      let y = whole q (part x) [] front.within in
-      let u = max x.turns (suc (reals (q ++ part x ∷ y.more))) in
-      let e = max d front.height in
-      let z = program_read u e front.height (omega arith) (omega arith) y.derives in
-      by_swaps u e y.more z.is (swaps_at x (law x w x.turns u d e refl (omega arith) (omega arith)) q)
+pub verdict : (x : Change) → IsPair x → (d : ℕ) (q : Symbols) → IsFront (q ++ part x ∷ []) → Verdict x d q
+verdict x w d q front =
+    let y = whole q (part x) [] front.within in
+    let u = max x.turns (suc (reals (q ++ part x ∷ y.more))) in
+    let e = max d front.height in
+    let z = program_read u e front.height (omega arith) (omega arith) y.derives in
+    by_swaps u e y.more z.is (swaps_at x (program_swap x w x.turns u d e refl (omega arith) (omega arith)) q)
 
-  -- The token isn't taken, whatever follows.
-  pub no_such_front : {p : k.Part} {c : Construct} {z : Next} (t : Lexeme) → Pair p t.kind false c z → (q zs : Symbols) → IsFront (q ++ any p t ∷ []) → ((n : ℕ) (more : Symbols) → reals (zs ++ more) < n → Fitting z n (zs ++ more))
-      → ¬ (IsFront (q ++ real t ∷ zs))
-  no_such_front {p} {c} {z} t w q zs front fits taken =
-      let y = whole q (real t) zs taken.within in
-      let n = suc (reals (q ++ real t ∷ (zs ++ y.more))) in
-      let r = program_read n taken.height taken.height (omega arith) (omega arith) y.derives in
-      unread {x = change t p t.kind false c z n} {d = taken.height} {q = q} (zs ++ y.more) refl (fits n y.more (behind_less q t (zs ++ y.more))) r.is (verdict (change t p t.kind false c z n) w taken.height q front)
+-- The token isn't taken, whatever follows.
+pub no_such_front : {p : k.Part} {c : Construct} {z : Next} (t : Lexeme) → Pair p t.kind false c z → (q zs : Symbols) → IsFront (q ++ any p t ∷ []) → ((n : ℕ) (more : Symbols) → reals (zs ++ more) < n → Fitting z n (zs ++ more))
+    → ¬ (IsFront (q ++ real t ∷ zs))
+no_such_front {p} {c} {z} t w q zs front fits taken =
+    let y = whole q (real t) zs taken.within in
+    let n = suc (reals (q ++ real t ∷ (zs ++ y.more))) in
+    let r = program_read n taken.height taken.height (omega arith) (omega arith) y.derives in
+    unread {x = change t p t.kind false c z n} {d = taken.height} {q = q} (zs ++ y.more) refl (fits n y.more (behind_less q t (zs ++ y.more))) r.is (verdict (change t p t.kind false c z n) w taken.height q front)
