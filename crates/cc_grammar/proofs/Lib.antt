@@ -84,4 +84,7 @@ pub mod Verdicts
 pub mod Foreign
 pub mod GoesOn
 pub mod Refutations
+pub mod Settled
+pub mod PlainFaults
+pub mod FirstRefusals
 pub mod CompleteTokens
