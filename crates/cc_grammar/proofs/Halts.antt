@@ -37,6 +37,11 @@ abbrev pub is_deletion : Cause → Bool
 is_deletion (refused construct.DeleteName) = true
 is_deletion _ = false
 
+-- a cause that is no refused construct
+abbrev pub is_plain : Cause → Bool
+is_plain (refused c) = false
+is_plain _ = true
+
 -- Why reading the list xs stops behind the symbols p and before i: for the next symbol, behind a front within the depth, or for
 -- a variable that is deleted.
 pub data Reason (d : ℕ) (c : Fault) (p xs i : Symbols) : Type 0 where

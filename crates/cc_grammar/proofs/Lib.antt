@@ -88,3 +88,4 @@ pub mod Settled
 pub mod PlainFaults
 pub mod FirstRefusals
 pub mod CompleteTokens
+pub mod NoFaults

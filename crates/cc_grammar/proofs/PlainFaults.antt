@@ -10,7 +10,7 @@ use Rattle.cc_grammar.specs.Symbols as k
 use Rattle.cc_grammar.specs.Signs.{refused_kind, refused_name, is_accessor, key_of}
 use Rattle.cc_grammar.specs.Fronts.{IsFront}
 use Rattle.cc_grammar.specs.Faults.{any, next_is, Begins, itself, regexp, hole, function, name, accessor, delete, RefusedAt}
-use Rattle.cc_grammar.specs.Laws.{IsText, is_plain}
+use Rattle.cc_grammar.specs.Laws.{IsText}
 use Rattle.cc_grammar.specs.Reading.{Fault, fault, either, is_remedy, refused, read_symbols}
 use Rattle.cc_grammar.specs.Reading as r
 use Rattle.cc_grammar.proofs.Alike.{is_limit}
@@ -23,7 +23,7 @@ use Rattle.cc_grammar.proofs.FrontsProgram.{FrontOf}
 use Rattle.cc_grammar.proofs.Copies.{L}
 use Rattle.cc_grammar.proofs.SoundTokens.{begun_behind}
 use Rattle.cc_grammar.proofs.TokenFronts.{same_head, same_tail, lexemes_append, first_token}
-use Rattle.cc_grammar.proofs.Halts.{Halt, Reason, at_next, behind}
+use Rattle.cc_grammar.proofs.Halts.{Halt, Reason, at_next, behind, is_plain}
 use Rattle.cc_grammar.proofs.Swap.{Next, Pair, Fitting, anything}
 use Rattle.cc_grammar.proofs.Swap as swap
 use Rattle.cc_grammar.proofs.SwapSites.{change}

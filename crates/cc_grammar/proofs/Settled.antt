@@ -11,7 +11,7 @@ use Rattle.cc_grammar.specs.Symbols as k
 use Rattle.cc_grammar.specs.Signs.{refused_kind, refused_name, is_accessor, is_slash, key_of}
 use Rattle.cc_grammar.specs.Fronts.{IsFront, IsFrontWithin, Offends, offending, Justified, offends}
 use Rattle.cc_grammar.specs.Faults.{any, next_is, Begins, itself, regexp, hole, function, name, accessor, delete}
-use Rattle.cc_grammar.specs.Laws.{IsText, is_plain}
+use Rattle.cc_grammar.specs.Laws.{IsText}
 use Rattle.cc_grammar.specs.Reading.{Fault, Cause, fault, either, goes_on, is_remedy, syntax, depth, spent, refused, read_symbols}
 use Rattle.cc_grammar.specs.Reading as r
 use Rattle.cc_grammar.proofs.Shrinks.{reals}
