@@ -6,7 +6,7 @@ use Rattle.cc_grammar.specs.Symbols as k
 use Rattle.cc_grammar.specs.RawTree.{RawStmt}
 use Rattle.cc_grammar.specs.Grammar.{At, at_token}
 use Rattle.cc_grammar.specs.Fronts.{Derives, Justified, ReadsWithin}
-use Rattle.cc_grammar.specs.Laws.{IsText, last, before, IsRead, IsComplete, is_inner}
+use Rattle.cc_grammar.specs.Laws.{IsText, last, before, IsComplete, is_inner}
 use Rattle.cc_grammar.specs.Reading.{Outcome, Sized, read_symbols, read_tokens}
 use Rattle.cc_grammar.proofs.Meets.{Done, ok, err}
 use Rattle.cc_grammar.proofs.Mono.{higher_body}

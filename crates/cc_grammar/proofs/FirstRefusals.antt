@@ -1,5 +1,5 @@
 -- Where reading stops at a refused construct, where it begins, and that no refused construct begins earlier.
-use Rattle.std.specs.Prelude.{◌≡◌, ℕ, suc, ◌+◌, ◌<◌, ◌≤◌, not, Bool, true, false, is_some, Ok, Err, List, [], ◌∷◌, ◌++◌, map, length, ◌⊎◌, Option, Some, None}
+use Rattle.std.specs.Prelude.{◌≡◌, ℕ, suc, ◌+◌, ◌<◌, not, Bool, true, false, is_some, Ok, Err, List, [], ◌∷◌, ◌++◌, map, length, ◌⊎◌, Some, None}
 use Rattle.std.proofs.Common.{refl, sym, ap, ◌∙◌, subst, arith, append_assoc, append-nil, length-append, inl, inr}
 use Rattle.cc_ast.specs.declared.reading.Construct.{Construct}
 use Rattle.cc_ast.specs.declared.reading.Construct.TheVariants as construct
@@ -30,9 +30,9 @@ use Rattle.cc_grammar.proofs.Verdicts.{Verdict, passing, limiting, refusing, fal
 use Rattle.cc_grammar.proofs.Foreign.{foreign, Foreign, refused_at_foreign}
 use Rattle.cc_grammar.proofs.Foreign as before_it
 use Rattle.cc_grammar.proofs.GoesOn.{bare_nest, no_later, other_name, no_deletion, pair_delete}
-use Rattle.cc_grammar.proofs.Refusals.{Refusal, may_stop, Now, firm, part_due, Where, now, at_name, at_key, at_delete, earlier}
+use Rattle.cc_grammar.proofs.Refusals.{Refusal, may_stop, firm, part_due, Where, now, at_name, at_key, at_delete, earlier}
 use Rattle.cc_grammar.proofs.Refutations.{Deleting, key_refuses, name_pair}
-use Rattle.cc_grammar.proofs.Settled.{Answered, by_name, by_key, by_delete, Settled, answered, same_end, firm_end, settled, name_settled, delete_settled, deleted_fits, reads_on}
+use Rattle.cc_grammar.proofs.Settled.{Answered, by_name, by_key, by_delete, Settled, answered, same_end, firm_end, settled, name_settled, delete_settled, reads_on}
 use Rattle.cc_grammar.proofs.PlainFaults.{told}
 use Rattle.cc_grammar.proofs.OnSymbols as symbols
 
@@ -226,9 +226,18 @@ module _ (n d : ℕ) (ts : L) (f : Fault) (text : IsText ts) (enough : length ts
     gone : (w : Deleting v.symbols v.token v.after) → s.before ≡ v.symbols ++ real v.token ∷ map real w.operand → Verdict (change v.token k.operand v.token.kind false construct.DeleteName swap.deleted n) d v.symbols → ⊥
     gone w e (passing free y) = never free
     gone w e (limiting y) = no_limit w.operand e (y (map real v.after))
-    gone w e (refusing y) = refuted (ap (read_symbols n d) (list w.operand e)) (y (map real w.operand ++ real (foreign s.token) ∷ [])
-        (real (foreign s.token) ∷ [], nest_opened n (omega (arith, enough, ap length all, length-append (lexemes_of s.before) (s.token ∷ s.after), count v.symbols v.token w.operand e,
-        ap length (lexemes_append (map real w.operand) (real (foreign s.token) ∷ []) ∙ ap (λ z. z ++ foreign s.token ∷ []) (lexemes_real w.operand)), length-append w.operand (foreign s.token ∷ []))) (w.nest (real (foreign s.token) ∷ []))))
+    gone w e (refusing y) = refuted (ap (read_symbols n d) (list w.operand e)) (y (map real w.operand ++ real (foreign s.token) ∷ []) (
+      real (foreign s.token) ∷ [],
+      nest_opened n (omega (
+        arith,
+        enough,
+        ap length all,
+        length-append (lexemes_of s.before) (s.token ∷ s.after),
+        count v.symbols v.token w.operand e,
+        ap length (lexemes_append (map real w.operand) (real (foreign s.token) ∷ []) ∙ ap (λ z. z ++ foreign s.token ∷ []) (lexemes_real w.operand)),
+        length-append w.operand (foreign s.token ∷ []),
+      )) (w.nest (real (foreign s.token) ∷ [])),
+    ))
     gone w e (falling o y) = fallen (first_token v.symbols (real v.token) (map real w.operand) w.front) refl (y [])
 
     by : Answered n d ts f text enough s v.symbols v.token v.after x → ⊥

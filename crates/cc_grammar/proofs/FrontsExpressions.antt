@@ -1,12 +1,11 @@
 -- Where reading stops, what came before is a front: expressions.
-use Rattle.std.specs.Prelude.{◌≡◌, ℕ, zero, suc, ◌+◌, ◌<◌, ◌≤◌, max, not, Bool, true, false, cond, nat_lt, ◌==◌, is_some, List, [], ◌∷◌, ◌++◌, map, Ok, Err, Option, Some, None}
+use Rattle.std.specs.Prelude.{◌≡◌, ℕ, zero, suc, ◌+◌, ◌<◌, ◌≤◌, max, Bool, true, false, cond, nat_lt, ◌==◌, List, [], ◌∷◌, ◌++◌, map, Ok, Err, Option, Some, None}
 use Rattle.std.proofs.Common.{refl, sym, ap, arith, ◌∙◌, subst, ltb-true, ltb-false, eqb-true}
 use Rattle.std.proofs.lemmas.List.{append_cancel_right}
 use Rattle.cc_ast.specs.declared.operator.BinOp.{BinOp}
 use Rattle.cc_ast.specs.declared.operator.UnOp.TheVariants as op
 use Rattle.cc_ast.specs.declared.place.Place.{Place}
 use Rattle.cc_ast.specs.Syntax.{undefined}
-use Rattle.cc_ast.specs.declared.reading.Construct.TheVariants as construct
 use Rattle.cc_lexer.specs.declared.token.Mark.TheVariants as mark
 use Rattle.cc_grammar.specs.declared.word.Word.TheVariants as word
 use Rattle.cc_grammar.specs.Symbols.{Kind, Lexeme, Symbols, real, look, rest, nowhere, is_mark}
@@ -19,19 +18,19 @@ use Rattle.cc_grammar.specs.Grammar as g
 use Rattle.cc_grammar.specs.Grammar.{At, Sign, Variable, E}
 use Rattle.cc_grammar.specs.Reading.{Outcome, Sized, and_then, is_delete, is_remedy, goes_on, variable_of}
 use Rattle.cc_grammar.specs.Reading as r
-use Rattle.cc_grammar.proofs.Marked.{In, marked, found, expected, seen_variable}
-use Rattle.cc_grammar.proofs.Meets.{Done, ok, err, fork, weaken}
+use Rattle.cc_grammar.proofs.Marked.{In, marked, found, expected}
+use Rattle.cc_grammar.proofs.Meets.{Done, ok, fork, weaken}
 use Rattle.cc_grammar.proofs.Mono.{bounded, above, settable, lower}
 use Rattle.cc_grammar.proofs.Shrinks.{reals, at_less, e_less}
-use Rattle.cc_grammar.proofs.SoundParts.{Derived, Operand, SoundInner}
+use Rattle.cc_grammar.proofs.SoundParts.{Derived, SoundInner}
 use Rattle.cc_grammar.proofs.SoundPrimary.{Chained, callable, primary_sound, suffixes_sound}
 use Rattle.cc_grammar.proofs.SoundExpressions.{lowered, operator_at, postfix_sound, prefixed_sound, Climbs, begin_climb, climbed, climb_sound, conditional_sound, assign_sound}
-use Rattle.cc_grammar.proofs.Moves.{Front, Moved, joined, look_kept}
+use Rattle.cc_grammar.proofs.Moves.{Moved, joined, look_kept}
 use Rattle.cc_grammar.proofs.Deletions.{Nest, nest_told, Found, Looks, looks_true, looks_false, opened_looks, nest_found, all_closed, variable_nest, delete_kind, deletes}
 use Rattle.cc_grammar.proofs.Nests.{nothing_deleted}
 use Rattle.cc_grammar.proofs.MovesDerived.{e_moves}
 use Rattle.cc_grammar.proofs.Steps.{kind_at}
-use Rattle.cc_grammar.proofs.Fails.{token, new_at, taken, again, First, same, fresh, Spot, here, due, anew, left, put, Begun, EE, no_e, e_due, Fails, fine, deleted, fails_after, fails_map, fails_fork, fails_choice, fails_here, expect_fails, names, may_raise, Raises, raises, deeper_fails, at_is, FailsInner}
+use Rattle.cc_grammar.proofs.Fails.{token, new_at, taken, again, same, Spot, here, anew, Begun, EE, no_e, e_due, Fails, fine, deleted, fails_after, fails_map, fails_fork, fails_here, expect_fails, names, may_raise, Raises, raises, deeper_fails, at_is, FailsInner}
 use Rattle.cc_grammar.proofs.Onward.{Mends, onward, mended, mends, delete_other, delete_variable}
 use Rattle.cc_grammar.proofs.FrontsPrimary.{whole_e, lower_begun, primary_fails, suffixes_fail}
 use Rattle.cc_grammar.proofs.OnSymbols as s
@@ -130,20 +129,26 @@ module _ (d n : ℕ) (inner : In) (sound : SoundInner d inner) (all : FailsInner
     there zs = subst (λ l. E f.height b 16 l f.tree zs) (m.front.prefix zs ∙ ap (λ l. l ++ zs) same_tokens) (m.holds zs)
 
     by : Mends b f.height f.tree t → (h : ℕ) × XE b 13 xs h (anew (look xs) q (nest_told n).tokens t us)
-    by (onward y) = (suc y.height, record {
-      front = record { go = λ zs. zs; before = []; prefix = λ zs. refl; is = at_is c };
-      more = y.more;
-      tree = raw.unary (look xs).place op.Delete y.tree;
-      holds = λ zs. g.prefix (omega arith) (omega arith) (again c _) e (y.holds zs (there (real t ∷ y.more zs))) (delete_other o (look xs).place y.tree v y.other);
-      first = λ zs. same refl;
-    })
-    by (mended r) = (suc f.height, record {
-      front = record { go = λ zs. zs; before = []; prefix = λ zs. refl; is = at_is c };
-      more = λ zs. zs;
-      tree = raw.lit (look xs).place undefined;
-      holds = λ zs. g.wrong_prefix (omega arith) (omega arith) (again c _) e (lower 13 (omega arith) (λ z. absurd (omega arith)) (there (real t ∷ zs))) (delete_variable o (look xs).place f.tree v f.variable) (g.at_token t r);
-      first = λ zs. same refl;
-    })
+    by (onward y) = (
+      suc y.height,
+      record {
+        front = record { go = λ zs. zs; before = []; prefix = λ zs. refl; is = at_is c };
+        more = y.more;
+        tree = raw.unary (look xs).place op.Delete y.tree;
+        holds = λ zs. g.prefix (omega arith) (omega arith) (again c _) e (y.holds zs (there (real t ∷ y.more zs))) (delete_other o (look xs).place y.tree v y.other);
+        first = λ zs. same refl;
+      },
+    )
+    by (mended r) = (
+      suc f.height,
+      record {
+        front = record { go = λ zs. zs; before = []; prefix = λ zs. refl; is = at_is c };
+        more = λ zs. zs;
+        tree = raw.lit (look xs).place undefined;
+        holds = λ zs. g.wrong_prefix (omega arith) (omega arith) (again c _) e (lower 13 (omega arith) (λ z. absurd (omega arith)) (there (real t ∷ zs))) (delete_variable o (look xs).place f.tree v f.variable) (g.at_token t r);
+        first = λ zs. same refl;
+      },
+    )
 
   prefix_expr_fails : (b : Bool) (o : Prefix) (xs : Symbols) → 0 < d → reals xs < n → prefix_of (look xs).kind ≡ Some o → Fails (suc d) (XE b 13 xs) (s.prefix_expr d n inner b o xs)
   unfolding r.prefix_expr

@@ -1,6 +1,6 @@
 -- Where reading stops, what came before is a front: jumps, names, `try`, and every statement at every depth.
-use Rattle.std.specs.Prelude.{◌≡◌, ℕ, zero, suc, ◌+◌, ◌<◌, ◌≤◌, max, ◌||◌, Bool, true, false, cond, nat_lt, List, [], ◌∷◌, ◌++◌, Ok, Err, Option, Some, None}
-use Rattle.std.proofs.Common.{refl, inl, inr, sym, ap, arith, ◌∙◌, subst, ltb-true}
+use Rattle.std.specs.Prelude.{◌≡◌, ℕ, suc, ◌+◌, ◌<◌, max, ◌||◌, Bool, true, false, cond, nat_lt, List, [], ◌∷◌, Ok, Err, Option, Some, None}
+use Rattle.std.proofs.Common.{refl, ap, arith, ◌∙◌}
 use Rattle.cc_ast.specs.declared.reading.Construct.{Construct}
 use Rattle.cc_ast.specs.Syntax.{undefined}
 use Rattle.cc_lexer.specs.declared.token.Mark.TheVariants as mark
@@ -14,24 +14,20 @@ use Rattle.cc_grammar.specs.Grammar as g
 use Rattle.cc_grammar.specs.Grammar.{Context, Labels, inside, labelled, is_among, At, Sign, Reserved, E, T, Catch, Finally, is_tail, opens_no_expression}
 use Rattle.cc_grammar.specs.Reading.{Outcome, Sized, Start, and_then, semicolon_symbol, start_of, label_of, ends_return, is_some_label, is_remedy}
 use Rattle.cc_grammar.specs.Reading as r
-use Rattle.cc_grammar.proofs.Marked.{In, consumed, marked, worded, ended}
-use Rattle.cc_grammar.proofs.Meets.{Done, ok, err}
-use Rattle.cc_grammar.proofs.Views.{IsStart, start_is}
-use Rattle.cc_grammar.proofs.Views as view
-use Rattle.cc_grammar.proofs.Shrinks.{reals, at_less, e_less, t_less, catch_less}
+use Rattle.cc_grammar.proofs.Marked.{In, consumed, marked, ended}
+use Rattle.cc_grammar.proofs.Shrinks.{reals, at_less, t_less, catch_less}
 use Rattle.cc_grammar.proofs.SoundParts.{SoundInner}
 use Rattle.cc_grammar.proofs.SoundPrimary.{free}
 use Rattle.cc_grammar.proofs.SoundExpressions.{after_head_sound, expr_sound}
 use Rattle.cc_grammar.proofs.SoundJumps.{Blocked, block_in_sound, catch_sound, finally_sound}
-use Rattle.cc_grammar.proofs.Sound.{reader_sound}
 use Rattle.cc_grammar.proofs.Moves.{Front, stays, joined, Fits, look_kept, kept_fits}
 use Rattle.cc_grammar.proofs.Moves as moves
-use Rattle.cc_grammar.proofs.MovesDerived.{e_moves, t_moves, catch_moves}
-use Rattle.cc_grammar.proofs.Fails.{token, new_at, taken, again, First, same, fresh, Spot, here, due, left, put, Begun, EE, TT, no_e, no_t, Fails, fine, stop, by_name, fails_after, fails_map, fails_fork, fails_choice, fails_here, raises, deeper_fails, XX, FailsInner}
-use Rattle.cc_grammar.proofs.FrontsPrimary.{whole_e, callee_fails}
+use Rattle.cc_grammar.proofs.MovesDerived.{t_moves, catch_moves}
+use Rattle.cc_grammar.proofs.Fails.{token, new_at, taken, again, same, fresh, Spot, here, due, left, Begun, EE, TT, no_t, Fails, fine, stop, by_name, fails_after, fails_map, fails_fork, fails_here, raises, deeper_fails, XX, FailsInner}
+use Rattle.cc_grammar.proofs.FrontsPrimary.{whole_e}
 use Rattle.cc_grammar.proofs.FrontsExpressions.{expr_fails, after_head_fails}
 use Rattle.cc_grammar.proofs.FrontsClauses.{semicolon_fails, end_now, fits_first, no_block, block_in_fails, GG, finally_fails, CA, catch_fails}
-use Rattle.cc_grammar.proofs.FrontsStatements.{simple_begun, OnLine, on_line, no_finally, first_label, simple_fails, plain_fails, vars_fail, block_fails, declaration_fails, declare_word, choice_fails, while_fails, do_while_fails, for_fails, for_open, switch_fails}
+use Rattle.cc_grammar.proofs.FrontsStatements.{simple_begun, OnLine, on_line, no_finally, first_label, simple_fails}
 use Rattle.cc_grammar.proofs.OnSymbols as s
 
 same_line : (a b c d e : Bool) → (a || b || c || d || e) ≡ false → a ≡ false

@@ -1,8 +1,7 @@
 -- Where reading stops, what came before is a front: lists and functions.
-use Rattle.std.specs.Prelude.{◌≡◌, ℕ, zero, suc, ◌+◌, ◌<◌, ◌≤◌, max, ◌&&◌, Bool, true, false, is_some, List, [], ◌∷◌, ◌++◌, Ok, Err, Option, Some, None}
-use Rattle.std.proofs.Common.{refl, inl, inr, sym, ap, arith, ◌∙◌, subst}
+use Rattle.std.specs.Prelude.{◌≡◌, ℕ, zero, suc, ◌<◌, max, ◌&&◌, Bool, true, false, is_some, List, [], ◌∷◌, ◌++◌, Option, Some, None}
+use Rattle.std.proofs.Common.{refl, sym, ap, arith, ◌∙◌}
 use Rattle.cc_ast.specs.declared.place.Place.{Place}
-use Rattle.cc_ast.specs.declared.reading.Construct.TheVariants as construct
 use Rattle.cc_ast.specs.Syntax.{undefined}
 use Rattle.cc_lexer.specs.declared.token.Mark.TheVariants as mark
 use Rattle.cc_grammar.specs.Symbols.{Kind, Symbols, real, look, rest, nowhere, is_mark}
@@ -15,7 +14,6 @@ use Rattle.cc_grammar.specs.Grammar.{Context, of_function, At, Sign, Variable, M
 use Rattle.cc_grammar.specs.Reading.{Outcome, Sized, is_element, ends_list, variable_of, refused}
 use Rattle.cc_grammar.specs.Reading as r
 use Rattle.cc_grammar.proofs.Marked.{In, consumed, marked, found, expected, read_variable}
-use Rattle.cc_grammar.proofs.Meets.{Done, ok, err}
 use Rattle.cc_grammar.proofs.Views.{mark_true, element_true}
 use Rattle.cc_grammar.proofs.Mono.{higher, higher_field, higher_fields, higher_elements, higher_more, higher_t, higher_body}
 use Rattle.cc_grammar.proofs.Shrinks.{reals, at_less, variable_less, params_less, e_less, field_less, t_less}
@@ -24,7 +22,7 @@ use Rattle.cc_grammar.proofs.SoundLists.{key_sound, field_sound, body_sound}
 use Rattle.cc_grammar.proofs.Moves.{Front, stays, joined, Fits, free, look_kept}
 use Rattle.cc_grammar.proofs.Moves as moves
 use Rattle.cc_grammar.proofs.MovesDerived.{e_moves, field_moves, t_moves, params_move}
-use Rattle.cc_grammar.proofs.Fails.{token, new_at, taken, again, variable_taken, variable_again, First, same, fresh, Spot, here, due, left, put, Begun, EE, TT, Fails, fine, stop, by_element, by_key, fails_after, fails_map, fails_fork, fails_choice, fails_here, expect_fails, variable_fails, FailsInner}
+use Rattle.cc_grammar.proofs.Fails.{token, new_at, taken, again, variable_taken, variable_again, First, same, fresh, Spot, here, due, Begun, EE, Fails, fine, stop, by_element, by_key, fails_after, fails_map, fails_fork, fails_here, expect_fails, variable_fails, FailsInner}
 use Rattle.cc_grammar.proofs.OnSymbols as s
 
 -- ---- parameters

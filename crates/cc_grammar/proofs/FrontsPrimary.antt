@@ -1,6 +1,6 @@
 -- Where reading stops, what came before is a front: primary expressions, and what goes on with them by dots, brackets and calls.
-use Rattle.std.specs.Prelude.{◌≡◌, ℕ, zero, suc, ◌+◌, ◌<◌, ◌≤◌, max, Bool, true, false, cond, nat_lt, List, [], ◌∷◌, Ok, Err, Option, Some, None}
-use Rattle.std.proofs.Common.{refl, inl, inr, sym, ap, arith, ◌∙◌, subst, ltb-true}
+use Rattle.std.specs.Prelude.{◌≡◌, ℕ, zero, suc, ◌+◌, ◌<◌, ◌≤◌, max, Bool, true, false, List, [], ◌∷◌, Ok, Option, Some, None}
+use Rattle.std.proofs.Common.{refl, sym, ap, arith, ◌∙◌}
 use Rattle.cc_ast.specs.Syntax.{undefined}
 use Rattle.cc_lexer.specs.declared.token.Mark.TheVariants as mark
 use Rattle.cc_grammar.specs.declared.word.Word.TheVariants as word
@@ -14,16 +14,15 @@ use Rattle.cc_grammar.specs.Grammar.{At, Sign, Reserved, OwnName, E}
 use Rattle.cc_grammar.specs.Reading.{Outcome, Sized, Head, Suffix, and_then, variable_of, head_of, suffix_of}
 use Rattle.cc_grammar.specs.Reading as r
 use Rattle.cc_grammar.proofs.Marked.{In, consumed, marked, expected}
-use Rattle.cc_grammar.proofs.Meets.{Done, ok, err}
 use Rattle.cc_grammar.proofs.Views.{mark_true, IsHead, head_is, IsSuffix, suffix_is}
 use Rattle.cc_grammar.proofs.Views as view
 use Rattle.cc_grammar.proofs.Mono.{lower}
 use Rattle.cc_grammar.proofs.Shrinks.{reals, at_less, e_less, own_less}
-use Rattle.cc_grammar.proofs.SoundParts.{Derived, SoundInner, own_name_sound}
+use Rattle.cc_grammar.proofs.SoundParts.{SoundInner, own_name_sound}
 use Rattle.cc_grammar.proofs.SoundPrimary.{chains, stands, Chained, primary_sound, dotted_sound, bracketed_sound, called_sound}
-use Rattle.cc_grammar.proofs.Moves.{Front, stays, joined, look_kept}
+use Rattle.cc_grammar.proofs.Moves.{stays, joined, look_kept}
 use Rattle.cc_grammar.proofs.MovesDerived.{e_moves, own_moves}
-use Rattle.cc_grammar.proofs.Fails.{token, new_at, taken, again, First, same, fresh, Spot, here, due, left, put, Begun, EE, no_e, e_due, name_due, Fails, fine, stop, variable_missing, operand_missing, fails_after, fails_map, fails_fork, fails_choice, fails_here, expect_fails, raises, deeper_fails, FailsInner}
+use Rattle.cc_grammar.proofs.Fails.{token, new_at, taken, again, same, fresh, Spot, here, due, Begun, EE, no_e, e_due, name_due, Fails, fine, variable_missing, operand_missing, fails_after, fails_map, fails_fork, fails_here, expect_fails, raises, deeper_fails, FailsInner}
 use Rattle.cc_grammar.proofs.FrontsLists.{AA, UU, no_function, all_elements_fail, all_fields_fail, arguments_of_fail, function_fails}
 use Rattle.cc_grammar.proofs.OnSymbols as s
 

@@ -1,7 +1,6 @@
 -- Where reading a list of symbols stops, what came before is a front of a program.
-use Rattle.std.specs.Prelude.{◌≡◌, ℕ, zero, suc, ◌+◌, ◌<◌, ◌≤◌, max, Bool, true, false, cond, nat_lt, List, [], ◌∷◌, ◌++◌, map, Ok, Err, Option, Some, None, ◌⊎◌}
+use Rattle.std.specs.Prelude.{◌≡◌, ℕ, zero, suc, ◌<◌, true, false, cond, nat_lt, List, [], ◌∷◌, ◌++◌, map, Err, ◌⊎◌}
 use Rattle.std.proofs.Common.{refl, sym, ap, arith, ◌∙◌, subst, append_assoc, inl, inr}
-use Rattle.cc_ast.specs.declared.reading.Construct.TheVariants as construct
 use Rattle.cc_lexer.specs.declared.token.Mark.TheVariants as mark
 use Rattle.cc_grammar.specs.declared.word.Word.TheVariants as word
 use Rattle.cc_grammar.specs.Symbols.{Kind, Symbol, Symbols, real, inserted, look, rest, is_mark}
@@ -10,12 +9,11 @@ use Rattle.cc_grammar.specs.RawTree.{RawStmt}
 use Rattle.cc_grammar.specs.Grammar as g
 use Rattle.cc_grammar.specs.Grammar.{Context, of_program, At, T, Body, is_tail, opens_no_expression}
 use Rattle.cc_grammar.specs.Laws.{is_last}
-use Rattle.cc_grammar.specs.Fronts.{Derives, IsFrontWithin, IsFront, is_end}
+use Rattle.cc_grammar.specs.Fronts.{Derives, IsFrontWithin, is_end}
 use Rattle.cc_grammar.specs.Faults.{any}
 use Rattle.cc_grammar.specs.Reading.{Outcome, Sized, Fault, Start, and_then, start_of, read_symbols, refused, depth}
 use Rattle.cc_grammar.specs.Reading as r
 use Rattle.cc_grammar.proofs.Marked.{In, consumed, expected_end}
-use Rattle.cc_grammar.proofs.Meets.{Done, ok, err}
 use Rattle.cc_grammar.proofs.Views.{IsStart, start_is}
 use Rattle.cc_grammar.proofs.Views as view
 use Rattle.cc_grammar.proofs.Shrinks.{reals, at_less}
@@ -27,8 +25,7 @@ use Rattle.cc_grammar.proofs.Moves.{Front, stays, joined}
 use Rattle.cc_grammar.proofs.Moves as moves
 use Rattle.cc_grammar.proofs.MovesDerived.{body_moves}
 use Rattle.cc_grammar.proofs.Paired.{Paired, body_ready}
-use Rattle.cc_grammar.proofs.Alike.{is_limit}
-use Rattle.cc_grammar.proofs.Fails.{token, new_at, taken, again, First, same, fresh, Spot, here, due, left, put, Begun, EE, TT, no_e, no_t, Fails, fine, stop, by_statement, t_due, may_raise, raises, anew, fails_after, fails_map, fails_fork, fails_choice, fails_here, deeper_fails, XX, FailsInner}
+use Rattle.cc_grammar.proofs.Fails.{token, new_at, taken, again, same, Spot, here, due, left, put, Begun, TT, no_t, Fails, fine, stop, by_statement, t_due, may_raise, raises, anew, fails_after, fails_map, fails_fork, fails_choice, fails_here, deeper_fails, XX, FailsInner}
 use Rattle.cc_grammar.proofs.FrontsLists.{BB, CC, no_body, body_fails, statements_fail, no_function}
 use Rattle.cc_grammar.proofs.FrontsPrimary.{callee_fails}
 use Rattle.cc_grammar.proofs.FrontsExpressions.{expr_fails}

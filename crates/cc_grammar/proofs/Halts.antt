@@ -1,5 +1,5 @@
 -- Where the reader of tokens stops, what came before is a front, and what goes on from it with the next token is none.
-use Rattle.std.specs.Prelude.{◌≡◌, ℕ, suc, ◌+◌, ◌<◌, ◌≤◌, max, Bool, true, false, List, [], ◌∷◌, ◌++◌, map, length, Ok, Err, ◌⊎◌}
+use Rattle.std.specs.Prelude.{◌≡◌, ℕ, suc, ◌<◌, ◌≤◌, max, Bool, true, false, List, [], ◌∷◌, ◌++◌, map, length, Err, ◌⊎◌}
 use Rattle.std.proofs.Common.{refl, sym, ap, ◌∙◌, subst, arith, append_assoc, append-nil, inl, inr}
 use Rattle.std.proofs.lemmas.List.{append_cancel_right}
 use Rattle.cc_ast.specs.declared.reading.Construct.TheVariants as construct
@@ -10,7 +10,7 @@ use Rattle.cc_grammar.specs.Symbols as k
 use Rattle.cc_grammar.specs.RawTree.{RawStmt}
 use Rattle.cc_grammar.specs.Grammar.{At}
 use Rattle.cc_grammar.specs.Fronts.{Derives, IsFront, IsFrontWithin, Offends, offending, Justified, offends}
-use Rattle.cc_grammar.specs.Laws.{IsText, last, before, is_last, is_inner}
+use Rattle.cc_grammar.specs.Laws.{IsText, last, before, is_last}
 use Rattle.cc_grammar.specs.Reading.{Outcome, Sized, Fault, Cause, fault, look_token, goes_on, syntax, depth, spent, refused, read_symbols, read_tokens}
 use Rattle.cc_grammar.specs.Reading as r
 use Rattle.cc_grammar.proofs.Views.{mark_true}
@@ -18,7 +18,6 @@ use Rattle.cc_grammar.proofs.Shrinks.{reals}
 use Rattle.cc_grammar.proofs.Complete.{program_read}
 use Rattle.cc_grammar.proofs.Alike.{is_limit, is_spent}
 use Rattle.cc_grammar.proofs.NoFront.{no_front, unread_there}
-use Rattle.cc_grammar.proofs.Mono.{higher_body}
 use Rattle.cc_grammar.proofs.Steps.{kind_at}
 use Rattle.cc_grammar.proofs.Deletions.{Nest, nest_told}
 use Rattle.cc_grammar.proofs.Fails.{Why, Raises, Fails, fine, stop, deleted, deep, here, due, anew}
@@ -28,7 +27,7 @@ use Rattle.cc_grammar.proofs.Copies.{L, Copy, end, take, insert, put, put_lexeme
 use Rattle.cc_grammar.proofs.Copies as copies
 use Rattle.cc_grammar.proofs.CopyPrograms.{program_copy}
 use Rattle.cc_grammar.proofs.SoundTokens.{at_insertion, begun_behind, no_limit}
-use Rattle.cc_grammar.proofs.TokenFronts.{tail_is, head_is, real_is, same_head, same_tail, nothing_some, lexemes_append, put_front, shorter, first_token, higher_within, justified_before}
+use Rattle.cc_grammar.proofs.TokenFronts.{tail_is, head_is, real_is, same_head, same_tail, nothing_some, lexemes_append, put_front, first_token, higher_within, justified_before}
 
 -- ---- what is known of the symbols before a stop
 

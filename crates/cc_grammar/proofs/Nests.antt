@@ -1,8 +1,7 @@
 -- The look ahead behind `delete` finds a variable in parentheses, and tells by the next symbol whether it is the whole operand.
-use Rattle.std.specs.Prelude.{◌≡◌, ℕ, zero, suc, ◌<◌, not, Bool, true, false, Ok, Err}
+use Rattle.std.specs.Prelude.{◌≡◌, ℕ, zero, suc, ◌<◌, not, Bool, true, false, Ok}
 use Rattle.std.proofs.Common.{refl, sym, ap, ◌∙◌, arith}
-use Rattle.cc_grammar.specs.Symbols.{Kind, Symbols, look}
-use Rattle.cc_grammar.specs.Symbols as k
+use Rattle.cc_grammar.specs.Symbols.{Symbols, look}
 use Rattle.cc_grammar.specs.Reading.{Outcome, goes_on}
 use Rattle.cc_grammar.specs.Reading as r
 use Rattle.cc_grammar.proofs.Ahead.{close_step, open_step, at_variable}

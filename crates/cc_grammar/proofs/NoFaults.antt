@@ -1,13 +1,12 @@
 -- What is derived within the depth has no fault.
-use Rattle.std.specs.Prelude.{◌≡◌, ℕ, suc, ◌+◌, ◌<◌, ◌≤◌, Bool, true, false, is_some, List, [], ◌∷◌, ◌++◌, map, length}
-use Rattle.std.proofs.Common.{refl, sym, ap, ◌∙◌, subst, arith, append_assoc, append-nil, length-append}
+use Rattle.std.specs.Prelude.{◌≡◌, ℕ, suc, ◌+◌, ◌≤◌, true, false, is_some, List, [], ◌∷◌, ◌++◌, map, length}
+use Rattle.std.proofs.Common.{sym, ap, ◌∙◌, subst, arith, append_assoc, append-nil, length-append}
 use Rattle.cc_ast.specs.declared.reading.Construct.{Construct}
-use Rattle.cc_grammar.specs.Symbols.{Lexeme, Symbols, real, inserted, lexemes_of}
-use Rattle.cc_grammar.specs.Symbols as k
+use Rattle.cc_grammar.specs.Symbols.{Lexeme, real, inserted, lexemes_of}
 use Rattle.cc_grammar.specs.RawTree.{RawStmt}
 use Rattle.cc_grammar.specs.Signs.{key_of}
 use Rattle.cc_grammar.specs.Fronts.{Derives, IsFrontWithin, Justified, ReadsWithin}
-use Rattle.cc_grammar.specs.Faults.{next_is, FaultAt, RefusedAt}
+use Rattle.cc_grammar.specs.Faults.{next_is, RefusedAt}
 use Rattle.cc_grammar.specs.Laws.{IsText, last, before, is_last, HasNoFault}
 use Rattle.cc_grammar.specs.Reading.{syntax, depth, spent, refused}
 use Rattle.cc_grammar.proofs.Mono.{higher_body}

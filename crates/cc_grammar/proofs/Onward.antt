@@ -1,6 +1,6 @@
 -- What goes on with an operand that is a variable makes it one that can be deleted, or mends it.
-use Rattle.std.specs.Prelude.{◌≡◌, ℕ, suc, not, Bool, true, false, cond, ◌||◌, ◌&&◌, is_some, List, [], ◌∷◌, Option, Some, None}
-use Rattle.std.proofs.Common.{refl, sym, ap, ◌∙◌, arith}
+use Rattle.std.specs.Prelude.{◌≡◌, ℕ, suc, not, Bool, true, false, cond, ◌||◌, ◌&&◌, is_some, [], ◌∷◌, Option, Some, None}
+use Rattle.std.proofs.Common.{refl, ap, arith}
 use Rattle.cc_ast.specs.Syntax.{undefined}
 use Rattle.cc_ast.specs.declared.operator.UnOp.TheVariants as op
 use Rattle.cc_ast.specs.declared.place.Place.{Place}

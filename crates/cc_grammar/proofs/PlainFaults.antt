@@ -1,13 +1,12 @@
 -- Where reading stops, but not at a refused construct, no such construct begins there or earlier.
-use Rattle.std.specs.Prelude.{◌≡◌, ℕ, ◌+◌, ◌<◌, ◌≤◌, Bool, true, false, is_some, List, [], ◌∷◌, ◌++◌, map, length, Option, Some, None}
+use Rattle.std.specs.Prelude.{◌≡◌, ℕ, ◌+◌, ◌<◌, ◌≤◌, Bool, true, false, is_some, List, [], ◌∷◌, ◌++◌, map, length, Some}
 use Rattle.std.proofs.Common.{refl, sym, ap, ◌∙◌, subst, arith, append_assoc, append-nil, length-append}
 use Rattle.std.proofs.lemmas.List.{append_cancel_left, map-append}
 use Rattle.cc_ast.specs.declared.reading.Construct.{Construct}
-use Rattle.cc_ast.specs.declared.reading.Construct.TheVariants as construct
 use Rattle.cc_lexer.specs.declared.token.Mark.TheVariants as mark
 use Rattle.cc_grammar.specs.Symbols.{Kind, Lexeme, Symbol, Symbols, real, inserted, lexemes_of, look, is_mark}
 use Rattle.cc_grammar.specs.Symbols as k
-use Rattle.cc_grammar.specs.Signs.{refused_kind, refused_name, is_accessor, key_of}
+use Rattle.cc_grammar.specs.Signs.{refused_kind, refused_name, key_of}
 use Rattle.cc_grammar.specs.Fronts.{IsFront}
 use Rattle.cc_grammar.specs.Faults.{any, next_is, Begins, itself, regexp, hole, function, name, accessor, delete, RefusedAt}
 use Rattle.cc_grammar.specs.Laws.{IsText}
@@ -16,7 +15,7 @@ use Rattle.cc_grammar.specs.Reading as r
 use Rattle.cc_grammar.proofs.Alike.{is_limit}
 use Rattle.cc_grammar.proofs.NoFront.{no_front, too_long}
 use Rattle.cc_grammar.proofs.Deletions.{Nest}
-use Rattle.cc_grammar.proofs.Paired.{is_fresh, Paired, end_ready, body_ready}
+use Rattle.cc_grammar.proofs.Paired.{Paired, end_ready, body_ready}
 use Rattle.cc_grammar.proofs.Fails.{Why, names}
 use Rattle.cc_grammar.proofs.Fails as why
 use Rattle.cc_grammar.proofs.FrontsProgram.{FrontOf}

@@ -1,6 +1,6 @@
 -- What is refused: the tokens before it are a front, and the construct begins there.
-use Rattle.std.specs.Prelude.{◌≡◌, ℕ, ◌+◌, ◌<◌, ◌≤◌, Bool, true, false, is_some, List, [], ◌∷◌, ◌++◌, map, length, Option, Some, None, ◌⊎◌}
-use Rattle.std.proofs.Common.{refl, sym, ap, ◌∙◌, subst, arith, append_assoc, append-nil, inl, inr}
+use Rattle.std.specs.Prelude.{◌≡◌, ℕ, ◌≤◌, Bool, true, false, List, [], ◌∷◌, ◌++◌, map, length, Option, Some, None, ◌⊎◌}
+use Rattle.std.proofs.Common.{refl, sym, ap, ◌∙◌, subst, append_assoc, append-nil, inl, inr}
 use Rattle.std.proofs.lemmas.List.{append_cancel_right}
 use Rattle.cc_ast.specs.declared.reading.Construct.{Construct}
 use Rattle.cc_ast.specs.declared.reading.Construct.TheVariants as construct
@@ -10,16 +10,16 @@ use Rattle.cc_grammar.specs.Symbols.{Kind, Lexeme, Symbol, Symbols, real, insert
 use Rattle.cc_grammar.specs.Symbols as k
 use Rattle.cc_grammar.specs.Grammar.{At, E}
 use Rattle.cc_grammar.specs.Grammar as g
-use Rattle.cc_grammar.specs.Signs.{refused_kind, refused_name, is_accessor, is_slash, key_of}
+use Rattle.cc_grammar.specs.Signs.{refused_kind, refused_name, is_accessor, is_slash}
 use Rattle.cc_grammar.specs.Fronts.{IsFront, IsFrontWithin, Justified}
 use Rattle.cc_grammar.specs.Faults.{any, Begins, itself, regexp, hole, function, name, accessor, delete, RefusedAt}
 use Rattle.cc_grammar.specs.Reading.{Fault, fault, either, syntax, refused}
 use Rattle.cc_grammar.specs.Reading as r
-use Rattle.cc_grammar.proofs.Fails.{Spot, here, due, left, Why, by_token, by_variable, by_operand, by_element, by_statement, by_name, by_key}
-use Rattle.cc_grammar.proofs.Deletions.{Nest, Told, nest_told, nest_found, all_closed}
-use Rattle.cc_grammar.proofs.FrontsProgram.{FrontAt, FrontOf}
+use Rattle.cc_grammar.proofs.Fails.{due, Why, by_token, by_variable, by_operand, by_element, by_statement, by_name, by_key}
+use Rattle.cc_grammar.proofs.Deletions.{Nest, nest_told, nest_found, all_closed}
+use Rattle.cc_grammar.proofs.FrontsProgram.{FrontOf}
 use Rattle.cc_grammar.proofs.Copies.{L, lexemes_real}
-use Rattle.cc_grammar.proofs.TokenFronts.{Filled, Closed, lexemes_append, shorter, shorter_within, higher_within, justified_part}
+use Rattle.cc_grammar.proofs.TokenFronts.{Filled, Closed, lexemes_append, shorter_within, higher_within, justified_part}
 use Rattle.cc_grammar.proofs.Halts.{Reason, at_next, behind}
 use Rattle.cc_grammar.proofs.GoesOn.{other_name}
 

@@ -1,6 +1,6 @@
 -- A refused construct that begins at a token up to which reading has come: what is left of the cases where it could.
-use Rattle.std.specs.Prelude.{◌≡◌, ℕ, suc, ◌+◌, ◌<◌, ◌≤◌, Bool, true, false, is_some, Ok, Err, List, [], ◌∷◌, ◌++◌, map, length, Option, Some, None}
-use Rattle.std.proofs.Common.{refl, sym, ap, ◌∙◌, subst, arith, append_assoc, append-nil}
+use Rattle.std.specs.Prelude.{◌≡◌, ℕ, ◌<◌, ◌≤◌, Bool, true, false, is_some, Err, List, [], ◌∷◌, ◌++◌, map, length, Option, Some, None}
+use Rattle.std.proofs.Common.{refl, sym, ap, ◌∙◌, subst, append_assoc, append-nil}
 use Rattle.std.proofs.lemmas.List.{append_cancel_left}
 use Rattle.cc_ast.specs.declared.reading.Construct.{Construct}
 use Rattle.cc_ast.specs.declared.reading.Construct.TheVariants as construct
@@ -11,14 +11,13 @@ use Rattle.cc_grammar.specs.Symbols as k
 use Rattle.cc_grammar.specs.RawTree.{RawExpr}
 use Rattle.cc_grammar.specs.Grammar.{E}
 use Rattle.cc_grammar.specs.Signs.{refused_kind, refused_name, is_accessor, is_slash, is_variable, key_of}
-use Rattle.cc_grammar.specs.Fronts.{IsFront, Offends, Justified}
+use Rattle.cc_grammar.specs.Fronts.{IsFront, Justified}
 use Rattle.cc_grammar.specs.Faults.{any, next_is, Begins, itself, regexp, hole, function, name, accessor, delete}
 use Rattle.cc_grammar.specs.Laws.{IsText, is_inner, is_last}
 use Rattle.cc_grammar.specs.Laws as text
 use Rattle.cc_grammar.specs.Reading.{Fault, fault, either, goes_on, is_remedy, syntax, refused, read_symbols}
 use Rattle.cc_grammar.specs.Reading as r
 use Rattle.cc_grammar.proofs.Shrinks.{reals}
-use Rattle.cc_grammar.proofs.Alike.{Suffix, is_limit}
 use Rattle.cc_grammar.proofs.NoFront.{no_front, too_long}
 use Rattle.cc_grammar.proofs.Deletions.{Nest, nest_told, variable_nest}
 use Rattle.cc_grammar.proofs.Nests.{nest_opened}
@@ -187,7 +186,7 @@ module _ (n d : ℕ) (ts : L) (P : Symbols) (us : L) (c : Course n d ts P us) wh
   stop_there a b e m ms l =
       let i = c.insertions a b e in
       let same : i.tokens ≡ m ∷ ms = append_cancel_left (lexemes_of a) i.tokens (m ∷ ms)
-          (sym i.all ∙ c.tokens ∙ ap (λ z. z ++ us) (ap lexemes_of e ∙ lexemes_append a (inserted ∷ b)) ∙ append_assoc (lexemes_of a) (lexemes_of b) us ∙ ap (λ z. lexemes_of a ++ z) l) in
+      (sym i.all ∙ c.tokens ∙ ap (λ z. z ++ us) (ap lexemes_of e ∙ lexemes_append a (inserted ∷ b)) ∙ append_assoc (lexemes_of a) (lexemes_of b) us ∙ ap (λ z. lexemes_of a ++ z) l) in
       subst (λ (v : L). StopsAt (read_symbols n d) v (a ++ map real v)) same i.holds
 
   sharp_there : Sharp P us
@@ -222,9 +221,9 @@ module _ (n d : ℕ) (ts : L) (P : Symbols) (us : L) (c : Course n d ts P us) wh
     firm_more h [] e = one_more_last e h
     firm_more {x} h (m ∷ others) e = absurd (by m (behind_one (m ∷ others) e) (begun_behind q (m ∷ (others ++ c.front.within.more))
         (subst (λ z. Paired z) (ap (λ z. z ++ c.front.within.more) e ∙ append_assoc q (inserted ∷ m ∷ others) c.front.within.more) (body_ready c.front.within.derives.body (end_ready c.front.within.derives.ends)).paired))) where
-      by : (m : Symbol) → lexemes_of (m ∷ others) ++ us ≡ t ∷ after → Begun (m ∷ (others ++ c.front.within.more)) → ⊥
-      by (real w) l b = clash (sym b ∙ ap (λ (z : Lexeme). is_fresh z.kind) (same_head w t (lexemes_of others ++ us) after l) ∙ not_fresh t.kind x h)
-      by inserted l b = b
+          by : (m : Symbol) → lexemes_of (m ∷ others) ++ us ≡ t ∷ after → Begun (m ∷ (others ++ c.front.within.more)) → ⊥
+          by (real w) l b = clash (sym b ∙ ap (λ (z : Lexeme). is_fresh z.kind) (same_head w t (lexemes_of others ++ us) after l) ∙ not_fresh t.kind x h)
+          by inserted l b = b
 
     more_of : {x : Construct} → Begins q t after x → (others : Symbols) → P ≡ q ++ (inserted ∷ others) → Rest P us q t after x
     more_of (itself h s) others e = firm_more h others e
@@ -265,23 +264,26 @@ module _ (n d : ℕ) (ts : L) (P : Symbols) (us : L) (c : Course n d ts P us) wh
     delete_inside : (w : Deleting q t after) (others : Symbols) → P ≡ q ++ real t ∷ others → Rest P us q t after construct.DeleteName
     delete_inside w others e = by (along P us sharp_there (q ++ real t ∷ []) others w.operand (w.next ∷ w.others) (e ∙ sym (append_assoc q (real t ∷ []) others)) (behind_token others e ∙ w.is)
         (subst (λ z. IsFront z) (sym (append_assoc q (real t ∷ []) (map real w.operand))) w.front)) where
-      at_next : (m : Symbol) (more : Symbols) → others ≡ map real w.operand ++ m ∷ more → Rest P us q t after construct.DeleteName
-      at_next inserted more o = absurd (no_such_front t (pair_delete t w.kind) q others w.due
-          (λ m zs lt. (inserted ∷ (more ++ zs), ap (symbols.opened m 0) (ap (λ z. z ++ zs) o ∙ append_assoc (map real w.operand) (inserted ∷ more) zs)
-          ∙ nest_opened m (subst (λ z. reals z < m) (ap (λ z. z ++ zs) o ∙ append_assoc (map real w.operand) (inserted ∷ more) zs) lt) (w.nest (inserted ∷ (more ++ zs)))))
-          (subst (λ z. IsFront z) e c.front))
-      at_next (real u) more o =
-          let l = behind_token others e ∙ w.is in
-          let tokens : lexemes_of others ≡ w.operand ++ u ∷ lexemes_of more = ap lexemes_of o ∙ lexemes_append (map real w.operand) (real u ∷ more) ∙ ap (λ z. z ++ u ∷ lexemes_of more) (lexemes_real w.operand) in
-          let same : u ≡ w.next = same_head u w.next (lexemes_of more ++ us) w.others (append_cancel_left w.operand (u ∷ (lexemes_of more ++ us)) (w.next ∷ w.others)
+          at_next : (m : Symbol) (more : Symbols) → others ≡ map real w.operand ++ m ∷ more → Rest P us q t after construct.DeleteName
+          at_next inserted more o = absurd (no_such_front t (pair_delete t w.kind) q others w.due
+              (λ m zs lt. (
+                inserted ∷ (more ++ zs),
+                ap (symbols.opened m 0) (ap (λ z. z ++ zs) o ∙ append_assoc (map real w.operand) (inserted ∷ more) zs)
+                    ∙ nest_opened m (subst (λ z. reals z < m) (ap (λ z. z ++ zs) o ∙ append_assoc (map real w.operand) (inserted ∷ more) zs) lt) (w.nest (inserted ∷ (more ++ zs))),
+              ))
+              (subst (λ z. IsFront z) e c.front))
+          at_next (real u) more o =
+              let l = behind_token others e ∙ w.is in
+              let tokens : lexemes_of others ≡ w.operand ++ u ∷ lexemes_of more = ap lexemes_of o ∙ lexemes_append (map real w.operand) (real u ∷ more) ∙ ap (λ z. z ++ u ∷ lexemes_of more) (lexemes_real w.operand) in
+              let same : u ≡ w.next = same_head u w.next (lexemes_of more ++ us) w.others (append_cancel_left w.operand (u ∷ (lexemes_of more ++ us)) (w.next ∷ w.others)
               (sym (append_assoc w.operand (u ∷ lexemes_of more) us) ∙ ap (λ z. z ++ us) (sym tokens) ∙ l)) in
-          absurd (w.sharp (subst (λ (v : Lexeme). IsFront (q ++ real t ∷ (map real w.operand ++ real v ∷ []))) same
-          (shorter (q ++ real t ∷ (map real w.operand ++ real u ∷ [])) more (subst (λ z. IsFront z) (e ∙ ap (λ z. q ++ real t ∷ z) (o ∙ sym (append_assoc (map real w.operand) (real u ∷ []) more)) ∙ sym (append_assoc q (real t ∷ (map real w.operand ++ real u ∷ [])) more)) c.front))))
+              absurd (w.sharp (subst (λ (v : Lexeme). IsFront (q ++ real t ∷ (map real w.operand ++ real v ∷ []))) same
+              (shorter (q ++ real t ∷ (map real w.operand ++ real u ∷ [])) more (subst (λ z. IsFront z) (e ∙ ap (λ z. q ++ real t ∷ z) (o ∙ sym (append_assoc (map real w.operand) (real u ∷ []) more)) ∙ sym (append_assoc q (real t ∷ (map real w.operand ++ real u ∷ [])) more)) c.front))))
 
-      by : Along others w.operand us → Rest P us q t after construct.DeleteName
-      by (past m more o) = at_next m more o
-      by (exactly o) = delete_last w (e ∙ ap (λ l. q ++ real t ∷ l) o) refl
-      by (within m some more others' o p s) = delete_within w m some more others' (e ∙ ap (λ l. q ++ real t ∷ l) o) p s refl
+          by : Along others w.operand us → Rest P us q t after construct.DeleteName
+          by (past m more o) = at_next m more o
+          by (exactly o) = delete_last w (e ∙ ap (λ l. q ++ real t ∷ l) o) refl
+          by (within m some more others' o p s) = delete_within w m some more others' (e ∙ ap (λ l. q ++ real t ∷ l) o) p s refl
 
     inside_of : {x : Construct} → Begins q t after x → (others : Symbols) → P ≡ q ++ real t ∷ others → Rest P us q t after x
     inside_of (itself h s) others e = absurd (s (front_there others e))

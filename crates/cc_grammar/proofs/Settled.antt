@@ -1,38 +1,31 @@
 -- A refused construct that begins before reading stops, or where it stops: reading refuses it.
-use Rattle.std.specs.Prelude.{◌≡◌, ℕ, suc, ◌+◌, ◌<◌, ◌≤◌, not, Bool, true, false, is_some, Ok, Err, List, [], ◌∷◌, ◌++◌, map, length, ◌⊎◌, Option, Some, None}
+use Rattle.std.specs.Prelude.{◌≡◌, ℕ, suc, ◌+◌, ◌<◌, ◌≤◌, not, Bool, true, false, is_some, Ok, Err, List, [], ◌∷◌, ◌++◌, map, length, ◌⊎◌, Some, None}
 use Rattle.std.proofs.Common.{refl, sym, ap, ◌∙◌, subst, arith, append_assoc, append-nil, length-append, inl, inr}
 use Rattle.std.proofs.lemmas.List.{append_cancel_left, map-append}
 use Rattle.cc_ast.specs.declared.reading.Construct.{Construct}
 use Rattle.cc_ast.specs.declared.reading.Construct.TheVariants as construct
 use Rattle.cc_lexer.specs.declared.token.Mark.TheVariants as mark
-use Rattle.cc_grammar.specs.declared.word.Word.TheVariants as word
 use Rattle.cc_grammar.specs.Symbols.{Kind, Lexeme, Symbol, Symbols, real, inserted, lexemes_of, look, is_mark}
 use Rattle.cc_grammar.specs.Symbols as k
 use Rattle.cc_grammar.specs.Signs.{refused_kind, refused_name, is_accessor, is_slash, key_of}
 use Rattle.cc_grammar.specs.Fronts.{IsFront, IsFrontWithin, Offends, offending, Justified, offends}
 use Rattle.cc_grammar.specs.Faults.{any, next_is, Begins, itself, regexp, hole, function, name, accessor, delete}
 use Rattle.cc_grammar.specs.Laws.{IsText}
-use Rattle.cc_grammar.specs.Reading.{Fault, Cause, fault, either, goes_on, is_remedy, syntax, depth, spent, refused, read_symbols}
-use Rattle.cc_grammar.specs.Reading as r
+use Rattle.cc_grammar.specs.Reading.{Fault, Cause, goes_on, is_remedy, syntax, depth, spent, refused, read_symbols}
 use Rattle.cc_grammar.proofs.Shrinks.{reals}
-use Rattle.cc_grammar.proofs.Views.{mark_true}
 use Rattle.cc_grammar.proofs.Alike.{is_limit}
-use Rattle.cc_grammar.proofs.NoFront.{no_front, too_long}
+use Rattle.cc_grammar.proofs.NoFront.{no_front}
 use Rattle.cc_grammar.proofs.Nests.{nest_opened}
-use Rattle.cc_grammar.proofs.Paired.{is_fresh, Begun, Paired, end_ready, body_ready}
-use Rattle.cc_grammar.proofs.Fails.{Why, names, Raises}
-use Rattle.cc_grammar.proofs.Fails as why
-use Rattle.cc_grammar.proofs.FrontsProgram.{FrontOf}
+use Rattle.cc_grammar.proofs.Fails.{names}
 use Rattle.cc_grammar.proofs.Copies.{L, Shut, lexemes_real}
-use Rattle.cc_grammar.proofs.SoundTokens.{begun_behind}
-use Rattle.cc_grammar.proofs.TokenFronts.{same_head, same_tail, lexemes_append, shorter, shorter_within, first_token}
-use Rattle.cc_grammar.proofs.Halts.{Halt, Reason, at_next, behind, is_deletion}
+use Rattle.cc_grammar.proofs.TokenFronts.{same_head, same_tail, lexemes_append, shorter, shorter_within}
+use Rattle.cc_grammar.proofs.Halts.{Halt, is_deletion}
 use Rattle.cc_grammar.proofs.Swap.{Change, Next, Pair, Fitting, IsLimit, anything, no_colon, a_key, token}
 use Rattle.cc_grammar.proofs.Swap as swap
 use Rattle.cc_grammar.proofs.SwapSites.{change}
 use Rattle.cc_grammar.proofs.Verdicts.{Said, said_refused, said_limited, said_passed, said_fallen, said, verdict, unlimited}
 use Rattle.cc_grammar.proofs.GoesOn.{pair_delete, goes_on_front}
-use Rattle.cc_grammar.proofs.Refutations.{Course, Deleting, deleting, Rest, at_last, one_more_last, one_less_last, name_last, key_last, delete_last, delete_within, not_fresh, slash_pair, key_pair, comma_pair, function_pair, label_pair, name_pair, next_look, no_remedy, denied, examined}
+use Rattle.cc_grammar.proofs.Refutations.{Course, Deleting, Rest, at_last, one_more_last, one_less_last, name_last, key_last, delete_last, delete_within, key_pair, name_pair, next_look, no_remedy, denied, examined}
 use Rattle.cc_grammar.proofs.OnSymbols as symbols
 
 clash : {A : Type 0} → true ≡ false → A
@@ -133,17 +126,17 @@ module _ (n d : ℕ) (ts : L) (f : Fault) (text : IsText ts) (enough : length ts
     pub name_settled : {x : Construct} {v : List ℕ} → s.before ≡ q ++ real t ∷ [] → t.kind ≡ k.name v → refused_name v ≡ Some x → IsFront (q ++ any k.variable t ∷ []) → next_is (is_mark mark.Colon) after ≡ false → Answered q t after x
     name_settled {x} e h v due other = by (said (map real after) (verdict (change t k.variable t.kind false x no_colon n) (name_pair t.kind h v) d q due)
         (ap (λ (z : L). is_mark mark.Colon (look (map real z)).kind) a ∙ last, ap (λ (z : L). is_remedy (look (map real z)).kind) a ∙ no_remedy text (lexemes_of s.before) s.token s.after all) (reads_on [] e)) where
-      a : after ≡ s.token ∷ s.after
-      a = after_is [] e
+          a : after ≡ s.token ∷ s.after
+          a = after_is [] e
 
-      last : is_mark mark.Colon s.token.kind ≡ false
-      last = ap (next_is (is_mark mark.Colon)) (sym a) ∙ other
+          last : is_mark mark.Colon s.token.kind ≡ false
+          last = ap (next_is (is_mark mark.Colon)) (sym a) ∙ other
 
-      by : Said (change t k.variable t.kind false x no_colon n) d q f (map real after) (map real (s.token ∷ s.after)) → Answered q t after x
-      by (said_refused m p) = by_name e h v due last m p
-      by (said_limited l z) = absurd (low [] e l z)
-      by (said_passed free z) = never free
-      by (said_fallen o l z) = absurd (cc)
+          by : Said (change t k.variable t.kind false x no_colon n) d q f (map real after) (map real (s.token ∷ s.after)) → Answered q t after x
+          by (said_refused m p) = by_name e h v due last m p
+          by (said_limited l z) = absurd (low [] e l z)
+          by (said_passed free z) = never free
+          by (said_fallen o l z) = absurd (cc)
 
     key_settled : s.before ≡ q ++ real t ∷ [] → is_accessor t.kind ≡ true → IsFront (q ++ any k.key t ∷ []) → next_is (λ x. is_some (key_of x)) after ≡ true → Answered q t after construct.Accessor
     key_settled e h due v = by (said (map real after) (verdict (change t k.key t.kind false construct.Accessor a_key n) (key_pair t.kind h) d q due) (sym (next_look (λ x. is_some (key_of x)) after refl) ∙ v) (reads_on [] e)) where

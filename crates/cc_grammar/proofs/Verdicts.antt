@@ -1,5 +1,5 @@
 -- Where a part is due behind a front, and a token that is refused there stands in its place: what reading does with the token.
-use Rattle.std.specs.Prelude.{◌≡◌, ℕ, suc, ◌<◌, ◌≤◌, max, Bool, true, false, Ok, Err, Result, List, [], ◌∷◌, ◌++◌, length}
+use Rattle.std.specs.Prelude.{◌≡◌, ℕ, suc, ◌<◌, max, true, false, Ok, Err, Result, List, [], ◌∷◌, ◌++◌, length}
 use Rattle.std.proofs.Common.{refl, sym, ap, ◌∙◌, subst, arith, append_assoc, length-append}
 use Rattle.cc_ast.specs.declared.reading.Construct.{Construct}
 use Rattle.cc_grammar.specs.Symbols.{Lexeme, Symbol, Symbols, real, lexemes_of}

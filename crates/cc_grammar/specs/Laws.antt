@@ -6,7 +6,7 @@ use Rattle.cc_grammar.specs.RawTree.{RawStmt, stmts}
 use Rattle.cc_grammar.specs.Sizes.{of_stmts}
 use Rattle.cc_grammar.specs.Fronts.{ReadsWithin}
 use Rattle.cc_grammar.specs.Faults.{Splits, FirstFault, FaultAt}
-use Rattle.cc_grammar.specs.Reading.{Cause, Fault, refused, read_tokens}
+use Rattle.cc_grammar.specs.Reading.{Cause, Fault, read_tokens}
 
 -- a token that stands in a text, and is not its end
 abbrev pub is_inner : Kind → Bool
