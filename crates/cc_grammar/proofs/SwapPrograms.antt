@@ -1,7 +1,6 @@
 -- Two readings of the same symbols up to a place where a part is due: statements and programs.
-use Rattle.std.specs.Prelude.{◌≡◌, ℕ, zero, suc, ◌≤◌, Bool, true, false, cond, nat_lt, Ok, Err, List, [], ◌∷◌, ◌++◌, Option, Some, None}
-use Rattle.std.proofs.Common.{refl, sym, ap, ◌∙◌, arith}
-use Rattle.cc_ast.specs.declared.place.Place.{Place}
+use Rattle.std.specs.Prelude.{◌≡◌, ℕ, zero, suc, ◌≤◌, Bool, true, false, cond, nat_lt, Ok, Err, List, [], ◌∷◌, ◌++◌, Some}
+use Rattle.std.proofs.Common.{refl, ap, ◌∙◌, arith}
 use Rattle.cc_ast.specs.declared.reading.Construct.{Construct}
 use Rattle.cc_ast.specs.declared.reading.Construct.TheVariants as construct
 use Rattle.cc_lexer.specs.declared.token.Mark.TheVariants as mark
@@ -15,7 +14,7 @@ use Rattle.cc_grammar.specs.Reading.{Outcome, Sized, Start, semicolon_symbol, he
 use Rattle.cc_grammar.specs.Reading as r
 use Rattle.cc_grammar.proofs.Marked.{In}
 use Rattle.cc_grammar.proofs.Alike.{IsErr, is_err}
-use Rattle.cc_grammar.proofs.Swap.{Next, no_colon, Change, Pair, slash, slash_equal, comma, function, label, name, accessor, delete, IsPair, IsRefused, is_refused, held, Swaps, barred, refuses, Later, Swap, Taking, part, first_taken, refused_by, swap_after, swap_pure, swap_look, behind, later_fork, swap_stops, swap_limit, swap_expect_end}
+use Rattle.cc_grammar.proofs.Swap.{Next, Change, Pair, slash, slash_equal, comma, function, label, name, accessor, delete, IsPair, IsRefused, is_refused, held, Swaps, barred, refuses, Later, Swap, Taking, part, first_taken, refused_by, swap_after, swap_pure, swap_look, behind, later_fork, swap_stops, swap_limit, swap_expect_end}
 use Rattle.cc_grammar.proofs.SwapSites.{change}
 use Rattle.cc_grammar.proofs.SwapAhead.{Opens, settled_limited}
 use Rattle.cc_grammar.proofs.SwapParts.{SwapInner, deeper}
@@ -35,7 +34,7 @@ module _ (d e n o : ℕ) (inner outer : In) (h : Context) where
     by : (c : Bool) → Swaps (change t k.statement (k.word word.Function) b construct.BlockFunction z m)
         (cond c (λ i. cond (nat_lt 0 d) (s.declaration d n inner i) (Err (record { cause = depth; place = (look i).place }, i))) (r.stops Symbols look rest semicolon_symbol (refused construct.BlockFunction))) u []
     by true = first_taken _ free (deeper _ d e 0 _ _ l)
-    by false = refuses (λ xs _. is_refused refl)
+    by false = refuses (λ xs _. is_refused refl refl)
 
   -- a name that no variable has, and no colon behind it
   name_refused : {t : Lexeme} {p : k.Part} {b : Bool} {c : Construct} {z : Next} {m : ℕ} (v : List ℕ) (xs : Symbols) → refused_name v ≡ Some c → is_mark mark.Colon (look xs).kind ≡ false → is_remedy (look xs).kind ≡ false
@@ -43,7 +42,7 @@ module _ (d e n o : ℕ) (inner outer : In) (h : Context) where
   unfolding r.begins_with_name
   name_refused {t} {c} v xs q f g = refused_by _ (ap (λ y. s.name_by d n inner h t.place v y (is_mark mark.Colon (look xs).kind) xs) q
       ∙ ap (λ y. s.name_by d n inner h t.place v (Some c) y xs) f
-      ∙ ap (λ y. cond y (λ i. Ok (([], 0), rest i)) (r.refuse Symbols look rest semicolon_symbol c t.place) xs) g) (is_refused refl)
+      ∙ ap (λ y. cond y (λ i. Ok (([], 0), rest i)) (r.refuse Symbols look rest semicolon_symbol c t.place) xs) g) (is_refused refl refl)
 
   -- no statement begins with a key
   key_barred : (t : Lexeme) (xs : Symbols) → IsErr (s.stmt_by e o outer h r.is_plain (real (record t { kind = k.due k.key }) ∷ xs))

@@ -1,6 +1,6 @@
 -- The places where a part is due: what becomes there of a token that is refused.
-use Rattle.std.specs.Prelude.{◌≡◌, ℕ, not, Bool, true, false, ◌&&◌, Ok, Err, cond, nat_lt, is_some, List, [], ◌∷◌, ◌++◌, Option, Some, None}
-use Rattle.std.proofs.Common.{refl, sym, ap, ◌∙◌, subst}
+use Rattle.std.specs.Prelude.{◌≡◌, ℕ, Bool, true, false, ◌&&◌, Err, cond, nat_lt, is_some, List, [], ◌∷◌, Some, None}
+use Rattle.std.proofs.Common.{refl, sym, ap, ◌∙◌}
 use Rattle.cc_ast.specs.declared.operator.UnOp.TheVariants as op
 use Rattle.cc_ast.specs.declared.reading.Construct.{Construct}
 use Rattle.cc_ast.specs.declared.reading.Construct.TheVariants as construct
@@ -12,12 +12,11 @@ use Rattle.cc_grammar.specs.Symbols as k
 use Rattle.cc_grammar.specs.RawTree.{RawExpr, RawStmt}
 use Rattle.cc_grammar.specs.Signs.{refused_name, is_accessor, key_of, prefix_of}
 use Rattle.cc_grammar.specs.Signs as sign
-use Rattle.cc_grammar.specs.Grammar.{Context}
 use Rattle.cc_grammar.specs.Reading.{Outcome, Fault, Sized, and_then, fault, either, semicolon_symbol, goes_on, allowed, variable_of, head_by, head_of, is_element, is_remedy, ends_return, refused}
 use Rattle.cc_grammar.specs.Reading as r
-use Rattle.cc_grammar.proofs.Alike.{IsErr, is_err, Stands}
+use Rattle.cc_grammar.proofs.Alike.{is_err}
 use Rattle.cc_grammar.proofs.Marked.{In}
-use Rattle.cc_grammar.proofs.Swap.{Next, anything, no_colon, a_key, deleted, Change, Pair, slash, slash_equal, comma, function, label, name, accessor, delete, IsPair, IsRefused, is_refused, Falls, falls_there, Swaps, stops, barred, passes, limited, refuses, falls, Swap, Taking, first_taken, refused_by}
+use Rattle.cc_grammar.proofs.Swap.{Next, Change, Pair, slash, slash_equal, comma, function, label, name, accessor, delete, IsRefused, is_refused, falls_there, Swaps, barred, refuses, falls, refused_by}
 use Rattle.cc_grammar.proofs.OnSymbols as s
 
 abbrev pub change : Lexeme → k.Part → Kind → Bool → Construct → Next → ℕ → Change
@@ -84,7 +83,7 @@ same_end f a u v w d g delete = d
 -- the fault at a name that no variable has
 pub name_fault : {t : Lexeme} {b : Bool} {c : Construct} {z : Next} {m : ℕ} {v : List ℕ} {A : Type 0} (d : r.Due) (ys : Symbols) → either None (r.refused_there d (k.name v)) ≡ refused c
     → IsRefused (change t k.variable (k.name v) b c z m) {A = A} (Err (fault d (record t { kind = k.name v }), ys))
-name_fault d ys e = is_refused e
+name_fault d ys e = is_refused e refl
 
 pub variable_first : {t : Lexeme} {p : k.Part} {y : Kind} {b : Bool} {c : Construct} {z : Next} {m : ℕ} → Pair p y b c z → Swaps (change t p y b c z m) (s.variable_by (variable_of y)) (s.variable_by (variable_of (k.due p))) []
 variable_first slash = barred (λ xs. is_err)
@@ -114,7 +113,7 @@ pub element_first : {A : Type 0} {t : Lexeme} {p : k.Part} {y : Kind} {b : Bool}
     (cond (is_element (k.due p)) u (cond (is_mark mark.Comma (k.due p)) (r.stops Symbols look rest semicolon_symbol (refused construct.Hole)) v)) []
 element_first f g u v slash h = h
 element_first f g u v slash_equal h = h
-element_first f g u v comma h = refuses (λ xs _. is_refused refl)
+element_first f g u v comma h = refuses (λ xs _. is_refused refl refl)
 element_first f g u v function h = h
 element_first f g u v (label q) h = h
 element_first f g u v (name q) h = h
@@ -131,7 +130,7 @@ module _ (d e n o : ℕ) (inner outer : In) where
   key_first (name q) = barred (λ xs. is_err)
   key_first {t} (accessor {n = v} q) = refuses (λ xs f. refused_by _
       (ap (λ a. cond (a && is_some (key_of (look xs).kind)) (r.refuse Symbols look rest semicolon_symbol construct.Accessor t.place) (r.pure Symbols look rest semicolon_symbol (t.place, Rattle.cc_grammar.specs.RawTree.dotted v)) xs) q
-      ∙ ap (λ a. cond a (r.refuse Symbols look rest semicolon_symbol construct.Accessor t.place) (r.pure Symbols look rest semicolon_symbol (t.place, Rattle.cc_grammar.specs.RawTree.dotted v)) xs) f) (is_refused refl))
+      ∙ ap (λ a. cond a (r.refuse Symbols look rest semicolon_symbol construct.Accessor t.place) (r.pure Symbols look rest semicolon_symbol (t.place, Rattle.cc_grammar.specs.RawTree.dotted v)) xs) f) (is_refused refl refl))
   key_first delete = barred (λ xs. is_err)
 
   -- ---- primary expressions
@@ -142,8 +141,8 @@ module _ (d e n o : ℕ) (inner outer : In) where
 
   pub primary_first : (l : Bool) {t : Lexeme} {p : k.Part} {y : Kind} {b : Bool} {c : Construct} {z : Next} {m : ℕ} → Pair p y b c z → Swaps (change t p y b c z m) (s.primary_by d n inner l (head_of y)) (s.primary_by e o outer l (head_of (k.due p))) []
   unfolding head_of
-  primary_first l slash = refuses (λ xs _. is_refused refl)
-  primary_first l slash_equal = refuses (λ xs _. is_refused refl)
+  primary_first l slash = refuses (λ xs _. is_refused refl refl)
+  primary_first l slash_equal = refuses (λ xs _. is_refused refl refl)
   primary_first l comma = barred (λ xs. is_err)
   primary_first l function = barred (λ xs. is_err)
   primary_first l {t} (label {n = v} q) = refuses (λ xs _. refused_by _ (ap (λ h. s.primary_by d n inner l h (real (record t { kind = k.name v }) ∷ xs)) (no_head v q)) (name_fault r.an_operand (real (record t { kind = k.name v }) ∷ xs) (ap (either None) q)))
@@ -165,4 +164,4 @@ module _ (d e n o : ℕ) (inner outer : In) where
   prefix_first l u (accessor q) h = h
   prefix_first l u {t} delete h = refuses (λ xs f. refused_by _
       (ap (λ w. and_then (r.unless_deleted Symbols look rest semicolon_symbol w t.place (cond (nat_lt 0 d) (s.prefix_expr d n inner l (sign.unary op.Delete) (real (record t { kind = k.word word.Delete }) ∷ xs)) (Err (record { cause = r.depth; place = t.place }, real (record t { kind = k.word word.Delete }) ∷ xs)))) (s.after_unary d n inner l u)) f.1)
-      (is_refused refl))
+      (is_refused refl refl))
