@@ -1,6 +1,6 @@
 -- Two readings of the same symbols, up to a place where one has a part that is due and the other a token that is refused
 -- there: what the two have in common up to that place, and what becomes of the token.
-use Rattle.std.specs.Prelude.{◌≡◌, ℕ, Bool, true, false, Ok, Err, cond, nat_lt, is_some, List, [], ◌∷◌, ◌++◌, ◌⊎◌, Option, Some, None}
+use Rattle.std.specs.Prelude.{◌≡◌, ℕ, Bool, true, false, Ok, Err, cond, is_some, List, [], ◌∷◌, ◌++◌, ◌⊎◌, Option, Some, None}
 use Rattle.std.proofs.Common.{refl, sym, ap, ◌∙◌, subst, inl, inr}
 use Rattle.cc_ast.specs.declared.place.Place.{Place}
 use Rattle.cc_ast.specs.declared.reading.Construct.{Construct}
@@ -16,7 +16,7 @@ use Rattle.cc_grammar.specs.Fronts.{is_end}
 use Rattle.cc_grammar.specs.Faults.{any}
 use Rattle.cc_grammar.specs.Reading.{Outcome, Fault, Cause, Due, and_then, fault, semicolon_symbol, is_remedy, depth, spent, refused}
 use Rattle.cc_grammar.specs.Reading as r
-use Rattle.cc_grammar.proofs.Alike.{Suffix, Stands, whole, tail_of, is_limit, is_spent, IsErr, is_err, stands_after, stand_by, semicolon_walks}
+use Rattle.cc_grammar.proofs.Alike.{Stands, whole, tail_of, is_limit, IsErr, is_err, stands_after, stand_by, semicolon_walks}
 use Rattle.cc_grammar.proofs.OnSymbols as s
 
 -- what is asked of the symbols behind the token
@@ -69,6 +69,7 @@ module _ (x : Change) where
   pub data IsLimit {A : Type 0} : Outcome Symbols A → Type 0 where
     held : {f : Fault} {ys : Symbols} → is_limit f.cause ≡ true → IsLimit (Err (f, ys))
 
+  -- the construct is refused at the place of the token
   pub data IsRefused {A : Type 0} : Outcome Symbols A → Type 0 where
     is_refused : {f : Fault} {ys : Symbols} → f.cause ≡ refused x.construct → f.place ≡ x.place.place → IsRefused (Err (f, ys))
 

@@ -1,12 +1,12 @@
 -- Two readings of the same symbols up to a place where a part is due: expressions.
-use Rattle.std.specs.Prelude.{◌≡◌, ℕ, suc, ◌≤◌, ◌+◌, ◌==◌, Bool, true, false, Ok, Err, cond, nat_lt, List, [], ◌∷◌, ◌++◌, Option, Some, None}
+use Rattle.std.specs.Prelude.{◌≡◌, ℕ, suc, ◌≤◌, ◌+◌, ◌==◌, Bool, true, false, Ok, Err, cond, nat_lt, [], ◌∷◌, ◌++◌, Option, Some, None}
 use Rattle.std.proofs.Common.{refl, sym, ap, subst, arith}
 use Rattle.cc_ast.specs.declared.reading.Construct.{Construct}
 use Rattle.cc_lexer.specs.declared.token.Mark.TheVariants as mark
 use Rattle.cc_grammar.specs.Symbols.{Kind, Lexeme, Symbol, Symbols, real, look}
 use Rattle.cc_grammar.specs.Symbols as k
 use Rattle.cc_grammar.specs.RawTree.{RawExpr}
-use Rattle.cc_grammar.specs.Signs.{Prefix, refused_name, prefix_of, parenthesised}
+use Rattle.cc_grammar.specs.Signs.{Prefix, prefix_of, parenthesised}
 use Rattle.cc_grammar.specs.Reading.{Sized, and_then, either, head_of, depth}
 use Rattle.cc_grammar.specs.Reading as r
 use Rattle.cc_grammar.specs.Faults.{any}

@@ -1,19 +1,19 @@
 -- Two readings of the same symbols up to a place where a part is due: lists, and functions.
-use Rattle.std.specs.Prelude.{◌≡◌, ℕ, zero, suc, ◌+◌, ◌≤◌, max, ◌&&◌, Bool, true, false, Ok, Err, cond, is_some, List, [], ◌∷◌, ◌++◌, Option, Some, None}
+use Rattle.std.specs.Prelude.{◌≡◌, ℕ, zero, suc, ◌≤◌, max, ◌&&◌, Bool, true, false, Ok, cond, is_some, List, [], ◌∷◌, ◌++◌, Option, Some, None}
 use Rattle.std.proofs.Common.{refl, arith}
 use Rattle.cc_ast.specs.declared.place.Place.{Place}
 use Rattle.cc_ast.specs.declared.reading.Construct.TheVariants as construct
 use Rattle.cc_lexer.specs.declared.token.Mark.TheVariants as mark
 use Rattle.cc_grammar.specs.Symbols.{Kind, Lexeme, Symbols, look, rest, is_mark}
 use Rattle.cc_grammar.specs.Symbols as k
-use Rattle.cc_grammar.specs.RawTree.{RawExpr, RawStmt, RawKey, RawField, Named}
+use Rattle.cc_grammar.specs.RawTree.{RawExpr, RawStmt, RawKey, RawField}
 use Rattle.cc_grammar.specs.Signs.{key_of, is_accessor}
 use Rattle.cc_grammar.specs.Grammar.{Context, of_function}
 use Rattle.cc_grammar.specs.Reading.{Sized, and_then, semicolon_symbol, is_element, ends_list, spent, refused}
 use Rattle.cc_grammar.specs.Reading as r
 use Rattle.cc_grammar.proofs.Marked.{In}
 use Rattle.cc_grammar.proofs.Alike.{is_err}
-use Rattle.cc_grammar.proofs.Swap.{Change, IsPair, Swaps, barred, Later, Swap, Taking, Look, part, lexeme, swaps_after, later_after, swap_after, swap_pure, swap_err, swap_look, take_then, behind, later_fork, swap_fail, swap_stops, swap_limit, steady, like_test, mark_test, swap_expect, swap_close}
+use Rattle.cc_grammar.proofs.Swap.{Change, IsPair, Swaps, barred, Later, Swap, Look, swaps_after, later_after, swap_after, swap_pure, swap_err, swap_look, take_then, behind, later_fork, swap_fail, swap_stops, swap_limit, steady, like_test, mark_test, swap_expect, swap_close}
 use Rattle.cc_grammar.proofs.SwapSites.{element_first, key_first, same_end}
 use Rattle.cc_grammar.proofs.SwapParts.{SwapInner, params_of_swap}
 use Rattle.cc_grammar.proofs.OnSymbols as s

@@ -1,6 +1,6 @@
 -- Two readings of the same symbols up to a place where a part is due: unary and binary operators, and what binds less.
-use Rattle.std.specs.Prelude.{◌≡◌, ℕ, zero, suc, ◌+◌, ◌<◌, ◌≤◌, max, ◌==◌, Bool, true, false, Ok, Err, cond, nat_lt, List, [], ◌∷◌, ◌++◌, Option, Some, None}
-use Rattle.std.proofs.Common.{refl, sym, ap, ◌∙◌, arith}
+use Rattle.std.specs.Prelude.{◌≡◌, ℕ, zero, suc, ◌+◌, ◌≤◌, max, ◌==◌, Bool, true, false, Ok, Err, cond, nat_lt, [], ◌∷◌, ◌++◌, Option, Some, None}
+use Rattle.std.proofs.Common.{refl, sym, ◌∙◌, arith}
 use Rattle.cc_ast.specs.declared.operator.BinOp.{BinOp}
 use Rattle.cc_ast.specs.declared.place.Place.{Place}
 use Rattle.cc_ast.specs.declared.reading.Construct.{Construct}
@@ -16,9 +16,9 @@ use Rattle.cc_grammar.specs.Signs as sign
 use Rattle.cc_grammar.specs.Reading.{Outcome, Sized, and_then, semicolon_symbol, is_remedy, is_delete, depth, spent}
 use Rattle.cc_grammar.specs.Reading as r
 use Rattle.cc_grammar.proofs.Marked.{In}
-use Rattle.cc_grammar.proofs.Alike.{IsErr, is_err, Stands, whole, tail_of, stands_after, limits, alike_behind}
+use Rattle.cc_grammar.proofs.Alike.{IsErr, is_err, limits, alike_behind}
 use Rattle.cc_grammar.proofs.AlikeExpressions.{opened_alike}
-use Rattle.cc_grammar.proofs.Swap.{Next, Change, Pair, slash, slash_equal, comma, function, label, name, accessor, delete, IsPair, IsRefused, IsLimit, held, Swaps, barred, Later, Swap, Taking, Look, part, token, lexeme, first_taken, err_by, limit_by, refused_by, err_after, limit_after, refused_after, swap_after, swap_pure, swap_look, later_look, take_then, behind, swap_fork, later_fork, swap_fail, swap_stops, swap_refuse, swap_limit, steady, test, listed, mark_free, mark_test, swap_expect}
+use Rattle.cc_grammar.proofs.Swap.{Next, Change, Pair, slash, slash_equal, comma, function, label, name, accessor, delete, IsPair, Swaps, Later, Swap, Taking, Look, part, first_taken, err_after, swap_after, swap_pure, swap_look, later_look, take_then, behind, swap_fork, later_fork, swap_fail, swap_stops, swap_refuse, swap_limit, steady, test, listed, mark_free, mark_test, swap_expect}
 use Rattle.cc_grammar.proofs.SwapSites.{no_remedy, remedy_free}
 use Rattle.cc_grammar.proofs.SwapAhead.{Opens, Settled, settled_after, settled_by, settled_deeper, later_guarded}
 use Rattle.cc_grammar.proofs.SwapParts.{SwapInner, deeper}

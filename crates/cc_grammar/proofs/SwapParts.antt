@@ -1,28 +1,20 @@
 -- Two readings of the same symbols up to a place where a part is due: variables and parameters, and what is known of what stands inside.
-use Rattle.std.specs.Prelude.{◌≡◌, ℕ, zero, suc, ◌+◌, ◌<◌, ◌≤◌, max, ◌&&◌, ◌==◌, Bool, true, false, Ok, Err, cond, nat_lt, is_some, List, [], ◌∷◌, ◌++◌, Option, Some, None}
-use Rattle.std.proofs.Common.{refl, sym, ap, ◌∙◌, subst, arith, inl, inr}
-use Rattle.cc_ast.specs.declared.operator.BinOp.{BinOp}
-use Rattle.cc_ast.specs.declared.operator.UnOp.TheVariants as op
-use Rattle.cc_ast.specs.declared.place.Place.{Place}
-use Rattle.cc_ast.specs.declared.reading.Construct.TheVariants as construct
-use Rattle.cc_ast.specs.Syntax.{undefined}
+use Rattle.std.specs.Prelude.{◌≡◌, ℕ, zero, suc, ◌≤◌, Bool, true, false, Err, cond, nat_lt, List, [], ◌∷◌, ◌++◌, Option, Some, None}
+use Rattle.std.proofs.Common.{refl, arith}
 use Rattle.cc_lexer.specs.declared.token.Mark.TheVariants as mark
 use Rattle.cc_grammar.specs.declared.word.Word.{Word}
 use Rattle.cc_grammar.specs.declared.word.Word.TheVariants as word
 use Rattle.cc_grammar.specs.Symbols.{Kind, Lexeme, Symbol, Symbols, real, look, rest, lexeme_of, is_mark, is_word}
 use Rattle.cc_grammar.specs.Symbols as k
-use Rattle.cc_grammar.specs.RawTree.{RawExpr, RawTarget, RawStmt, RawKey, RawField, Named, exprs, fields, stmts}
-use Rattle.cc_grammar.specs.RawTree as raw
-use Rattle.cc_grammar.specs.Signs.{Prefix, unary, Infix, parenthesised, key_of, property_of, is_accessor, target_of, step_of, prefix_of, prefix_tree, infix_of, level, infix_tree, assign_of}
-use Rattle.cc_grammar.specs.Signs as sign
-use Rattle.cc_grammar.specs.Grammar.{Context, of_function}
+use Rattle.cc_grammar.specs.RawTree.{Named}
+use Rattle.cc_grammar.specs.Grammar.{Context}
 use Rattle.cc_grammar.specs.Reading.{Outcome, Sized, Head, Suffix, and_then, semicolon_symbol, variable_of, head_of, suffix_of, is_element, is_remedy, is_delete, ends_list, depth, spent, refused}
 use Rattle.cc_grammar.specs.Reading as r
 use Rattle.cc_grammar.proofs.Marked.{In}
-use Rattle.cc_grammar.proofs.Alike.{IsErr, is_err, Stands}
-use Rattle.cc_grammar.proofs.Swap.{Change, IsPair, IsRefused, IsLimit, held, Swaps, stops, barred, passes, limited, refuses, falls, Later, Swap, Taking, Look, part, token, lexeme, first_taken, later_after, swap_after, taking_after, swap_pure, swap_err, look_fail, swap_look, take_then, behind, swap_fork, later_fork, swap_fail, swap_stops, swap_refuse, swap_limit, taking_deeper, steady, test, listed, mark_free, mark_test, swap_expect, swap_expect_word, swap_close}
-use Rattle.cc_grammar.proofs.SwapSites.{word_free, variable_first, own_name_first, element_first, key_first, primary_first, prefix_first, no_remedy, remedy_free, same_end}
-use Rattle.cc_grammar.proofs.SwapAhead.{Opens, Settled, later_guarded}
+use Rattle.cc_grammar.proofs.Alike.{IsErr}
+use Rattle.cc_grammar.proofs.Swap.{Change, IsPair, Later, Swap, Taking, Look, part, swap_after, swap_pure, swap_look, take_then, behind, swap_fail, swap_limit, taking_deeper, steady, test, mark_test, swap_expect_word, swap_close}
+use Rattle.cc_grammar.proofs.SwapSites.{word_free, variable_first, own_name_first}
+use Rattle.cc_grammar.proofs.SwapAhead.{Opens, Settled}
 use Rattle.cc_grammar.proofs.OnSymbols as s
 
 pub record SwapInner (x : Change) (inner outer : In) : Type 0 where

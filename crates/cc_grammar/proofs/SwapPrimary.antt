@@ -1,7 +1,6 @@
 -- Two readings of the same symbols up to a place where a part is due: primary expressions, and what goes on with them.
-use Rattle.std.specs.Prelude.{◌≡◌, ℕ, zero, suc, ◌+◌, ◌≤◌, max, Bool, true, false, Err, cond, nat_lt, List, [], Option, Some, None}
+use Rattle.std.specs.Prelude.{◌≡◌, ℕ, zero, suc, ◌+◌, ◌≤◌, max, Bool, true, false, List, [], Option, Some, None}
 use Rattle.std.proofs.Common.{refl, arith}
-use Rattle.cc_ast.specs.declared.place.Place.{Place}
 use Rattle.cc_ast.specs.declared.reading.Construct.{Construct}
 use Rattle.cc_ast.specs.Syntax.{undefined}
 use Rattle.cc_lexer.specs.declared.token.Mark.TheVariants as mark
@@ -14,7 +13,7 @@ use Rattle.cc_grammar.specs.Reading.{Sized, Head, Suffix, head_of, suffix_of, de
 use Rattle.cc_grammar.specs.Reading as r
 use Rattle.cc_grammar.proofs.Marked.{In}
 use Rattle.cc_grammar.proofs.Alike.{is_err}
-use Rattle.cc_grammar.proofs.Swap.{Next, Change, Pair, slash, slash_equal, comma, function, label, name, accessor, delete, IsPair, barred, Later, Swap, Taking, Look, swap_after, taking_after, swap_pure, swap_look, take_then, behind, swap_fail, swap_stops, swap_limit, steady, alike_listed, mark_test, swap_close}
+use Rattle.cc_grammar.proofs.Swap.{Next, Change, Pair, IsPair, barred, Later, Swap, Taking, Look, swap_after, taking_after, swap_pure, swap_look, take_then, behind, swap_fail, swap_stops, swap_limit, steady, alike_listed, mark_test, swap_close}
 use Rattle.cc_grammar.proofs.SwapSites.{primary_first, same_end}
 use Rattle.cc_grammar.proofs.SwapParts.{SwapInner, deeper, own_name_swap}
 use Rattle.cc_grammar.proofs.SwapLists.{elements_swap, fields_swap, arguments_of_swap, function_swap}

@@ -1,7 +1,6 @@
 -- Two readings of the same symbols up to a place where a part is due: statements and programs.
-use Rattle.std.specs.Prelude.{◌≡◌, ℕ, zero, suc, ◌≤◌, Bool, true, false, cond, nat_lt, Ok, Err, List, [], ◌∷◌, ◌++◌, Option, Some, None}
-use Rattle.std.proofs.Common.{refl, sym, ap, ◌∙◌, arith}
-use Rattle.cc_ast.specs.declared.place.Place.{Place}
+use Rattle.std.specs.Prelude.{◌≡◌, ℕ, zero, suc, ◌≤◌, Bool, true, false, cond, nat_lt, Ok, Err, List, [], ◌∷◌, ◌++◌, Some}
+use Rattle.std.proofs.Common.{refl, ap, ◌∙◌, arith}
 use Rattle.cc_ast.specs.declared.reading.Construct.{Construct}
 use Rattle.cc_ast.specs.declared.reading.Construct.TheVariants as construct
 use Rattle.cc_lexer.specs.declared.token.Mark.TheVariants as mark
@@ -15,7 +14,7 @@ use Rattle.cc_grammar.specs.Reading.{Outcome, Sized, Start, semicolon_symbol, he
 use Rattle.cc_grammar.specs.Reading as r
 use Rattle.cc_grammar.proofs.Marked.{In}
 use Rattle.cc_grammar.proofs.Alike.{IsErr, is_err}
-use Rattle.cc_grammar.proofs.Swap.{Next, no_colon, Change, Pair, slash, slash_equal, comma, function, label, name, accessor, delete, IsPair, IsRefused, is_refused, held, Swaps, barred, refuses, Later, Swap, Taking, part, first_taken, refused_by, swap_after, swap_pure, swap_look, behind, later_fork, swap_stops, swap_limit, swap_expect_end}
+use Rattle.cc_grammar.proofs.Swap.{Next, Change, Pair, slash, slash_equal, comma, function, label, name, accessor, delete, IsPair, IsRefused, is_refused, held, Swaps, barred, refuses, Later, Swap, Taking, part, first_taken, refused_by, swap_after, swap_pure, swap_look, behind, later_fork, swap_stops, swap_limit, swap_expect_end}
 use Rattle.cc_grammar.proofs.SwapSites.{change}
 use Rattle.cc_grammar.proofs.SwapAhead.{Opens, settled_limited}
 use Rattle.cc_grammar.proofs.SwapParts.{SwapInner, deeper}

@@ -1,6 +1,6 @@
 -- The places where a part is due: what becomes there of a token that is refused.
-use Rattle.std.specs.Prelude.{◌≡◌, ℕ, not, Bool, true, false, ◌&&◌, Ok, Err, cond, nat_lt, is_some, List, [], ◌∷◌, ◌++◌, Option, Some, None}
-use Rattle.std.proofs.Common.{refl, sym, ap, ◌∙◌, subst}
+use Rattle.std.specs.Prelude.{◌≡◌, ℕ, Bool, true, false, ◌&&◌, Err, cond, nat_lt, is_some, List, [], ◌∷◌, Some, None}
+use Rattle.std.proofs.Common.{refl, sym, ap, ◌∙◌}
 use Rattle.cc_ast.specs.declared.operator.UnOp.TheVariants as op
 use Rattle.cc_ast.specs.declared.reading.Construct.{Construct}
 use Rattle.cc_ast.specs.declared.reading.Construct.TheVariants as construct
@@ -12,12 +12,11 @@ use Rattle.cc_grammar.specs.Symbols as k
 use Rattle.cc_grammar.specs.RawTree.{RawExpr, RawStmt}
 use Rattle.cc_grammar.specs.Signs.{refused_name, is_accessor, key_of, prefix_of}
 use Rattle.cc_grammar.specs.Signs as sign
-use Rattle.cc_grammar.specs.Grammar.{Context}
 use Rattle.cc_grammar.specs.Reading.{Outcome, Fault, Sized, and_then, fault, either, semicolon_symbol, goes_on, allowed, variable_of, head_by, head_of, is_element, is_remedy, ends_return, refused}
 use Rattle.cc_grammar.specs.Reading as r
-use Rattle.cc_grammar.proofs.Alike.{IsErr, is_err, Stands}
+use Rattle.cc_grammar.proofs.Alike.{is_err}
 use Rattle.cc_grammar.proofs.Marked.{In}
-use Rattle.cc_grammar.proofs.Swap.{Next, anything, no_colon, a_key, deleted, Change, Pair, slash, slash_equal, comma, function, label, name, accessor, delete, IsPair, IsRefused, is_refused, Falls, falls_there, Swaps, stops, barred, passes, limited, refuses, falls, Swap, Taking, first_taken, refused_by}
+use Rattle.cc_grammar.proofs.Swap.{Next, Change, Pair, slash, slash_equal, comma, function, label, name, accessor, delete, IsRefused, is_refused, falls_there, Swaps, barred, refuses, falls, refused_by}
 use Rattle.cc_grammar.proofs.OnSymbols as s
 
 abbrev pub change : Lexeme → k.Part → Kind → Bool → Construct → Next → ℕ → Change
