@@ -41,9 +41,6 @@ plain_whole (refused x) e = absurd (clash (sym e))
 -- ---- where reading stops
 
 module _ (n d : ℕ) (ts : L) (c : Fault) (s : Halt n d ts c) where
-  number : ℕ
-  number = length (lexemes_of s.before)
-
   there : Splits ts (length (lexemes_of s.before)) (lexemes_of s.before) s.token s.after
   there = record { is = s.tokens ∙ append_assoc (lexemes_of s.before) (s.token ∷ []) s.after; count = refl }
 

@@ -127,9 +127,6 @@ module _ (n d : ℕ) (ts : L) (f : Fault) (text : IsText ts) (enough : length ts
   no_front_there : ¬ (IsFront (s.before ++ real s.token ∷ []))
   no_front_there y = s.none y.height (s.before ++ real s.token ∷ []) y.within s.justified (inl sharp) (lexemes_append s.before (real s.token ∷ []))
 
-  abbrev Answer : Symbols → Lexeme → L → Construct → Type 0
-  Answer q t after x = Answered n d ts f text enough s q t after x
-
   -- what begins before reading stops is what it answers
   answer : {i : ℕ} {x : Construct} → i < length (lexemes_of s.before) → (v : RefusedAt ts i x) → Answered n d ts f text enough s v.symbols v.token v.after x
   answer {x} lt v = by (settled n d ts f text enough s v.symbols v.token v.after (v.splits.is ∙ ap (λ z. z ++ v.token ∷ v.after) (sym v.front.tokens)) v.front.justified v.front.front (omega (arith, lt, ap length v.front.tokens, v.splits.count)) v.begins) where

@@ -160,9 +160,6 @@ copy_length (insert o w) = copy_length w
 
 module _ (n d : ℕ) {ts us : L} {c : Fault} (w : Copy ts us) (e : read_symbols n d (put w (map real us)) ≡ Err (c, map real us)) (just : Just (read_symbols n d) w) (bar : Bar c (read_symbols n d) w)
     (f : Stopped d c (put w []) us) (t : Lexeme) (vs : L) (q : us ≡ t ∷ vs) where
-  before_it : Symbols
-  before_it = put w []
-
   halts : read_symbols n d (put w [] ++ real t ∷ map real vs) ≡ Err (c, real t ∷ map real vs)
   halts = subst (λ (l : L). read_symbols n d (put w [] ++ map real l) ≡ Err (c, map real l)) q (ap (read_symbols n d) (sym (put_front w (map real us))) ∙ e)
 
