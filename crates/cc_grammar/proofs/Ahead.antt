@@ -51,7 +51,7 @@ past : {count : ℕ} {e f : RawExpr} {ys zs : Symbols} {o : Outcome Symbols Bool
 past (other q) c = other q
 past (variable v q) c = other (q ∙ c)
 
-close_step : (m : ℕ) {xs ys : Symbols} → Sign mark.CloseParen xs ys → s.closed (suc m) xs ≡ s.closed m ys
+pub close_step : (m : ℕ) {xs ys : Symbols} → Sign mark.CloseParen xs ys → s.closed (suc m) xs ≡ s.closed m ys
 unfolding r.closed
 close_step m c = chosen_at _ _ _ (mark_at c) (ap (s.closed m) (rest_at c))
 
@@ -74,12 +74,12 @@ other_at : (m count : ℕ) {x : Kind} {e : RawExpr} {xs ys zs : Symbols} → At 
 unfolding r.opened
 other_at m count {xs} c f n = other (skipped_at (is_mark mark.OpenParen (look xs).kind) _ _ (ap (is_mark mark.OpenParen) (kind_at c) ∙ f) (skipped_at (is_some (variable_of (look xs).kind)) _ _ (table_at (λ x. is_some (variable_of x)) c ∙ n) refl))
 
-at_variable : (m count : ℕ) {v : Rattle.std.specs.Prelude.List ℕ} {xs ys : Symbols} → g.Variable xs v ys → s.opened (suc m) count xs ≡ s.closed count ys
+pub at_variable : (m count : ℕ) {v : Rattle.std.specs.Prelude.List ℕ} {xs ys : Symbols} → g.Variable xs v ys → s.opened (suc m) count xs ≡ s.closed count ys
 unfolding r.opened
 at_variable m count {v} {xs} x = skipped_at (is_mark mark.OpenParen (look xs).kind) _ _ (not_in_table variable_of mark.OpenParen (look xs).kind v refl (variable_at x))
     (chosen_at (is_some (variable_of (look xs).kind)) _ _ (ap is_some (variable_at x)) (ap (s.closed count) (variable_rest x)))
 
-open_step : (m count : ℕ) {xs ys : Symbols} → Sign mark.OpenParen xs ys → s.opened (suc m) count xs ≡ s.opened m (suc count) ys
+pub open_step : (m count : ℕ) {xs ys : Symbols} → Sign mark.OpenParen xs ys → s.opened (suc m) count xs ≡ s.opened m (suc count) ys
 unfolding r.opened
 open_step m count c = chosen_at _ _ _ (mark_at c) (ap (s.opened m (suc count)) (rest_at c))
 

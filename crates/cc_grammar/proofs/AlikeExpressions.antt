@@ -69,7 +69,7 @@ unfolding r.closed
 closed_alike zero = alike_look _ _ (λ t. alike_pure (not (goes_on t)))
 closed_alike (suc m) = alike_look _ _ (λ t. alike_fork (is_mark mark.CloseParen t.kind) _ _ _ _ (alike_behind (closed_alike m)) (alike_pure false))
 
-opened_alike : {bounds : Bounds} (m u count : ℕ) → m ≤ u → Alike bounds (s.opened m count) (s.opened u count)
+pub opened_alike : {bounds : Bounds} (m u count : ℕ) → m ≤ u → Alike bounds (s.opened m count) (s.opened u count)
 unfolding r.opened
 opened_alike zero u count lt = alike_spent (s.opened u count)
 opened_alike (suc m) zero count lt = absurd (omega arith)

@@ -242,7 +242,7 @@ beyond_same : {A : Type 0} {ts us : L} {p : Symbols → Outcome Symbols A} (q : 
 beyond_same q w h (passes b) = passes (λ xs l. h (put w (inserted ∷ xs)) (put_lexemes w (inserted ∷ xs) l) ∙ b xs l)
 beyond_same q w h (shuts b) = shuts (λ xs l. shut_by (h (put w (inserted ∷ xs)) (put_lexemes w (inserted ∷ xs) l)) (b xs l))
 
-bar_same : {B A : Type 0} {o u : Outcome Symbols A} {xs : Symbols} → o ≡ u → B ⊎ Shut u xs → B ⊎ Shut o xs
+pub bar_same : {B A : Type 0} {o u : Outcome Symbols A} {xs : Symbols} → o ≡ u → B ⊎ Shut u xs → B ⊎ Shut o xs
 bar_same e (inl b) = inl b
 bar_same e (inr h) = inr (shut_by e h)
 

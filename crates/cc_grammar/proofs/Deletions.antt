@@ -1,6 +1,6 @@
 -- The look ahead behind `delete`, and what it comes to: a variable, perhaps in parentheses.
-use Rattle.std.specs.Prelude.{◌≡◌, ℕ, zero, suc, ◌+◌, ◌<◌, ◌≤◌, not, Bool, true, false, cond, is_some, List, [], ◌∷◌, ◌++◌, map, Ok, Err, Option, Some, None}
-use Rattle.std.proofs.Common.{refl, sym, ap, ◌∙◌, arith}
+use Rattle.std.specs.Prelude.{◌≡◌, ℕ, zero, suc, ◌<◌, not, Bool, true, false, cond, is_some, List, [], ◌∷◌, ◌++◌, map, Ok, Option, Some, None}
+use Rattle.std.proofs.Common.{refl, ap, ◌∙◌, arith}
 use Rattle.cc_ast.specs.declared.operator.UnOp.{UnOp}
 use Rattle.cc_ast.specs.declared.operator.UnOp.TheVariants as op
 use Rattle.cc_ast.specs.declared.place.Place.{Place}
@@ -138,7 +138,7 @@ one_deeper : {m : ℕ} {xs ys zs : Symbols} → Nest m xs ys → Sign mark.Close
 one_deeper (bare v h) c = bare v (closed_behind h c)
 one_deeper (nested o h) c = nested o (one_deeper h c)
 
-no_variable : (e : RawExpr) → target_of e ≡ None → is_variable e ≡ true → ⊥
+pub no_variable : (e : RawExpr) → target_of e ≡ None → is_variable e ≡ true → ⊥
 no_variable (raw.var p n) q f = cc
 no_variable (raw.cast p e) q f = no_variable e q f
 no_variable _ q f = cc

@@ -1,8 +1,7 @@
 -- Where reading stops, what came before is a front: what the laws of the parts have in common.
-use Rattle.std.specs.Prelude.{◌≡◌, ℕ, zero, suc, ◌+◌, ◌<◌, ◌≤◌, Bool, true, false, cond, nat_lt, is_some, Ok, Err, List, [], ◌∷◌, ◌++◌, ◌⊎◌, Option, Some, None}
-use Rattle.std.proofs.Common.{refl, inl, inr, sym, ap, ◌∙◌, subst, arith, ltb-true, ltb-false}
+use Rattle.std.specs.Prelude.{◌≡◌, ℕ, ◌<◌, ◌≤◌, Bool, true, false, cond, nat_lt, is_some, Ok, Err, List, [], ◌∷◌, ◌++◌, map, Option, Some, None}
+use Rattle.std.proofs.Common.{refl, sym, ap, ◌∙◌, subst, ltb-true}
 use Rattle.cc_ast.specs.Syntax.{undefined}
-use Rattle.cc_ast.specs.declared.place.Place.{Place}
 use Rattle.cc_ast.specs.declared.reading.Construct.{Construct}
 use Rattle.cc_ast.specs.declared.reading.Construct.TheVariants as construct
 use Rattle.cc_lexer.specs.declared.token.Mark.{Mark}
@@ -17,7 +16,7 @@ use Rattle.cc_grammar.specs.Signs.{refused_kind, refused_name, is_accessor, key_
 use Rattle.cc_grammar.specs.Grammar as g
 use Rattle.cc_grammar.specs.Grammar.{Context, At, Variable, E, T, is_tail, opens_no_expression}
 use Rattle.cc_grammar.specs.Faults.{any}
-use Rattle.cc_grammar.specs.Reading.{Outcome, Fault, Cause, Due, and_then, fault, either, refused_there, depth, refused, syntax, variable_of}
+use Rattle.cc_grammar.specs.Reading.{Outcome, Fault, Cause, Due, and_then, fault, either, refused_there, depth, refused, syntax, variable_of, goes_on}
 use Rattle.cc_grammar.specs.Reading as r
 use Rattle.cc_grammar.proofs.Marked.{In}
 use Rattle.cc_grammar.proofs.Meets.{Done, ok, err}
@@ -25,7 +24,8 @@ use Rattle.cc_grammar.proofs.Shrinks.{reals}
 use Rattle.cc_grammar.proofs.Steps.{kind_at}
 use Rattle.cc_grammar.proofs.Alike.{is_limit}
 use Rattle.cc_grammar.proofs.Moves.{Front, stays}
-use Rattle.cc_grammar.proofs.Deletions.{Nest}
+use Rattle.cc_grammar.proofs.Deletions.{Nest, nest_told}
+use Rattle.cc_grammar.proofs.Nests.{Spares}
 use Rattle.cc_grammar.proofs.OnSymbols as s
 
 -- ---- tokens that complete what has begun
@@ -64,18 +64,22 @@ pub data First (xs us : Symbols) : Type 0 where
   same : look us ≡ look xs → First xs us
   fresh : is_tail (look us).kind ≡ false → First xs us
 
--- What has begun goes on here, or with a part that is due in place of the next symbol.
+-- What has begun goes on here, or with a part that is due in place of the next symbol, or from a `delete` on with these
+-- tokens and another one.
 pub data Spot : Type 0 where
   here : Symbols → Spot
   due : k.Part → Symbols → Spot
+  anew : (t : Lexeme) → t.kind ≡ k.word word.Delete → List Lexeme → Lexeme → Symbols → Spot
 
 abbrev pub left : Spot → Symbols
 left (here ys) = ys
 left (due p ys) = ys
+left (anew t e us u ys) = real t ∷ ys
 
 abbrev pub put : Spot → Symbols → Symbols
 put (here ys) zs = zs
 put (due p ys) zs = any p (look ys) ∷ zs
+put (anew t e us u ys) zs = real t ∷ (map real us ++ real u ∷ zs)
 
 -- The symbols from xs up to i begin a P, which more symbols complete.
 pub record Begun {A : Type 0} (P : A → Symbols → Symbols → Type 0) (xs : Symbols) (i : Spot) : Type 0 where
@@ -127,7 +131,6 @@ pub data Why (P : ℕ → Spot → Type 0) (c : Fault) (i : Symbols) : Type 0 wh
   by_statement : c ≡ record { cause = refused construct.BlockFunction; place = (look i).place } → (look i).kind ≡ k.word word.Function → (j : ℕ) → P j (due k.statement i) → Why P c i
   by_name : {n : List ℕ} {x : Construct} {ys : Symbols} → c ≡ record { cause = refused x; place = (look ys).place } → At (k.name n) ys i → refused_name n ≡ Some x → is_mark mark.Colon (look i).kind ≡ false → (j : ℕ) → P j (due k.variable ys) → Why P c i
   by_key : {x : Kind} {ys : Symbols} → c ≡ record { cause = refused construct.Accessor; place = (look ys).place } → At x ys i → is_accessor x ≡ true → is_some (key_of (look i).kind) ≡ true → (j : ℕ) → P j (due k.key ys) → Why P c i
-  by_deletion : {ys us : Symbols} → c ≡ record { cause = refused construct.DeleteName; place = (look ys).place } → At (k.word word.Delete) ys us → Nest 0 us i → (j : ℕ) → P j (due k.operand ys) → Why P c i
 
 why_map : {P Q : ℕ → Spot → Type 0} {c : Fault} {i : Symbols} (f : ℕ → ℕ) → ((j : ℕ) (i : Spot) → P j i → Q (f j) i) → Why P c i → Why Q c i
 why_map f m (by_token e) = by_token e
@@ -137,30 +140,56 @@ why_map f m (by_element e q j p) = by_element e q (f j) (m j _ p)
 why_map f m (by_statement e q j p) = by_statement e q (f j) (m j _ p)
 why_map f m (by_name e a q s j p) = by_name e a q s (f j) (m j _ p)
 why_map f m (by_key e a q s j p) = by_key e a q s (f j) (m j _ p)
-why_map f m (by_deletion e a q j p) = by_deletion e a q (f j) (m j _ p)
 
--- If it isn't read, then what came before is a front. At the depth it is one below b, and with the next token it is one too.
+-- ---- tokens that make what they begin or go on with higher
+
+abbrev pub names : Kind → Bool
+names (k.name n) = true
+names _ = false
+
+-- Such a token is no name, and no `delete` before a variable that is its whole operand.
+pub record Raises (x : Kind) (ys : Symbols) : Type 0 where
+  pub unnamed : names x ≡ false
+  pub spares : x ≡ k.word word.Delete → Spares ys
+
+abbrev pub may_raise : Kind → Bool
+may_raise (k.name n) = false
+may_raise (k.word word.Delete) = false
+may_raise _ = true
+
+never : {A : Type 0} → false ≡ true → A
+never e = absurd (cc)
+
+no_name : (x : Kind) → may_raise x ≡ true → names x ≡ false
+no_name (k.name n) e = never e
+no_name _ e = refl
+
+pub raises : {x : Kind} {ys : Symbols} → may_raise x ≡ true → Raises x ys
+raises {x} e = record { unnamed = no_name x e; spares = λ q. never (sym (ap may_raise q) ∙ e) }
+
+-- If it isn't read, then what came before is a front. Where a variable is deleted, what came before the `delete` is one below b,
+-- and each token that goes on with an operand goes on with a front behind the variable. Else what came before is one below b. At
+-- the depth it is one with the next token too.
 pub data Fails {A : Type 0} (b : ℕ) (P : ℕ → Spot → Type 0) : Outcome Symbols A → Type 0 where
   fine : {p : A × Symbols} → Fails b P (Ok p)
-  stop : {c : Fault} {i : Symbols} → is_limit c.cause ≡ false → (c.cause ≡ syntax → c.place ≡ (look i).place) → (j : ℕ) → (j < b) ⊎ (c.cause ≡ refused construct.DeleteName) → Why P c i → P j (here i) → Fails b P (Err (c, i))
-  deep : {c : Fault} {i ys : Symbols} → c.cause ≡ depth → c.place ≡ (look i).place → (j : ℕ) → j < b → P j (here i) → (t : Lexeme) → real t ∷ ys ≡ i → (u : ℕ) → P u (here ys) → Fails b P (Err (c, i))
+  stop : {c : Fault} {i : Symbols} → is_limit c.cause ≡ false → (c.cause ≡ syntax → c.place ≡ (look i).place) → (j : ℕ) → j < b → Why P c i → P j (here i) → Fails b P (Err (c, i))
+  deleted : {c : Fault} {i ys us : Symbols} → c ≡ record { cause = refused construct.DeleteName; place = (look ys).place } → (o : At (k.word word.Delete) ys us) → (n : Nest 0 us i) → (j : ℕ) → j < b → P j (due k.operand ys)
+      → ((t : Lexeme) → goes_on t ≡ true → (u : ℕ) × P u (anew (look ys) (kind_at o) (nest_told n).tokens t us)) → (u : ℕ) → P u (here i) → Fails b P (Err (c, i))
+  deep : {c : Fault} {i ys : Symbols} → c.cause ≡ depth → c.place ≡ (look i).place → (j : ℕ) → j < b → P j (here i) → (t : Lexeme) → real t ∷ ys ≡ i → Raises t.kind ys → (u : ℕ) → P u (here ys) → Fails b P (Err (c, i))
 
 pub fails_after : {A B : Type 0} {b : ℕ} {D : A → Symbols → Type 0} {P : ℕ → Spot → Type 0} {o : Outcome Symbols A} {f : A → s.Reader B}
     → Done D o → Fails b P o → ((a : A) (i : Symbols) → D a i → Fails b P (f a i)) → Fails b P (and_then o f)
 fails_after (ok {a} {i} h) e k = k a i h
 fails_after err (stop l m j lt w h) k = stop l m j lt w h
-fails_after err (deep e m j lt h t q u w) k = deep e m j lt h t q u w
-
--- within another bound
-rebound : {X : Type 0} {b c j k : ℕ} → (j < b → k < c) → (j < b) ⊎ X → (k < c) ⊎ X
-rebound f (inl lt) = inl (f lt)
-rebound f (inr x) = inr x
+fails_after err (deleted e o n j lt h g u w) k = deleted e o n j lt h g u w
+fails_after err (deep e m j lt h t q r u w) k = deep e m j lt h t q r u w
 
 -- what begins it begins what it is a part of
 pub fails_map : {A : Type 0} {b c : ℕ} {P Q : ℕ → Spot → Type 0} {o : Outcome Symbols A} (f : ℕ → ℕ) → ((j : ℕ) → j < b → f j < c) → ((j : ℕ) (i : Spot) → P j i → Q (f j) i) → Fails b P o → Fails c Q o
 fails_map f lt m fine = fine
-fails_map f lt m (stop l o j le w h) = stop l o (f j) (rebound (lt j) le) (why_map f m w) (m j _ h)
-fails_map f lt m (deep e o j le h t q u w) = deep e o (f j) (lt j le) (m j _ h) t q (f u) (m u _ w)
+fails_map f lt m (stop l o j le w h) = stop l o (f j) (lt j le) (why_map f m w) (m j _ h)
+fails_map f lt m (deleted e o n j le h g u w) = deleted e o n (f j) (lt j le) (m j _ h) (λ t q. let x = g t q in (f x.0, m x.0 _ x.1)) (f u) (m u _ w)
+fails_map f lt m (deep e o j le h t q r u w) = deep e o (f j) (lt j le) (m j _ h) t q r (f u) (m u _ w)
 
 pub fails_fork : {A : Type 0} {b : ℕ} {P : ℕ → Spot → Type 0} (c : Bool) (p q : s.Reader A) {i : Symbols} → (c ≡ true → Fails b P (p i)) → (c ≡ false → Fails b P (q i)) → Fails b P (cond c p q i)
 fails_fork true p q h l = h refl
@@ -179,13 +208,13 @@ fault_sharp : (d : Due) (t : Lexeme) → is_limit (fault d t).cause ≡ false
 fault_sharp d t = either_sharp (refused_kind t.kind) (refused_there d t.kind)
 
 pub fails_here : {A : Type 0} {b : ℕ} {P : ℕ → Spot → Type 0} (xs : Symbols) (j : ℕ) → j < b → P j (here xs) → Fails {A = A} b P (Err (fault r.a_token (look xs), xs))
-fails_here xs j lt h = stop (fault_sharp r.a_token (look xs)) (λ _. refl) j (inl lt) (by_token refl) h
+fails_here xs j lt h = stop (fault_sharp r.a_token (look xs)) (λ _. refl) j lt (by_token refl) h
 
 pub variable_missing : {A : Type 0} {b : ℕ} {P : ℕ → Spot → Type 0} (xs : Symbols) (j : ℕ) → j < b → P j (here xs) → P j (due k.variable xs) → Fails {A = A} b P (Err (fault r.a_variable (look xs), xs))
-variable_missing xs j lt h v = stop (fault_sharp r.a_variable (look xs)) (λ _. refl) j (inl lt) (by_variable refl j v) h
+variable_missing xs j lt h v = stop (fault_sharp r.a_variable (look xs)) (λ _. refl) j lt (by_variable refl j v) h
 
 pub operand_missing : {A : Type 0} {b : ℕ} {P : ℕ → Spot → Type 0} (xs : Symbols) (j : ℕ) → j < b → P j (here xs) → P j (due k.operand xs) → P j (due k.variable xs) → Fails {A = A} b P (Err (fault r.an_operand (look xs), xs))
-operand_missing xs j lt h o v = stop (fault_sharp r.an_operand (look xs)) (λ _. refl) j (inl lt) (by_operand refl j j o v) h
+operand_missing xs j lt h o v = stop (fault_sharp r.an_operand (look xs)) (λ _. refl) j lt (by_operand refl j j o v) h
 
 pub expect_fails : {b : ℕ} {P : ℕ → Spot → Type 0} (m : Mark) (xs : Symbols) (j : ℕ) → j < b → P j (here xs) → Fails b P (s.expect m xs)
 unfolding r.expect
@@ -202,9 +231,9 @@ variable_fails {b} {P} xs j lt h u = by (variable_of (look xs).kind) where
   by None = variable_missing xs j lt h u
   by (Some v) = fine
 
-pub deeper_fails : {A : Type 0} {b d h : ℕ} {P : ℕ → Spot → Type 0} {x : Kind} {xs ys : Symbols} {o : Outcome Symbols A} → At x xs ys → (h < d → Fails b P o) → (j : ℕ) → j < b → P j (here xs) → (u : ℕ) → P u (here ys)
+pub deeper_fails : {A : Type 0} {b d h : ℕ} {P : ℕ → Spot → Type 0} {x : Kind} {xs ys : Symbols} {o : Outcome Symbols A} → At x xs ys → Raises x ys → (h < d → Fails b P o) → (j : ℕ) → j < b → P j (here xs) → (u : ℕ) → P u (here ys)
     → Fails b P (cond (nat_lt h d) o (Err (record { cause = depth; place = (look xs).place }, xs)))
-deeper_fails {d} {h} {xs} c f j lt p u q = fails_choice (nat_lt h d) (λ e. f (ltb-true h d e)) (λ _. deep refl refl j lt p (look xs) (at_is c) u q)
+deeper_fails {d} {h} {xs} {ys} c r f j lt p u q = fails_choice (nat_lt h d) (λ e. f (ltb-true h d e)) (λ _. deep refl refl j lt p (look xs) (at_is c) (subst (λ z. Raises z ys) (sym (kind_at c)) r) u q)
 
 pub record FailsInner (d n : ℕ) (inner : In) : Type 0 where
   pub expr : 0 < d → (b : Bool) (l : ℕ) (xs : Symbols) → reals xs < n → l ≤ 13 → Fails d (λ j i. Begun (EE j b l) xs i) (inner.expr b l xs)

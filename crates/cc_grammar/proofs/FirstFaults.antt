@@ -1,25 +1,28 @@
--- Where reading stops, but not at a refused construct, the fault is there, and none of syntax or depth comes first.
+-- Where reading stops the fault is there, or begins there, and it is the first.
 use Rattle.std.specs.Prelude.{◌≡◌, ℕ, ◌<◌, ◌≤◌, true, false, [], ◌∷◌, ◌++◌, length}
 use Rattle.std.proofs.Common.{refl, sym, ap, ◌∙◌, subst, arith, append_assoc, append-nil, length-append, inl, inr}
 use Rattle.cc_grammar.specs.Symbols.{Lexeme, real, lexemes_of}
-use Rattle.cc_grammar.specs.Fronts.{Derives, IsFrontWithin, Justified}
+use Rattle.cc_ast.specs.declared.reading.Construct.{Construct}
+use Rattle.cc_grammar.specs.Fronts.{Justified}
 use Rattle.cc_grammar.specs.Faults.{TokensFront, TokensFrontWithin, Splits, WrongAt, TooDeepAt, FaultAt, rank}
-use Rattle.cc_grammar.specs.Laws.{is_plain, IsFirstPlainFault, HasNoPlainFault}
+use Rattle.cc_grammar.specs.Laws.{IsText, Fails, IsFirstFault}
 use Rattle.cc_grammar.specs.Reading.{Fault, Cause, syntax, depth, spent, refused}
-use Rattle.cc_grammar.proofs.Mono.{higher_body}
 use Rattle.cc_grammar.proofs.Alike.{is_limit, is_spent}
 use Rattle.cc_grammar.proofs.Copies.{L}
 use Rattle.cc_grammar.proofs.TokenFronts.{same_head, same_tail, lexemes_append, part_front, part_front_within}
-use Rattle.cc_grammar.proofs.Halts.{Halt, halt, is_deletion}
+use Rattle.cc_grammar.proofs.Halts.{Halt, halt, is_deletion, is_plain}
+use Rattle.cc_grammar.proofs.Refusals.{refused_at, where_refused}
+use Rattle.cc_grammar.proofs.PlainFaults.{none_begins}
+use Rattle.cc_grammar.proofs.FirstRefusals.{First, first_refusal}
 
 -- ---- the beginnings of a list
 
-record Begins (p x : L) : Type 0 where
+record Beginning (p x : L) : Type 0 where
   others : L
   is : p ≡ x ++ others
 
 -- of two beginnings the shorter begins the other
-begins : (p r x y : L) → p ++ r ≡ x ++ y → length x ≤ length p → Begins p x
+begins : (p r x y : L) → p ++ r ≡ x ++ y → length x ≤ length p → Beginning p x
 begins p r [] y e le = record { others = p; is = refl }
 begins [] r (t ∷ x) y e le = absurd (omega arith)
 begins (u ∷ p) r (t ∷ x) y e le =
@@ -37,20 +40,17 @@ plain_whole (refused x) e = absurd (clash (sym e))
 
 -- ---- where reading stops
 
-module _ (d : ℕ) (ts : L) (c : Fault) (s : Halt d ts c) where
-  number : ℕ
-  number = length (lexemes_of s.before)
-
+module _ (n d : ℕ) (ts : L) (c : Fault) (s : Halt n d ts c) where
   there : Splits ts (length (lexemes_of s.before)) (lexemes_of s.before) s.token s.after
   there = record { is = s.tokens ∙ append_assoc (lexemes_of s.before) (s.token ∷ []) s.after; count = refl }
 
   -- the tokens up to one that is no later begin the tokens up to the next
-  up_to : {i : ℕ} {before after : L} {t : Lexeme} → i ≤ length (lexemes_of s.before) → Splits ts i before t after → Begins (lexemes_of s.before ++ s.token ∷ []) (before ++ t ∷ [])
+  up_to : {i : ℕ} {before after : L} {t : Lexeme} → i ≤ length (lexemes_of s.before) → Splits ts i before t after → Beginning (lexemes_of s.before ++ s.token ∷ []) (before ++ t ∷ [])
   up_to {i} {before} {after} {t} le p = begins (lexemes_of s.before ++ s.token ∷ []) s.after (before ++ t ∷ []) after (sym s.tokens ∙ p.is ∙ sym (append_assoc before (t ∷ []) after))
       (omega (arith, length-append before (t ∷ []), length-append (lexemes_of s.before) (s.token ∷ []), p.count))
 
   -- and those up to an earlier one begin the tokens before
-  earlier : {i : ℕ} {before after : L} {t : Lexeme} → i < length (lexemes_of s.before) → Splits ts i before t after → Begins (lexemes_of s.before) (before ++ t ∷ [])
+  earlier : {i : ℕ} {before after : L} {t : Lexeme} → i < length (lexemes_of s.before) → Splits ts i before t after → Beginning (lexemes_of s.before) (before ++ t ∷ [])
   earlier {i} {before} {after} {t} lt p = begins (lexemes_of s.before) (s.token ∷ s.after) (before ++ t ∷ []) after (sym there.is ∙ p.is ∙ sym (append_assoc before (t ∷ []) after)) (omega (arith, length-append before (t ∷ []), p.count))
 
   front_before : (p q : L) → lexemes_of s.before ≡ p ++ q → TokensFront p
@@ -144,31 +144,65 @@ module _ (d : ℕ) (ts : L) (c : Fault) (s : Halt d ts c) where
   placed spent e m = absurd (clash (sym (ap is_spent e) ∙ s.stopped_there.unspent))
   placed (refused x) e m = absurd (clash (sym m))
 
-pub first_plain_fault : IsFirstPlainFault
-first_plain_fault turns d ts us f text lt q m = let s = halt turns d text lt q in record {
+-- Where it stops, but not at a refused construct.
+plain_fault : (n d : ℕ) (ts : L) (f : Fault) → IsText ts → length ts < n → Halt n d ts f → is_plain f.cause ≡ true → Fails d ts f
+plain_fault n d ts f text lt s m = record {
   before = lexemes_of s.before;
   token = s.token;
   after = s.after;
   number = length (lexemes_of s.before);
-  splits = there d ts f s;
-  place = placed d ts f s f.cause refl m;
-  is = fault_there d ts f s f.cause refl m;
-  least = least d ts f s (plain_whole f.cause m);
-  ranked = ranked d ts f s;
-}
+  splits = there n d ts f s;
+  place = placed n d ts f s f.cause refl m;
+  first = record {
+    is = fault_there n d ts f s f.cause refl m;
+    least = λ i b lt v. by_place i b lt v;
+    ranked = λ b lt v. by_rank b lt v;
+  };
+} where
+  by_place : (i : ℕ) (b : Cause) → i < length (lexemes_of s.before) → ¬ (FaultAt d ts i b)
+  by_place i (refused x) le v = none_begins n d ts f text lt s m (omega arith) v
+  by_place i syntax le v = least n d ts f s (plain_whole f.cause m) i syntax refl le v
+  by_place i depth le v = least n d ts f s (plain_whole f.cause m) i depth refl le v
+  by_place i spent le v = v
 
--- ---- what is read
+  by_rank : (b : Cause) → rank b < rank f.cause → ¬ (FaultAt d ts (length (lexemes_of s.before)) b)
+  by_rank (refused x) le v = none_begins n d ts f text lt s m (omega arith) v
+  by_rank syntax le v = ranked n d ts f s syntax refl le v
+  by_rank depth le v = ranked n d ts f s depth refl le v
+  by_rank spent le v = v
 
-pub no_plain_fault : HasNoPlainFault
-no_plain_fault d h n ts b c p le m v = by c m v where
-  whole : IsFrontWithin d p.symbols
-  whole = record { more = []; tree = b; derives = subst (λ z. Derives d z b) (sym (append-nil p.symbols)) (record { last = p.derives.last; body = higher_body d le p.derives.body; ends = p.derives.ends }) }
+-- at a refused construct
+refused_fault : (n d : ℕ) (ts : L) (f : Fault) (text : IsText ts) (enough : length ts < n) (s : Halt n d ts f) (c : Construct) (q : f.cause ≡ refused c) → First n d ts f text enough s c q → Fails d ts f
+refused_fault n d ts f text enough s c q y = record {
+  before = lexemes_of y.symbols;
+  token = y.token;
+  after = y.after;
+  number = length (lexemes_of y.symbols);
+  splits = record { is = y.refusal.splits; count = refl };
+  place = y.refusal.place;
+  first = record {
+    is = subst (λ z. FaultAt d ts (length (lexemes_of y.symbols)) z) (sym q) (refused_at y.refusal);
+    least = λ i b lt v. by_place i b lt v;
+    ranked = λ b lt v. omega (arith, lt, ap rank q);
+  };
+} where
+  begun : {i : ℕ} {before after : L} {t : Lexeme} → i < length (lexemes_of y.symbols) → Splits ts i before t after → Beginning (lexemes_of y.symbols) (before ++ t ∷ [])
+  begun {i} {before} {after} {t} lt p = begins (lexemes_of y.symbols) (y.token ∷ y.after) (before ++ t ∷ []) after (sym y.refusal.splits ∙ p.is ∙ sym (append_assoc before (t ∷ []) after)) (omega (arith, lt, length-append before (t ∷ []), p.count))
 
-  justified : Justified (p.symbols ++ [])
-  justified = subst (λ z. Justified z) (sym (append-nil p.symbols)) p.justified
+  by_place : (i : ℕ) (b : Cause) → i < length (lexemes_of y.symbols) → ¬ (FaultAt d ts i b)
+  by_place i (refused x) lt v = y.first i x lt v
+  by_place i syntax lt v = let b = begun lt v.splits in v.wrong (part_front y.symbols (real y.token ∷ []) y.refusal.justified (v.before ++ v.token ∷ []) b.others b.is (record { height = d; within = y.refusal.within }))
+  by_place i depth lt v = let b = begun lt v.splits in v.deep (part_front_within y.symbols (real y.token ∷ []) y.refusal.justified (v.before ++ v.token ∷ []) b.others b.is d y.refusal.within)
+  by_place i spent lt v = v
 
-  by : (c : Cause) → is_plain c ≡ true → FaultAt d ts n c → ⊥
-  by syntax m v = v.wrong (part_front p.symbols [] justified (v.before ++ v.token ∷ []) v.after (p.tokens ∙ v.splits.is ∙ sym (append_assoc v.before (v.token ∷ []) v.after)) (record { height = d; within = whole }))
-  by depth m v = v.deep (part_front_within p.symbols [] justified (v.before ++ v.token ∷ []) v.after (p.tokens ∙ v.splits.is ∙ sym (append_assoc v.before (v.token ∷ []) v.after)) d whole)
-  by spent m v = v
-  by (refused x) m v = clash (sym m)
+pub first_fault : IsFirstFault
+first_fault turns d ts us f text lt q = let s = halt turns d text lt q in by s f.cause refl where
+  by : Halt turns d ts f → (x : Cause) → f.cause ≡ x → Fails d ts f
+  by s (refused c) e =
+      let l : is_limit f.cause ≡ false = ap is_limit e in
+      refused_fault turns d ts f text lt s c e (first_refusal turns d ts f text lt s c e
+      (where_refused d ts f s.before s.token s.after (s.tokens ∙ append_assoc (lexemes_of s.before) (s.token ∷ []) s.after) s.justified s.stopped_there.front
+      (λ x. s.none x.height (s.before ++ real s.token ∷ []) x.within s.justified (inl l) (lexemes_append s.before (real s.token ∷ []))) c e (s.stopped_there.why l)))
+  by s syntax e = plain_fault turns d ts f text lt s (ap is_plain e)
+  by s depth e = plain_fault turns d ts f text lt s (ap is_plain e)
+  by s spent e = plain_fault turns d ts f text lt s (ap is_plain e)

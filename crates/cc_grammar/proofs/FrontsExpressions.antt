@@ -1,14 +1,14 @@
 -- Where reading stops, what came before is a front: expressions.
-use Rattle.std.specs.Prelude.{◌≡◌, ℕ, zero, suc, ◌+◌, ◌<◌, ◌≤◌, max, not, Bool, true, false, cond, nat_lt, ◌==◌, is_some, List, [], ◌∷◌, Ok, Err, Option, Some, None}
-use Rattle.std.proofs.Common.{refl, inl, inr, sym, ap, arith, ◌∙◌, subst, ltb-true, ltb-false, eqb-true}
+use Rattle.std.specs.Prelude.{◌≡◌, ℕ, zero, suc, ◌+◌, ◌<◌, ◌≤◌, max, Bool, true, false, cond, nat_lt, ◌==◌, List, [], ◌∷◌, ◌++◌, map, Ok, Err, Option, Some, None}
+use Rattle.std.proofs.Common.{refl, sym, ap, arith, ◌∙◌, subst, ltb-true, ltb-false, eqb-true}
+use Rattle.std.proofs.lemmas.List.{append_cancel_right}
 use Rattle.cc_ast.specs.declared.operator.BinOp.{BinOp}
 use Rattle.cc_ast.specs.declared.operator.UnOp.TheVariants as op
 use Rattle.cc_ast.specs.declared.place.Place.{Place}
 use Rattle.cc_ast.specs.Syntax.{undefined}
-use Rattle.cc_ast.specs.declared.reading.Construct.TheVariants as construct
 use Rattle.cc_lexer.specs.declared.token.Mark.TheVariants as mark
 use Rattle.cc_grammar.specs.declared.word.Word.TheVariants as word
-use Rattle.cc_grammar.specs.Symbols.{Kind, Symbols, real, look, rest, nowhere, is_mark}
+use Rattle.cc_grammar.specs.Symbols.{Kind, Lexeme, Symbols, real, look, rest, nowhere, is_mark}
 use Rattle.cc_grammar.specs.Symbols as k
 use Rattle.cc_grammar.specs.RawTree.{RawExpr, RawTarget}
 use Rattle.cc_grammar.specs.RawTree as raw
@@ -18,19 +18,52 @@ use Rattle.cc_grammar.specs.Grammar as g
 use Rattle.cc_grammar.specs.Grammar.{At, Sign, Variable, E}
 use Rattle.cc_grammar.specs.Reading.{Outcome, Sized, and_then, is_delete, is_remedy, goes_on, variable_of}
 use Rattle.cc_grammar.specs.Reading as r
-use Rattle.cc_grammar.proofs.Marked.{In, marked, found, expected, seen_variable}
-use Rattle.cc_grammar.proofs.Meets.{Done, ok, err, fork, weaken}
-use Rattle.cc_grammar.proofs.Mono.{bounded, above, settable}
+use Rattle.cc_grammar.proofs.Marked.{In, marked, found, expected}
+use Rattle.cc_grammar.proofs.Meets.{Done, ok, fork, weaken}
+use Rattle.cc_grammar.proofs.Mono.{bounded, above, settable, lower}
 use Rattle.cc_grammar.proofs.Shrinks.{reals, at_less, e_less}
-use Rattle.cc_grammar.proofs.SoundParts.{Derived, Operand, SoundInner}
+use Rattle.cc_grammar.proofs.SoundParts.{Derived, SoundInner}
 use Rattle.cc_grammar.proofs.SoundPrimary.{Chained, callable, primary_sound, suffixes_sound}
 use Rattle.cc_grammar.proofs.SoundExpressions.{lowered, operator_at, postfix_sound, prefixed_sound, Climbs, begin_climb, climbed, climb_sound, conditional_sound, assign_sound}
-use Rattle.cc_grammar.proofs.Moves.{Front, joined, look_kept}
-use Rattle.cc_grammar.proofs.Deletions.{Nest, Looks, looks_true, looks_false, opened_looks, nest_found, all_closed, variable_nest, delete_kind, deletes}
+use Rattle.cc_grammar.proofs.Moves.{Moved, joined, look_kept}
+use Rattle.cc_grammar.proofs.Deletions.{Nest, nest_told, Found, Looks, looks_true, looks_false, opened_looks, nest_found, all_closed, variable_nest, delete_kind, deletes}
+use Rattle.cc_grammar.proofs.Nests.{nothing_deleted}
 use Rattle.cc_grammar.proofs.MovesDerived.{e_moves}
-use Rattle.cc_grammar.proofs.Fails.{token, new_at, taken, again, First, same, fresh, Spot, here, due, left, put, Begun, EE, no_e, e_due, Fails, fine, stop, by_deletion, fails_after, fails_map, fails_fork, fails_choice, fails_here, expect_fails, deeper_fails, FailsInner}
+use Rattle.cc_grammar.proofs.Steps.{kind_at}
+use Rattle.cc_grammar.proofs.Fails.{token, new_at, taken, again, same, Spot, here, anew, Begun, EE, no_e, e_due, Fails, fine, deleted, fails_after, fails_map, fails_fork, fails_here, expect_fails, names, may_raise, Raises, raises, deeper_fails, at_is, FailsInner}
+use Rattle.cc_grammar.proofs.Onward.{Mends, onward, mended, mends, delete_other, delete_variable}
 use Rattle.cc_grammar.proofs.FrontsPrimary.{whole_e, lower_begun, primary_fails, suffixes_fail}
 use Rattle.cc_grammar.proofs.OnSymbols as s
+
+-- ---- tokens of operators make what they stand in higher
+
+absent : {A : Type 0} {x : Option A} {y : A} → x ≡ None → x ≡ Some y → ⊥
+absent {A} {y} e f = let no : ◌≡◌ {A = Option A} None (Some y) = sym e ∙ f in (cc)
+
+step_raises : (x : Kind) (up : Bool) → step_of x ≡ Some up → may_raise x ≡ true
+step_raises (k.name n) up e = absurd (absent refl e)
+step_raises (k.word word.Delete) up e = absurd (absent refl e)
+step_raises _ up e = refl
+
+assign_raises : (x : Kind) (o : Option BinOp) → assign_of x ≡ Some o → may_raise x ≡ true
+assign_raises (k.name n) o e = absurd (absent refl e)
+assign_raises (k.word word.Delete) o e = absurd (absent refl e)
+assign_raises _ o e = refl
+
+infix_raises : (n : Bool) (x : Kind) (o : Infix) → infix_of n x ≡ Some o → may_raise x ≡ true
+infix_raises true (k.name v) o e = absurd (absent refl e)
+infix_raises false (k.name v) o e = absurd (absent refl e)
+infix_raises true (k.word word.Delete) o e = absurd (absent refl e)
+infix_raises false (k.word word.Delete) o e = absurd (absent refl e)
+infix_raises n _ o e = refl
+
+some_is : {A : Type 0} (x y : A) → ◌≡◌ {A = Option A} (Some x) (Some y) → x ≡ y
+some_is x y e = cc
+
+prefix_raises : (x : Kind) (o : Prefix) → prefix_of x ≡ Some o → is_delete o ≡ false → may_raise x ≡ true
+prefix_raises (k.name n) o e f = absurd (absent refl e)
+prefix_raises (k.word word.Delete) o e f = sym f ∙ ap is_delete (sym (some_is (sign.unary op.Delete) o e))
+prefix_raises _ o e f = refl
 
 delete_member : (o : Prefix) (p : Place) (q : Place) (e : RawExpr) (u : Place) (v : List ℕ) → is_delete o ≡ true → prefix_tree o p (raw.member q e u v) ≡ Some (raw.unary p op.Delete (raw.member q e u v))
 delete_member (sign.unary op.Delete) p q e u v t = refl
@@ -48,7 +81,7 @@ module _ (d n : ℕ) (inner : In) (sound : SoundInner d inner) (all : FailsInner
   postfix_fails b a xs ys h = by (step_of (look ys).kind) (target_of a.0) (look ys).after_line refl refl refl where
     by : (o : Option Bool) (t : Option RawTarget) (c : Bool) → step_of (look ys).kind ≡ o → target_of a.0 ≡ t → (look ys).after_line ≡ c → Fails (suc d) (XE b 13 xs) (s.postfix_by d n inner a o t c ys)
     by (Some up) (Some t) false e f q = let c = found step_of ys up refl refl e in let m = e_moves h.tree in
-        deeper_fails {h = a.1} c (λ lt. fine) a.1 (omega (arith, h.low)) (lower_begun 13 (omega arith) (λ z. absurd (omega arith)) (whole_e h.tree)) (suc a.1)
+        deeper_fails {h = a.1} c (raises (step_raises (look ys).kind up e)) (λ lt. fine) a.1 (omega (arith, h.low)) (lower_begun 13 (omega arith) (λ z. absurd (omega arith)) (whole_e h.tree)) (suc a.1)
         (record { front = joined m.front (taken c); more = λ zs. zs; tree = raw.step (look ys).place up false t; holds = λ zs. g.postfix (omega arith) (omega arith) (m.holds _) f q (again c _) e; first = λ zs. same (look_kept m.front (e_less h.tree) _) })
     by (Some up) (Some t) true e f q = fine
     by (Some up) None c e f q = fine
@@ -79,6 +112,44 @@ module _ (d n : ℕ) (inner : In) (sound : SoundInner d inner) (all : FailsInner
   delete_at : (o : Prefix) {xs us : Symbols} → is_delete o ≡ true → At (look xs).kind xs us → prefix_of (look xs).kind ≡ Some o → At (k.word word.Delete) xs us
   delete_at o {xs} {us} t c e = let P : Kind → Type 0 = λ z. At z xs us in subst P (delete_kind (look xs).kind o e t) c
 
+  -- a variable behind `delete`, with a token that goes on with an operand
+  goes_begun : (b : Bool) (o : Prefix) {xs us j : Symbols} → is_delete o ≡ true → At (look xs).kind xs us → prefix_of (look xs).kind ≡ Some o → (n : Nest 0 us j) → (q : (look xs).kind ≡ k.word word.Delete) → (t : Lexeme) → goes_on t ≡ true
+      → (h : ℕ) × XE b 13 xs h (anew (look xs) q (nest_told n).tokens t us)
+  goes_begun b o {xs} {us} {j} v c e n q t onwards = by (mends b f.height f.tree t f.variable onwards) where
+    f : Found 0 b 16 us j
+    f = nest_found b 16 n
+
+    m : Moved (EE f.height b 16 f.tree) us j
+    m = e_moves (all_closed f)
+
+    same_tokens : m.front.before ≡ map real (nest_told n).tokens
+    same_tokens = append_cancel_right m.front.before (map real (nest_told n).tokens) j (sym (m.front.prefix j) ∙ m.front.is ∙ (nest_told n).is)
+
+    there : (zs : Symbols) → E f.height b 16 (map real (nest_told n).tokens ++ zs) f.tree zs
+    there zs = subst (λ l. E f.height b 16 l f.tree zs) (m.front.prefix zs ∙ ap (λ l. l ++ zs) same_tokens) (m.holds zs)
+
+    by : Mends b f.height f.tree t → (h : ℕ) × XE b 13 xs h (anew (look xs) q (nest_told n).tokens t us)
+    by (onward y) = (
+      suc y.height,
+      record {
+        front = record { go = λ zs. zs; before = []; prefix = λ zs. refl; is = at_is c };
+        more = y.more;
+        tree = raw.unary (look xs).place op.Delete y.tree;
+        holds = λ zs. g.prefix (omega arith) (omega arith) (again c _) e (y.holds zs (there (real t ∷ y.more zs))) (delete_other o (look xs).place y.tree v y.other);
+        first = λ zs. same refl;
+      },
+    )
+    by (mended r) = (
+      suc f.height,
+      record {
+        front = record { go = λ zs. zs; before = []; prefix = λ zs. refl; is = at_is c };
+        more = λ zs. zs;
+        tree = raw.lit (look xs).place undefined;
+        holds = λ zs. g.wrong_prefix (omega arith) (omega arith) (again c _) e (lower 13 (omega arith) (λ z. absurd (omega arith)) (there (real t ∷ zs))) (delete_variable o (look xs).place f.tree v f.variable) (g.at_token t r);
+        first = λ zs. same refl;
+      },
+    )
+
   prefix_expr_fails : (b : Bool) (o : Prefix) (xs : Symbols) → 0 < d → reals xs < n → prefix_of (look xs).kind ≡ Some o → Fails (suc d) (XE b 13 xs) (s.prefix_expr d n inner b o xs)
   unfolding r.prefix_expr
   prefix_expr_fails b o xs lt ln e = fails_after (sound.expr b 13 (rest xs) (omega arith)) (fails_map suc (λ j l. omega arith) (λ j i w. prefix_begun o j c e w) (all.expr lt b 13 (rest xs) (omega (arith, at_less c)) (omega arith)))
@@ -89,16 +160,17 @@ module _ (d n : ℕ) (inner : In) (sound : SoundInner d inner) (all : FailsInner
         wrong : (x : Prefix) {a : RawExpr} {h : ℕ} (ys : Symbols) (j : ℕ) → j < suc d → x ≡ o → E h b 13 (rest xs) a ys → prefix_tree x (look xs).place a ≡ None → XE b 13 xs j (here ys) → Fails (suc d) (XE b 13 xs) (s.wrong_prefix d n inner x (look xs).place ys)
         wrong (sign.step up) ys j lt m x q w = fails_here ys j lt w
         wrong (sign.unary x) {a} ys j lt m t q w = let y = deletes x (look xs).place a q in
-            stop refl (λ w. cc) j (inl lt) (by_deletion refl (delete_at o (ap is_delete (sym m) ∙ y.0) c e) (variable_nest t y.1) 0 (e_due xs 0 b 13)) w
+            let f = ap is_delete (sym m) ∙ y.0 in let v = delete_at o f c e in let nest = variable_nest t y.1 in
+            deleted refl v nest 0 (omega arith) (e_due xs 0 b 13) (λ z g. goes_begun b o f c e nest (kind_at v) z g) j w
 
         by : (a : Sized RawExpr) (ys : Symbols) → a.1 < d → E a.1 b 13 (rest xs) a.0 ys → (f : Option RawExpr) → prefix_tree o (look xs).place a.0 ≡ f → Fails (suc d) (XE b 13 xs) (s.prefix_by d n inner o (look xs).place a f ys)
         by a ys lt x (Some f) q = fine
         by a ys lt x None q = fails_fork (is_remedy (look ys).kind) _ _ (λ _. fine) (λ _. wrong o ys (suc a.1) (omega arith) refl x q (wrong_begun o c e x q))
 
-  deep_prefix : (b : Bool) (o : Prefix) (xs : Symbols) → reals xs < n → prefix_of (look xs).kind ≡ Some o
+  deep_prefix : (b : Bool) (o : Prefix) (xs : Symbols) → reals xs < n → prefix_of (look xs).kind ≡ Some o → Raises (look xs).kind (rest xs)
       → Fails (suc d) (XE b 13 xs) (cond (nat_lt 0 d) (s.prefix_expr d n inner b o xs) (Err (record { cause = r.depth; place = (look xs).place }, xs)))
-  deep_prefix b o xs ln e = let c = found prefix_of xs o refl refl e in
-      deeper_fails c (λ lt. prefix_expr_fails b o xs lt ln e) 0 (omega arith) (no_e xs 0 b 13) 1 (prefix_begun o 0 c e (no_e (rest xs) 0 b 13))
+  deep_prefix b o xs ln e r = let c = found prefix_of xs o refl refl e in
+      deeper_fails c r (λ lt. prefix_expr_fails b o xs lt ln e) 0 (omega arith) (no_e xs 0 b 13) 1 (prefix_begun o 0 c e (no_e (rest xs) 0 b 13))
 
   -- where the operand of `delete` is a variable, a dot makes it one that can be deleted
   delete_begun : (b : Bool) (o : Prefix) {xs us j : Symbols} → is_delete o ≡ true → At (look xs).kind xs us → prefix_of (look xs).kind ≡ Some o → Nest 0 us j → (h : ℕ) × XE b 13 xs h (here j)
@@ -115,11 +187,18 @@ module _ (d n : ℕ) (inner : In) (sound : SoundInner d inner) (all : FailsInner
 
   prefixed_fails : (b : Bool) (o : Prefix) (xs : Symbols) → reals xs < n → prefix_of (look xs).kind ≡ Some o → Fails (suc d) (XE b 13 xs) (s.prefixed d n inner b o xs)
   unfolding r.prefixed
-  prefixed_fails b o xs ln e = fails_fork (is_delete o) _ _ (λ t. by t (opened_looks n 0 (rest xs) (omega (arith, at_less (found prefix_of xs o refl refl e))))) (λ _. deep_prefix b o xs ln e) where
-    by : is_delete o ≡ true → {u : Outcome Symbols Bool} → Looks 0 (rest xs) u
+  prefixed_fails b o xs ln e = fails_fork (is_delete o) _ _ (λ t. by t (s.opened n 0 (rest xs)) refl (opened_looks n 0 (rest xs) behind)) (λ f. deep_prefix b o xs ln e (raises (prefix_raises (look xs).kind o e f))) where
+    c : At (look xs).kind xs (rest xs)
+    c = found prefix_of xs o refl refl e
+
+    behind : reals (rest xs) < n
+    behind = omega (arith, at_less c)
+
+    by : is_delete o ≡ true → (u : Outcome Symbols Bool) → s.opened n 0 (rest xs) ≡ u → Looks 0 (rest xs) u
         → Fails (suc d) (XE b 13 xs) (r.unless_deleted Symbols look rest r.semicolon_symbol u (look xs).place (cond (nat_lt 0 d) (s.prefix_expr d n inner b o xs) (Err (record { cause = r.depth; place = (look xs).place }, xs))))
-    by t (looks_true h) = let p = delete_begun b o t (found prefix_of xs o refl refl e) e h in stop refl (λ w. cc) p.0 (inr refl) (by_deletion refl (delete_at o t (found prefix_of xs o refl refl e) e) h 0 (e_due xs 0 b 13)) p.1
-    by t looks_false = deep_prefix b o xs ln e
+    by t u q (looks_true h) = let p = delete_begun b o t c e h in let v = delete_at o t c e in
+        deleted refl v h 0 (omega arith) (e_due xs 0 b 13) (λ z g. goes_begun b o t c e h (kind_at v) z g) p.0 p.1
+    by t u q looks_false = deep_prefix b o xs ln e (record { unnamed = ap names (kind_at (delete_at o t c e)); spares = λ _. nothing_deleted n behind q })
 
   -- ---- binary operators
 
@@ -138,7 +217,7 @@ module _ (d n : ℕ) (inner : In) (sound : SoundInner d inner) (all : FailsInner
   turn_fails b l xs a ys next None ln e h f = fine
   turn_fails b l xs a ys next (Some o) ln e h f = fails_fork (nat_lt (level o) l) _ _ (λ _. fine)
       (λ ge. let le = ltb-false _ _ ge in let t = h.next o e le in let c = operator_at b ys o e in
-      deeper_fails c
+      deeper_fails c (raises (infix_raises b (look ys).kind o e))
       (λ (lt : a.1 < d). fails_after (sound.expr b (level o + 1) (rest ys) (omega (arith, bounded o)))
       (fails_map (λ j. suc (max a.1 j)) (λ j m. omega arith) (λ j i w. binary_begun b l o j le t e w) (all.expr (omega arith) b (level o + 1) (rest ys) (omega (arith, e_less t, at_less c)) (omega (arith, bounded o))))
       (λ x zs p. f _ zs (climbed d n inner sound b l xs a ys o e le lt h x zs p.0 p.1) lt (omega arith)))
@@ -173,7 +252,7 @@ module _ (d n : ℕ) (inner : In) (sound : SoundInner d inner) (all : FailsInner
   conditional_fails : (b : Bool) (a : Sized RawExpr) (xs ys : Symbols) → reals xs < n → Derived d b 3 xs a ys → Fails (suc d) (XE b 2 xs) (s.conditional d n inner b a ys)
   unfolding r.conditional
   conditional_fails b a xs ys ln h = fails_fork (is_mark mark.Question (look ys).kind) _ _
-      (λ e. let c = marked mark.Question ys e in deeper_fails c
+      (λ e. let c = marked mark.Question ys e in deeper_fails c (raises refl)
       (λ (lt : a.1 < d). fails_after (sound.expr true 1 (rest ys) (omega arith))
       (fails_map (λ j. suc (max a.1 j)) (λ j m. omega arith) (λ j i w. then_begun b j h.tree c w) (all.expr (omega arith) true 1 (rest ys) (omega (arith, e_less h.tree, at_less c)) (omega arith)))
       (λ x zs p. fails_after (expected mark.Colon zs) (expect_fails mark.Colon zs (suc (max a.1 x.1)) (omega arith) (then_begun b x.1 h.tree c (whole_e p.0.whole.tree)))
@@ -196,7 +275,7 @@ module _ (d n : ℕ) (inner : In) (sound : SoundInner d inner) (all : FailsInner
   unfolding r.assign
   assign_fails b a xs ys ln h = by (assign_of (look ys).kind) (target_of a.0) refl refl where
     by : (o : Option (Option BinOp)) (t : Option RawTarget) → assign_of (look ys).kind ≡ o → target_of a.0 ≡ t → Fails (suc d) (XE b 1 xs) (s.assign_by d n inner b a o t ys)
-    by (Some o) (Some t) e f = let c = found assign_of ys o refl refl e in let x = settable t f h.tree in deeper_fails c
+    by (Some o) (Some t) e f = let c = found assign_of ys o refl refl e in let x = settable t f h.tree in deeper_fails c (raises (assign_raises (look ys).kind o e))
         (λ (lt : a.1 < d). fails_after (sound.expr b 1 (rest ys) (omega arith))
         (fails_map (λ j. suc (max a.1 j)) (λ j m. omega arith) (λ j i w. assign_begun b j x f e w) (all.expr (omega arith) b 1 (rest ys) (omega (arith, e_less h.tree, at_less c)) (omega arith)))
         (λ y zs p. fine))
@@ -216,7 +295,7 @@ module _ (d n : ℕ) (inner : In) (sound : SoundInner d inner) (all : FailsInner
   comma_fails : (b : Bool) (next : Sized RawExpr → s.Reader (Sized RawExpr)) (a : Sized RawExpr) (xs ys : Symbols) (c : Bool) → reals xs < n → is_mark mark.Comma (look ys).kind ≡ c → Derived d b 0 xs a ys
       → ((x : Sized RawExpr) (zs : Symbols) → Derived d b 0 xs x zs → a.1 < d → a.1 < x.1 → Fails (suc d) (XE b 0 xs) (next x zs)) → Fails (suc d) (XE b 0 xs) (s.comma_by d n inner next b a c ys)
   comma_fails b next a xs ys false ln e h f = fine
-  comma_fails b next a xs ys true ln e h f = let c = marked mark.Comma ys e in deeper_fails c
+  comma_fails b next a xs ys true ln e h f = let c = marked mark.Comma ys e in deeper_fails c (raises refl)
       (λ (lt : a.1 < d). fails_after (sound.expr b 1 (rest ys) (omega arith))
       (fails_map (λ j. suc (max a.1 j)) (λ j m. omega arith) (λ j i w. comma_begun b j h.tree c w) (all.expr (omega arith) b 1 (rest ys) (omega (arith, e_less h.tree, at_less c)) (omega arith)))
       (λ x zs p. f _ zs (record { tree = g.comma (omega arith) (omega arith) h.tree c p.0.whole.tree; low = omega (arith, p.1) }) lt (omega arith)))

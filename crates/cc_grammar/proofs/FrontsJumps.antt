@@ -1,6 +1,6 @@
 -- Where reading stops, what came before is a front: jumps, names, `try`, and every statement at every depth.
-use Rattle.std.specs.Prelude.{◌≡◌, ℕ, zero, suc, ◌+◌, ◌<◌, ◌≤◌, max, ◌||◌, Bool, true, false, cond, nat_lt, List, [], ◌∷◌, ◌++◌, Ok, Err, Option, Some, None}
-use Rattle.std.proofs.Common.{refl, inl, inr, sym, ap, arith, ◌∙◌, subst, ltb-true}
+use Rattle.std.specs.Prelude.{◌≡◌, ℕ, suc, ◌+◌, ◌<◌, max, ◌||◌, Bool, true, false, cond, nat_lt, List, [], ◌∷◌, Ok, Err, Option, Some, None}
+use Rattle.std.proofs.Common.{refl, ap, arith, ◌∙◌}
 use Rattle.cc_ast.specs.declared.reading.Construct.{Construct}
 use Rattle.cc_ast.specs.Syntax.{undefined}
 use Rattle.cc_lexer.specs.declared.token.Mark.TheVariants as mark
@@ -14,24 +14,20 @@ use Rattle.cc_grammar.specs.Grammar as g
 use Rattle.cc_grammar.specs.Grammar.{Context, Labels, inside, labelled, is_among, At, Sign, Reserved, E, T, Catch, Finally, is_tail, opens_no_expression}
 use Rattle.cc_grammar.specs.Reading.{Outcome, Sized, Start, and_then, semicolon_symbol, start_of, label_of, ends_return, is_some_label, is_remedy}
 use Rattle.cc_grammar.specs.Reading as r
-use Rattle.cc_grammar.proofs.Marked.{In, consumed, marked, worded, ended}
-use Rattle.cc_grammar.proofs.Meets.{Done, ok, err}
-use Rattle.cc_grammar.proofs.Views.{IsStart, start_is}
-use Rattle.cc_grammar.proofs.Views as view
-use Rattle.cc_grammar.proofs.Shrinks.{reals, at_less, e_less, t_less, catch_less}
+use Rattle.cc_grammar.proofs.Marked.{In, consumed, marked, ended}
+use Rattle.cc_grammar.proofs.Shrinks.{reals, at_less, t_less, catch_less}
 use Rattle.cc_grammar.proofs.SoundParts.{SoundInner}
 use Rattle.cc_grammar.proofs.SoundPrimary.{free}
 use Rattle.cc_grammar.proofs.SoundExpressions.{after_head_sound, expr_sound}
 use Rattle.cc_grammar.proofs.SoundJumps.{Blocked, block_in_sound, catch_sound, finally_sound}
-use Rattle.cc_grammar.proofs.Sound.{reader_sound}
 use Rattle.cc_grammar.proofs.Moves.{Front, stays, joined, Fits, look_kept, kept_fits}
 use Rattle.cc_grammar.proofs.Moves as moves
-use Rattle.cc_grammar.proofs.MovesDerived.{e_moves, t_moves, catch_moves}
-use Rattle.cc_grammar.proofs.Fails.{token, new_at, taken, again, First, same, fresh, Spot, here, due, left, put, Begun, EE, TT, no_e, no_t, Fails, fine, stop, by_name, deep, fails_after, fails_map, fails_fork, fails_choice, fails_here, deeper_fails, XX, FailsInner}
-use Rattle.cc_grammar.proofs.FrontsPrimary.{whole_e, callee_fails}
+use Rattle.cc_grammar.proofs.MovesDerived.{t_moves, catch_moves}
+use Rattle.cc_grammar.proofs.Fails.{token, new_at, taken, again, same, fresh, Spot, here, due, left, Begun, EE, TT, no_t, Fails, fine, stop, by_name, fails_after, fails_map, fails_fork, fails_here, raises, deeper_fails, XX, FailsInner}
+use Rattle.cc_grammar.proofs.FrontsPrimary.{whole_e}
 use Rattle.cc_grammar.proofs.FrontsExpressions.{expr_fails, after_head_fails}
 use Rattle.cc_grammar.proofs.FrontsClauses.{semicolon_fails, end_now, fits_first, no_block, block_in_fails, GG, finally_fails, CA, catch_fails}
-use Rattle.cc_grammar.proofs.FrontsStatements.{simple_begun, OnLine, on_line, no_finally, first_label, simple_fails, plain_fails, vars_fail, block_fails, declaration_fails, declare_word, choice_fails, while_fails, do_while_fails, for_fails, for_open, switch_fails}
+use Rattle.cc_grammar.proofs.FrontsStatements.{simple_begun, OnLine, on_line, no_finally, first_label, simple_fails}
 use Rattle.cc_grammar.proofs.OnSymbols as s
 
 same_line : (a b c d e : Bool) → (a || b || c || d || e) ≡ false → a ≡ false
@@ -175,7 +171,7 @@ module _ (d n : ℕ) (inner : In) (sound : SoundInner d inner) (all : FailsInner
     labels : is_mark mark.Colon (look (rest xs)).kind ≡ true → Fails {A = Sized (List RawStmt)} (suc d) (JT c xs) (cond (is_among v c.labels) (r.fail Symbols look rest semicolon_symbol r.a_token)
         (λ i. cond (nat_lt 0 d) (and_then (inner.stmt (labelled v c) (rest i)) (λ b j. Ok ((raw.label (look xs).place v (stmts b.0) ∷ [], b.1 + 1), j))) (Err (record { cause = r.depth; place = (look i).place }, i))) (rest xs))
     labels q = fails_fork (is_among v c.labels) _ _ (λ _. fails_here (rest xs) 0 (omega arith) (name_begun c 0 o e)) (λ a. let p = marked mark.Colon (rest xs) q in
-        deeper_fails {h = 0} p (λ lt. fails_after (sound.stmt (labelled v c) (rest (rest xs))) (fails_map suc (λ j l. omega arith) (λ j i w. label_begun c j o p a w) (all.stmt lt (labelled v c) (rest (rest xs)) (omega (arith, at_less o, at_less p)))) (λ b ys t. fine))
+        deeper_fails {h = 0} p (raises refl) (λ lt. fails_after (sound.stmt (labelled v c) (rest (rest xs))) (fails_map suc (λ j l. omega arith) (λ j i w. label_begun c j o p a w) (all.stmt lt (labelled v c) (rest (rest xs)) (omega (arith, at_less o, at_less p)))) (λ b ys t. fine))
         0 (omega arith) (name_begun c 0 o e) 1 (label_begun c 0 o p a (no_t (rest (rest xs)) (labelled v c) 0)))
 
     by : (x : Option Construct) (b : Bool) → refused_name v ≡ x → is_mark mark.Colon (look (rest xs)).kind ≡ b → Fails (suc d) (JT c xs) (s.name_by d n inner c (look xs).place v x b (rest xs))
@@ -184,7 +180,7 @@ module _ (d n : ℕ) (inner : In) (sound : SoundInner d inner) (all : FailsInner
     by None false f q = fails_after (after_head_sound d n inner sound true 0 (raw.var (look xs).place v, 0) xs (rest xs) (omega arith) (free (λ l _. g.name (g.variable o f)) (omega arith)))
         (fails_map (λ j. j) (λ j l. l) (λ j i w. simple_begun c (ap opens_no_expression e) w) (after_head_fails d n inner sound all true 0 (raw.var (look xs).place v, 0) xs (rest xs) ln (omega arith) (free (λ l _. g.name (g.variable o f)) (omega arith))))
         (λ x ys p. simple_fails d n inner sound all c xs (look xs).place x ys (ap opens_no_expression e) p.whole.tree p.whole.low)
-    by (Some x) false f q = fails_fork (is_remedy (look (rest xs)).kind) _ _ (λ _. fine) (λ _. stop refl (λ w. cc) 0 (inl (omega arith)) (by_name refl o f q 0 (name_there c xs 0)) (name_begun c 0 o e))
+    by (Some x) false f q = fails_fork (is_remedy (look (rest xs)).kind) _ _ (λ _. fine) (λ _. stop refl (λ w. cc) 0 (omega arith) (by_name refl o f q 0 (name_there c xs 0)) (name_begun c 0 o e))
 
   -- ---- `try`
 

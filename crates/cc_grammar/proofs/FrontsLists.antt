@@ -1,8 +1,7 @@
 -- Where reading stops, what came before is a front: lists and functions.
-use Rattle.std.specs.Prelude.{◌≡◌, ℕ, zero, suc, ◌+◌, ◌<◌, ◌≤◌, max, ◌&&◌, Bool, true, false, is_some, List, [], ◌∷◌, ◌++◌, Ok, Err, Option, Some, None}
-use Rattle.std.proofs.Common.{refl, inl, inr, sym, ap, arith, ◌∙◌, subst}
+use Rattle.std.specs.Prelude.{◌≡◌, ℕ, zero, suc, ◌<◌, max, ◌&&◌, Bool, true, false, is_some, List, [], ◌∷◌, ◌++◌, Option, Some, None}
+use Rattle.std.proofs.Common.{refl, sym, ap, arith, ◌∙◌}
 use Rattle.cc_ast.specs.declared.place.Place.{Place}
-use Rattle.cc_ast.specs.declared.reading.Construct.TheVariants as construct
 use Rattle.cc_ast.specs.Syntax.{undefined}
 use Rattle.cc_lexer.specs.declared.token.Mark.TheVariants as mark
 use Rattle.cc_grammar.specs.Symbols.{Kind, Symbols, real, look, rest, nowhere, is_mark}
@@ -15,7 +14,6 @@ use Rattle.cc_grammar.specs.Grammar.{Context, of_function, At, Sign, Variable, M
 use Rattle.cc_grammar.specs.Reading.{Outcome, Sized, is_element, ends_list, variable_of, refused}
 use Rattle.cc_grammar.specs.Reading as r
 use Rattle.cc_grammar.proofs.Marked.{In, consumed, marked, found, expected, read_variable}
-use Rattle.cc_grammar.proofs.Meets.{Done, ok, err}
 use Rattle.cc_grammar.proofs.Views.{mark_true, element_true}
 use Rattle.cc_grammar.proofs.Mono.{higher, higher_field, higher_fields, higher_elements, higher_more, higher_t, higher_body}
 use Rattle.cc_grammar.proofs.Shrinks.{reals, at_less, variable_less, params_less, e_less, field_less, t_less}
@@ -24,7 +22,7 @@ use Rattle.cc_grammar.proofs.SoundLists.{key_sound, field_sound, body_sound}
 use Rattle.cc_grammar.proofs.Moves.{Front, stays, joined, Fits, free, look_kept}
 use Rattle.cc_grammar.proofs.Moves as moves
 use Rattle.cc_grammar.proofs.MovesDerived.{e_moves, field_moves, t_moves, params_move}
-use Rattle.cc_grammar.proofs.Fails.{token, new_at, taken, again, variable_taken, variable_again, First, same, fresh, Spot, here, due, left, put, Begun, EE, TT, Fails, fine, stop, by_element, by_key, fails_after, fails_map, fails_fork, fails_choice, fails_here, expect_fails, variable_fails, FailsInner}
+use Rattle.cc_grammar.proofs.Fails.{token, new_at, taken, again, variable_taken, variable_again, First, same, fresh, Spot, here, due, Begun, EE, Fails, fine, stop, by_element, by_key, fails_after, fails_map, fails_fork, fails_here, expect_fails, variable_fails, FailsInner}
 use Rattle.cc_grammar.proofs.OnSymbols as s
 
 -- ---- parameters
@@ -141,7 +139,7 @@ module _ (d n : ℕ) (inner : In) (sound : SoundInner d inner) (all : FailsInner
         first = λ zs. same refl;
       })) (λ _ zs q. fine))
       (λ _. fails_fork (is_mark mark.Comma (look xs).kind) _ _
-      (λ q. stop refl (λ w. cc) 0 (inl (omega arith)) (by_element refl (mark_true mark.Comma _ q) 0 (record {
+      (λ q. stop refl (λ w. cc) 0 (omega arith) (by_element refl (mark_true mark.Comma _ q) 0 (record {
         front = stays xs;
         more = λ zs. real (token (k.mark mark.CloseBracket)) ∷ zs;
         tree = [];
@@ -209,7 +207,7 @@ module _ (d n : ℕ) (inner : In) (sound : SoundInner d inner) (all : FailsInner
   key_fails : {b : ℕ} (xs : Symbols) (v : Option RawKey) → key_of (look xs).kind ≡ v → 0 < b → Fails b (λ j i. Begun (FF j) xs i) (s.key_by d n inner v xs)
   key_fails xs None e some = fails_here xs 0 (omega arith) (no_field_yet xs 0)
   key_fails xs (Some y) e some = fails_fork (is_accessor (look xs).kind && is_some (key_of (look (rest xs)).kind)) _ _
-      (λ t. let c = found key_of xs y refl refl e in let q = both_true (is_accessor (look xs).kind) _ t in stop refl (λ w. cc) 0 (inl some) (by_key refl c q.0 q.1 0 (key_due xs 0)) (key_begun 0 c e)) (λ _. fine)
+      (λ t. let c = found key_of xs y refl refl e in let q = both_true (is_accessor (look xs).kind) _ t in stop refl (λ w. cc) 0 some (by_key refl c q.0 q.1 0 (key_due xs 0)) (key_begun 0 c e)) (λ _. fine)
 
   -- a key and its colon
   key_held : {y : Place × RawKey} {xs ys zs : Symbols} {i : Spot} (j : ℕ) → IsKey xs y ys → Sign mark.Colon ys zs → Begun (EE j true 1) zs i → Begun (FF j) xs i

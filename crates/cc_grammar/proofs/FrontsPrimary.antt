@@ -1,6 +1,6 @@
 -- Where reading stops, what came before is a front: primary expressions, and what goes on with them by dots, brackets and calls.
-use Rattle.std.specs.Prelude.{◌≡◌, ℕ, zero, suc, ◌+◌, ◌<◌, ◌≤◌, max, Bool, true, false, cond, nat_lt, List, [], ◌∷◌, Ok, Err, Option, Some, None}
-use Rattle.std.proofs.Common.{refl, inl, inr, sym, ap, arith, ◌∙◌, subst, ltb-true}
+use Rattle.std.specs.Prelude.{◌≡◌, ℕ, zero, suc, ◌+◌, ◌<◌, ◌≤◌, max, Bool, true, false, List, [], ◌∷◌, Ok, Option, Some, None}
+use Rattle.std.proofs.Common.{refl, sym, ap, arith, ◌∙◌}
 use Rattle.cc_ast.specs.Syntax.{undefined}
 use Rattle.cc_lexer.specs.declared.token.Mark.TheVariants as mark
 use Rattle.cc_grammar.specs.declared.word.Word.TheVariants as word
@@ -14,16 +14,15 @@ use Rattle.cc_grammar.specs.Grammar.{At, Sign, Reserved, OwnName, E}
 use Rattle.cc_grammar.specs.Reading.{Outcome, Sized, Head, Suffix, and_then, variable_of, head_of, suffix_of}
 use Rattle.cc_grammar.specs.Reading as r
 use Rattle.cc_grammar.proofs.Marked.{In, consumed, marked, expected}
-use Rattle.cc_grammar.proofs.Meets.{Done, ok, err}
 use Rattle.cc_grammar.proofs.Views.{mark_true, IsHead, head_is, IsSuffix, suffix_is}
 use Rattle.cc_grammar.proofs.Views as view
 use Rattle.cc_grammar.proofs.Mono.{lower}
 use Rattle.cc_grammar.proofs.Shrinks.{reals, at_less, e_less, own_less}
-use Rattle.cc_grammar.proofs.SoundParts.{Derived, SoundInner, own_name_sound}
+use Rattle.cc_grammar.proofs.SoundParts.{SoundInner, own_name_sound}
 use Rattle.cc_grammar.proofs.SoundPrimary.{chains, stands, Chained, primary_sound, dotted_sound, bracketed_sound, called_sound}
-use Rattle.cc_grammar.proofs.Moves.{Front, stays, joined, look_kept}
+use Rattle.cc_grammar.proofs.Moves.{stays, joined, look_kept}
 use Rattle.cc_grammar.proofs.MovesDerived.{e_moves, own_moves}
-use Rattle.cc_grammar.proofs.Fails.{token, new_at, taken, again, First, same, fresh, Spot, here, due, left, put, Begun, EE, no_e, e_due, name_due, Fails, fine, stop, variable_missing, operand_missing, fails_after, fails_map, fails_fork, fails_choice, fails_here, expect_fails, deeper_fails, FailsInner}
+use Rattle.cc_grammar.proofs.Fails.{token, new_at, taken, again, same, fresh, Spot, here, due, Begun, EE, no_e, e_due, name_due, Fails, fine, variable_missing, operand_missing, fails_after, fails_map, fails_fork, fails_here, expect_fails, raises, deeper_fails, FailsInner}
 use Rattle.cc_grammar.proofs.FrontsLists.{AA, UU, no_function, all_elements_fail, all_fields_fail, arguments_of_fail, function_fails}
 use Rattle.cc_grammar.proofs.OnSymbols as s
 
@@ -146,7 +145,7 @@ module _ (d n : ℕ) (inner : In) (sound : SoundInner d inner) (all : FailsInner
   primary_by_fails b xs x h ln e view.this = fine
   primary_by_fails b xs x h ln e view.operand = fine
   primary_by_fails b xs x h ln e view.paren = let c = consumed xs (k.mark mark.OpenParen) refl e in
-      deeper_fails c (λ lt. parentheses_fail b xs c lt ln) 0 (omega arith) (no_e xs 0 b 17) 1 (record {
+      deeper_fails c (raises refl) (λ lt. parentheses_fail b xs c lt ln) 0 (omega arith) (no_e xs 0 b 17) 1 (record {
         front = taken c;
         more = λ zs. real (token (k.due k.operand)) ∷ real (token (k.mark mark.CloseParen)) ∷ zs;
         tree = parenthesised (look xs) (raw.lit nowhere undefined);
@@ -154,7 +153,7 @@ module _ (d n : ℕ) (inner : In) (sound : SoundInner d inner) (all : FailsInner
         first = λ zs. same refl;
       })
   primary_by_fails b xs x h ln e view.array = let c = consumed xs (k.mark mark.OpenBracket) refl e in
-      deeper_fails c (λ lt. array_fails b xs c lt ln) 0 (omega arith) (no_e xs 0 b 17) 1 (record {
+      deeper_fails c (raises refl) (λ lt. array_fails b xs c lt ln) 0 (omega arith) (no_e xs 0 b 17) 1 (record {
         front = taken c;
         more = λ zs. real (token (k.mark mark.CloseBracket)) ∷ zs;
         tree = raw.list (look xs).place (exprs []);
@@ -162,7 +161,7 @@ module _ (d n : ℕ) (inner : In) (sound : SoundInner d inner) (all : FailsInner
         first = λ zs. same refl;
       })
   primary_by_fails b xs x h ln e view.object = let c = consumed xs (k.mark mark.OpenBrace) refl e in
-      deeper_fails c (λ lt. object_fails b xs c lt ln) 0 (omega arith) (no_e xs 0 b 17) 1 (record {
+      deeper_fails c (raises refl) (λ lt. object_fails b xs c lt ln) 0 (omega arith) (no_e xs 0 b 17) 1 (record {
         front = taken c;
         more = λ zs. real (token (k.mark mark.CloseBrace)) ∷ zs;
         tree = raw.object (look xs).place (fields []);
@@ -170,9 +169,9 @@ module _ (d n : ℕ) (inner : In) (sound : SoundInner d inner) (all : FailsInner
         first = λ zs. same refl;
       })
   primary_by_fails b xs x h ln e view.function = let c = consumed xs (k.word word.Function) refl e in
-      deeper_fails c (λ lt. function_expr_fails b xs c lt ln) 0 (omega arith) (no_e xs 0 b 17) 1 (function_begun b 0 c g.no_name (no_function (rest xs) 0))
+      deeper_fails c (raises refl) (λ lt. function_expr_fails b xs c lt ln) 0 (omega arith) (no_e xs 0 b 17) 1 (function_begun b 0 c g.no_name (no_function (rest xs) 0))
   primary_by_fails b xs x h ln e view.new = let c = consumed xs (k.word word.New) refl e in
-      deeper_fails c (λ lt. new_expr_fails b xs c lt ln) 0 (omega arith) (no_e xs 0 b 17) 1 (new_begun b 0 c (no_e (rest xs) 0 b 17))
+      deeper_fails c (raises refl) (λ lt. new_expr_fails b xs c lt ln) 0 (omega arith) (no_e xs 0 b 17) 1 (new_begun b 0 c (no_e (rest xs) 0 b 17))
   primary_by_fails b xs x h ln e (view.none p q) = operand_missing xs 0 (omega arith) (no_e xs 0 b 17) (e_due xs 0 b 17) (name_due xs 0 b 17)
 
   pub primary_fails : (b : Bool) (xs : Symbols) → reals xs < n → Fails (suc d) (PE b xs) (s.primary d n inner b xs)
@@ -235,12 +234,12 @@ module _ (d n : ℕ) (inner : In) (sound : SoundInner d inner) (all : FailsInner
       → ((c : Sized RawExpr) (zs : Symbols) → Chained d calls b xs c zs → a.1 < d → a.1 < c.1 → Fails (suc d) (SE calls b xs) (next c zs))
       → Fails (suc d) (SE calls b xs) (s.suffix_by d n inner next a v ys)
   suffix_fails calls b a xs ys next x v ln e q view.dot h f = let c = consumed ys (k.mark mark.Dot) refl e in let t = h.onward (has_suffix (look ys).kind r.by_dot (ap (suffix_of true) e) (λ z. cc)) in
-      deeper_fails c (λ lt. fails_after (dotted_sound d n inner sound calls b a xs ys e t lt) (dotted_fails calls b a xs ys t c lt) (λ w zs p. f w zs p.0 lt p.1)) a.1 (omega (arith, h.whole.low)) (whole_e h.whole.tree) (suc a.1) (dot_begun calls b t c)
+      deeper_fails c (raises refl) (λ lt. fails_after (dotted_sound d n inner sound calls b a xs ys e t lt) (dotted_fails calls b a xs ys t c lt) (λ w zs p. f w zs p.0 lt p.1)) a.1 (omega (arith, h.whole.low)) (whole_e h.whole.tree) (suc a.1) (dot_begun calls b t c)
   suffix_fails calls b a xs ys next x v ln e q view.bracket h f = let c = consumed ys (k.mark mark.OpenBracket) refl e in let t = h.onward (has_suffix (look ys).kind r.by_bracket (ap (suffix_of true) e) (λ z. cc)) in
-      deeper_fails c (λ lt. fails_after (bracketed_sound d n inner sound calls b a xs ys e t lt) (bracketed_fails calls b a xs ys ln lt t c) (λ w zs p. f w zs p.0 lt p.1)) a.1 (omega (arith, h.whole.low)) (whole_e h.whole.tree)
+      deeper_fails c (raises refl) (λ lt. fails_after (bracketed_sound d n inner sound calls b a xs ys e t lt) (bracketed_fails calls b a xs ys ln lt t c) (λ w zs p. f w zs p.0 lt p.1)) a.1 (omega (arith, h.whole.low)) (whole_e h.whole.tree)
       (suc (max a.1 0)) (bracket_begun calls b 0 t c (no_e (rest ys) 0 true 0))
   suffix_fails true b a xs ys next x v ln e q view.call h f = let c = consumed ys (k.mark mark.OpenParen) refl e in let t = h.onward (has_suffix (look ys).kind r.by_call (ap (suffix_of true) e) (λ z. cc)) in
-      deeper_fails c (λ lt. fails_after (called_sound d n inner sound b a xs ys e t lt) (called_fails b a xs ys ln lt t c) (λ w zs p. f w zs p.0 lt p.1)) a.1 (omega (arith, h.whole.low)) (whole_e h.whole.tree)
+      deeper_fails c (raises refl) (λ lt. fails_after (called_sound d n inner sound b a xs ys e t lt) (called_fails b a xs ys ln lt t c) (λ w zs p. f w zs p.0 lt p.1)) a.1 (omega (arith, h.whole.low)) (whole_e h.whole.tree)
       (suc (max a.1 0)) (call_begun b 0 t c (record { front = stays (rest ys); more = λ zs. real (token (k.mark mark.CloseParen)) ∷ zs; tree = []; holds = λ zs. g.no_argument (new_at (k.mark mark.CloseParen)); first = λ zs. fresh refl }))
   suffix_fails false b a xs ys next x v ln e q view.call h f = let no : r.no_suffix ≡ r.by_call = q in absurd (cc)
   suffix_fails calls b a xs ys next x v ln e q view.none h f = fine

@@ -1,7 +1,6 @@
 -- Where reading a list of symbols stops, what came before is a front of a program.
-use Rattle.std.specs.Prelude.{◌≡◌, ℕ, zero, suc, ◌+◌, ◌<◌, ◌≤◌, max, Bool, true, false, cond, nat_lt, List, [], ◌∷◌, ◌++◌, Ok, Err, Option, Some, None, ◌⊎◌}
+use Rattle.std.specs.Prelude.{◌≡◌, ℕ, zero, suc, ◌<◌, true, false, cond, nat_lt, List, [], ◌∷◌, ◌++◌, map, Err, ◌⊎◌}
 use Rattle.std.proofs.Common.{refl, sym, ap, arith, ◌∙◌, subst, append_assoc, inl, inr}
-use Rattle.cc_ast.specs.declared.reading.Construct.TheVariants as construct
 use Rattle.cc_lexer.specs.declared.token.Mark.TheVariants as mark
 use Rattle.cc_grammar.specs.declared.word.Word.TheVariants as word
 use Rattle.cc_grammar.specs.Symbols.{Kind, Symbol, Symbols, real, inserted, look, rest, is_mark}
@@ -10,12 +9,11 @@ use Rattle.cc_grammar.specs.RawTree.{RawStmt}
 use Rattle.cc_grammar.specs.Grammar as g
 use Rattle.cc_grammar.specs.Grammar.{Context, of_program, At, T, Body, is_tail, opens_no_expression}
 use Rattle.cc_grammar.specs.Laws.{is_last}
-use Rattle.cc_grammar.specs.Fronts.{Derives, IsFrontWithin, IsFront, is_end}
+use Rattle.cc_grammar.specs.Fronts.{Derives, IsFrontWithin, is_end}
 use Rattle.cc_grammar.specs.Faults.{any}
 use Rattle.cc_grammar.specs.Reading.{Outcome, Sized, Fault, Start, and_then, start_of, read_symbols, refused, depth}
 use Rattle.cc_grammar.specs.Reading as r
 use Rattle.cc_grammar.proofs.Marked.{In, consumed, expected_end}
-use Rattle.cc_grammar.proofs.Meets.{Done, ok, err}
 use Rattle.cc_grammar.proofs.Views.{IsStart, start_is}
 use Rattle.cc_grammar.proofs.Views as view
 use Rattle.cc_grammar.proofs.Shrinks.{reals, at_less}
@@ -27,8 +25,7 @@ use Rattle.cc_grammar.proofs.Moves.{Front, stays, joined}
 use Rattle.cc_grammar.proofs.Moves as moves
 use Rattle.cc_grammar.proofs.MovesDerived.{body_moves}
 use Rattle.cc_grammar.proofs.Paired.{Paired, body_ready}
-use Rattle.cc_grammar.proofs.Alike.{is_limit}
-use Rattle.cc_grammar.proofs.Fails.{token, new_at, taken, again, First, same, fresh, Spot, here, due, left, put, Begun, EE, TT, no_e, no_t, Fails, fine, stop, by_statement, t_due, deep, fails_after, fails_map, fails_fork, fails_choice, fails_here, deeper_fails, XX, FailsInner}
+use Rattle.cc_grammar.proofs.Fails.{token, new_at, taken, again, same, Spot, here, due, left, put, Begun, TT, no_t, Fails, fine, stop, by_statement, t_due, may_raise, raises, anew, fails_after, fails_map, fails_fork, fails_choice, fails_here, deeper_fails, XX, FailsInner}
 use Rattle.cc_grammar.proofs.FrontsLists.{BB, CC, no_body, body_fails, statements_fail, no_function}
 use Rattle.cc_grammar.proofs.FrontsPrimary.{callee_fails}
 use Rattle.cc_grammar.proofs.FrontsExpressions.{expr_fails}
@@ -42,26 +39,26 @@ module _ (d n : ℕ) (inner : In) (sound : SoundInner d inner) (all : FailsInner
   PT c xs j i = Begun (TT c j) xs i
 
   -- a statement that is deeper by 1, at its first token
-  begins : (c : Context) (xs : Symbols) {x : Kind} {h : ℕ} {o : Outcome Symbols (Sized (List RawStmt))} → At x xs (rest xs) → (h < d → Fails (suc d) (PT c xs) o) → (u : ℕ) → PT c xs u (here (rest xs))
+  begins : (c : Context) (xs : Symbols) {x : Kind} {h : ℕ} {o : Outcome Symbols (Sized (List RawStmt))} → At x xs (rest xs) → may_raise x ≡ true → (h < d → Fails (suc d) (PT c xs) o) → (u : ℕ) → PT c xs u (here (rest xs))
       → Fails (suc d) (PT c xs) (cond (nat_lt h d) o (Err (record { cause = depth; place = (look xs).place }, xs)))
-  begins c xs o f u w = deeper_fails o f 0 (omega arith) (no_t xs c 0) u w
+  begins c xs o r f u w = deeper_fails o (raises r) f 0 (omega arith) (no_t xs c 0) u w
 
   stmt_by_fails : (c : Context) (xs : Symbols) (x : Kind) (v : Start) → reals xs < n → (look xs).kind ≡ x → IsStart x v → Fails (suc d) (PT c xs) (s.stmt_by d n inner c v xs)
-  stmt_by_fails c xs x v ln e view.block = let o = consumed xs (k.mark mark.OpenBrace) refl e in begins c xs {h = 0} o (λ lt. block_fails d n inner sound all c xs o lt ln) 1 (block_begun d n inner sound all c 0 o (Rattle.cc_grammar.proofs.FrontsLists.no_body (rest xs) (g.inside c) 0))
+  stmt_by_fails c xs x v ln e view.block = let o = consumed xs (k.mark mark.OpenBrace) refl e in begins c xs {h = 0} o refl (λ lt. block_fails d n inner sound all c xs o lt ln) 1 (block_begun d n inner sound all c 0 o (Rattle.cc_grammar.proofs.FrontsLists.no_body (rest xs) (g.inside c) 0))
   stmt_by_fails c xs x v ln e view.empty = fine
   stmt_by_fails c xs x v ln e view.vars = vars_fail d n inner sound all c xs ln e
-  stmt_by_fails c xs x v ln e view.if = let o = consumed xs (k.word word.If) refl e in begins c xs {h = 0} o (λ lt. choice_fails d n inner sound all c xs o lt ln) _ (condition_begun d n inner sound all c 0 o (no_head (rest xs) 0))
-  stmt_by_fails c xs x v ln e view.do_while = let o = consumed xs (k.word word.Do) refl e in begins c xs {h = 0} o (λ lt. do_while_fails d n inner sound all c xs o lt ln) _ (do_begun d n inner sound all c 0 o (no_t (rest xs) (g.in_loop c) 0))
-  stmt_by_fails c xs x v ln e view.while = let o = consumed xs (k.word word.While) refl e in begins c xs {h = 0} o (λ lt. while_fails d n inner sound all c xs o lt ln) _ (loop_begun d n inner sound all c 0 o (no_head (rest xs) 0))
-  stmt_by_fails c xs x v ln e view.for = let o = consumed xs (k.word word.For) refl e in begins c xs {h = 0} o (λ lt. for_fails d n inner sound all c xs o lt ln) 1 (for_open d n inner sound all c o)
+  stmt_by_fails c xs x v ln e view.if = let o = consumed xs (k.word word.If) refl e in begins c xs {h = 0} o refl (λ lt. choice_fails d n inner sound all c xs o lt ln) _ (condition_begun d n inner sound all c 0 o (no_head (rest xs) 0))
+  stmt_by_fails c xs x v ln e view.do_while = let o = consumed xs (k.word word.Do) refl e in begins c xs {h = 0} o refl (λ lt. do_while_fails d n inner sound all c xs o lt ln) _ (do_begun d n inner sound all c 0 o (no_t (rest xs) (g.in_loop c) 0))
+  stmt_by_fails c xs x v ln e view.while = let o = consumed xs (k.word word.While) refl e in begins c xs {h = 0} o refl (λ lt. while_fails d n inner sound all c xs o lt ln) _ (loop_begun d n inner sound all c 0 o (no_head (rest xs) 0))
+  stmt_by_fails c xs x v ln e view.for = let o = consumed xs (k.word word.For) refl e in begins c xs {h = 0} o refl (λ lt. for_fails d n inner sound all c xs o lt ln) 1 (for_open d n inner sound all c o)
   stmt_by_fails c xs x v ln e view.continue = continue_fails d n inner sound all c xs e
   stmt_by_fails c xs x v ln e view.break = break_fails d n inner sound all c xs e
   stmt_by_fails c xs x v ln e view.return = return_fails d n inner sound all c xs ln e
-  stmt_by_fails c xs x v ln e view.switch = let o = consumed xs (k.word word.Switch) refl e in begins c xs {h = 0} o (λ lt. switch_fails d n inner sound all c xs o lt ln) _ (switch_begun d n inner sound all c 0 o (no_head (rest xs) 0))
+  stmt_by_fails c xs x v ln e view.switch = let o = consumed xs (k.word word.Switch) refl e in begins c xs {h = 0} o refl (λ lt. switch_fails d n inner sound all c xs o lt ln) _ (switch_begun d n inner sound all c 0 o (no_head (rest xs) 0))
   stmt_by_fails c xs x v ln e view.throw = throw_fails d n inner sound all c xs ln e
-  stmt_by_fails c xs x v ln e view.try = let o = consumed xs (k.word word.Try) refl e in begins c xs {h = 1} o (λ lt. try_fails d n inner sound all c xs o lt ln) _ (try_begun d n inner sound all c 1 o (no_block (rest xs) (g.inside c) 1 (omega arith)))
+  stmt_by_fails c xs x v ln e view.try = let o = consumed xs (k.word word.Try) refl e in begins c xs {h = 1} o refl (λ lt. try_fails d n inner sound all c xs o lt ln) _ (try_begun d n inner sound all c 1 o (no_block (rest xs) (g.inside c) 1 (omega arith)))
   stmt_by_fails c xs x v ln e view.declaration = let o = consumed xs (k.word word.Function) refl e in fails_fork c.declares _ _
-      (λ a. begins c xs {h = 0} o (λ lt. declaration_fails d n inner sound all c xs a o lt ln) 1 (declare_word d n inner sound all c a o)) (λ _. stop refl (λ w. cc) 0 (inl (omega arith)) (by_statement refl e 0 (t_due xs c 0)) (no_t xs c 0))
+      (λ a. begins c xs {h = 0} o refl (λ lt. declaration_fails d n inner sound all c xs a o lt ln) 1 (declare_word d n inner sound all c a o)) (λ _. stop refl (λ w. cc) 0 (omega arith) (by_statement refl e 0 (t_due xs c 0)) (no_t xs c 0))
   stmt_by_fails c xs x v ln e view.any_statement = fine
   stmt_by_fails c xs x v ln e (view.name {n = w}) = name_fails d n inner sound all c w xs ln e
   stmt_by_fails c xs x v ln e (view.plain f) = plain_fails d n inner sound all c xs ln (ap opens_no_expression e ∙ f)
@@ -82,7 +79,7 @@ block_fails_there : (d n : ℕ) (inner : In) (sound : SoundInner d inner) (all :
 unfolding r.block
 block_fails_there d n inner sound all c xs ln lt e = let o = consumed xs (k.mark mark.OpenBrace) refl e in
     subst (λ (u : Outcome Symbols (Sized (List RawStmt))). Fails (suc d) (λ j i. Begun (XX c j) xs i) u) (sym (open_block d n inner c xs e))
-    (deeper_fails {h = 0} o (λ l. fails_after (body_sound d n inner sound (g.inside c) (rest xs) l) (fails_map suc (λ j l. omega arith) (λ j i w. block_word c j o w) (body_fails d n inner sound all (g.inside c) (rest xs) l (omega (arith, at_less o)))) (λ b ys p. fine))
+    (deeper_fails {h = 0} o (raises refl) (λ l. fails_after (body_sound d n inner sound (g.inside c) (rest xs) l) (fails_map suc (λ j l. omega arith) (λ j i w. block_word c j o w) (body_fails d n inner sound all (g.inside c) (rest xs) l (omega (arith, at_less o)))) (λ b ys p. fine))
     1 (omega arith) (no_block xs c 1 (omega arith)) 1 (block_word c 0 o (no_body (rest xs) (g.inside c) 0)))
 
 one_more : (d n : ℕ) (inner : In) (sound : SoundInner d inner) (all : FailsInner d n inner) → FailsInner (suc d) n (record { expr = s.expr_of d n inner; stmt = s.stmt_of d n inner })
@@ -138,6 +135,7 @@ body_open {xs} x = let m = body_moves x in let e : m.front.before ++ brace ≡ x
 abbrev pub with_due : Symbols → Spot → Symbols
 with_due before (here ys) = before
 with_due before (due p ys) = before ++ any p (look ys) ∷ []
+with_due before (anew t e us u ys) = before ++ real t ∷ (map real us ++ real u ∷ [])
 
 -- A list that is a front, and what follows it.
 pub record FrontAt (j : ℕ) (xs : Symbols) (i : Spot) : Type 0 where
@@ -152,6 +150,7 @@ FrontOf xs j i = FrontAt j xs i
 put_due : (before : Symbols) (i : Spot) (zs : Symbols) → before ++ put i zs ≡ with_due before i ++ zs
 put_due before (here ys) zs = refl
 put_due before (due p ys) zs = sym (append_assoc before (any p (look ys) ∷ []) zs)
+put_due before (anew t e us u ys) zs = ap (λ l. before ++ real t ∷ l) (sym (append_assoc (map real us) (real u ∷ []) zs)) ∙ sym (append_assoc before (real t ∷ (map real us ++ real u ∷ [])) zs)
 
 ended_front : {j : ℕ} {xs : Symbols} {i : Spot} → Begun (BB of_program j) xs i → FrontAt j xs i
 ended_front {j} {xs} {i} w = record {

@@ -1,9 +1,8 @@
 -- Where reading stops, what came before is a front: statements.
-use Rattle.std.specs.Prelude.{◌≡◌, ℕ, zero, suc, ◌+◌, ◌<◌, ◌≤◌, max, ◌||◌, Bool, true, false, cond, nat_lt, List, [], ◌∷◌, ◌++◌, Ok, Err, Option, Some, None}
-use Rattle.std.proofs.Common.{refl, sym, ap, arith, ◌∙◌, subst, ltb-true}
+use Rattle.std.specs.Prelude.{◌≡◌, ℕ, suc, ◌<◌, ◌≤◌, max, ◌||◌, true, false, List, [], ◌∷◌}
+use Rattle.std.proofs.Common.{refl, sym, ap, arith, ◌∙◌, subst}
 use Rattle.std.proofs.lemmas.Slice.Eq.{bytes_eq-Decides}
 use Rattle.cc_ast.specs.declared.place.Place.{Place}
-use Rattle.cc_ast.specs.declared.reading.Construct.{Construct}
 use Rattle.cc_ast.specs.Syntax.{undefined}
 use Rattle.cc_lexer.specs.declared.token.Mark.TheVariants as mark
 use Rattle.cc_grammar.specs.declared.word.Word.TheVariants as word
@@ -11,31 +10,25 @@ use Rattle.cc_grammar.specs.Symbols.{Kind, Lexeme, Symbols, real, look, rest, no
 use Rattle.cc_grammar.specs.Symbols as k
 use Rattle.cc_grammar.specs.RawTree.{RawExpr, RawStmt, RawCatch, RawFinally, Named, stmts, cases}
 use Rattle.cc_grammar.specs.RawTree as raw
-use Rattle.cc_grammar.specs.Signs.{refused_name}
 use Rattle.cc_grammar.specs.Grammar as g
 use Rattle.cc_grammar.specs.Grammar.{Context, Labels, inside, in_loop, in_switch, labelled, is_among, At, Sign, Reserved, Variable, E, T, is_tail, opens_no_expression}
 use Rattle.cc_grammar.specs.Reading.{Outcome, Sized, Start, and_then, semicolon_symbol, start_of, label_of, ends_return, is_some_label, is_remedy}
 use Rattle.cc_grammar.specs.Reading as r
-use Rattle.cc_grammar.proofs.Marked.{In, consumed, marked, worded, expected, expected_word, ended, read_variable}
-use Rattle.cc_grammar.proofs.Meets.{Done, ok, err, after, fork, weaken}
-use Rattle.cc_grammar.proofs.Views.{mark_true, IsStart, start_is}
-use Rattle.cc_grammar.proofs.Views as view
-use Rattle.cc_grammar.proofs.Mono.{higher_t}
-use Rattle.cc_grammar.proofs.Shrinks.{reals, at_less, variable_less, e_less, t_less, catch_less}
-use Rattle.cc_grammar.proofs.SoundParts.{Derived, Told, SoundInner, whole_list}
+use Rattle.cc_grammar.proofs.Marked.{In, consumed, worded, expected, expected_word, ended, read_variable}
+use Rattle.cc_grammar.proofs.Meets.{weaken}
+use Rattle.cc_grammar.proofs.Shrinks.{reals, at_less, variable_less, t_less}
+use Rattle.cc_grammar.proofs.SoundParts.{SoundInner, whole_list}
 use Rattle.cc_grammar.proofs.SoundLists.{body_sound, function_sound}
-use Rattle.cc_grammar.proofs.SoundPrimary.{free}
-use Rattle.cc_grammar.proofs.SoundExpressions.{after_head_sound, expr_sound}
+use Rattle.cc_grammar.proofs.SoundExpressions.{expr_sound}
 use Rattle.cc_grammar.proofs.SoundStatements.{InParens, head_sound, declarators_sound, SoundExpr}
-use Rattle.cc_grammar.proofs.SoundJumps.{Blocked, block_in_sound, catch_sound, finally_sound}
 use Rattle.cc_grammar.proofs.Moves.{Front, stays, joined, Fits, look_kept, kept_fits, no_tail}
 use Rattle.cc_grammar.proofs.Moves as moves
-use Rattle.cc_grammar.proofs.MovesDerived.{e_moves, t_moves, declarators_move, catch_moves}
-use Rattle.cc_grammar.proofs.Fails.{token, new_at, taken, again, variable_taken, variable_again, First, same, fresh, Spot, here, due, left, put, Begun, EE, TT, no_e, no_t, Fails, fine, stop, deep, at_is, fails_after, fails_map, fails_fork, fails_choice, fails_here, expect_fails, expect_word_fails, variable_fails, deeper_fails, FailsInner}
-use Rattle.cc_grammar.proofs.FrontsLists.{CC, no_body, body_fails, UU, no_function, function_fails}
-use Rattle.cc_grammar.proofs.FrontsPrimary.{whole_e, callee_fails}
-use Rattle.cc_grammar.proofs.FrontsExpressions.{expr_fails, after_head_fails}
-use Rattle.cc_grammar.proofs.FrontsClauses.{semicolon_fails, end_now, fits_first, Started, none, some, started, DS, no_declarators, declarators_fail, HH, no_head, head_fails, head_moves, head_less, KK, all_clauses_fail, no_block, block_in_fails, GG, finally_fails, CA, catch_fails}
+use Rattle.cc_grammar.proofs.MovesDerived.{t_moves, declarators_move}
+use Rattle.cc_grammar.proofs.Fails.{token, new_at, taken, again, variable_taken, variable_again, First, same, fresh, Spot, here, due, anew, left, put, Begun, EE, TT, no_e, no_t, Fails, fine, stop, at_is, fails_after, fails_map, fails_fork, fails_choice, fails_here, expect_fails, expect_word_fails, variable_fails, deeper_fails, FailsInner}
+use Rattle.cc_grammar.proofs.FrontsLists.{CC, body_fails, UU, function_fails}
+use Rattle.cc_grammar.proofs.FrontsPrimary.{whole_e}
+use Rattle.cc_grammar.proofs.FrontsExpressions.{expr_fails}
+use Rattle.cc_grammar.proofs.FrontsClauses.{semicolon_fails, end_now, Started, none, some, started, DS, declarators_fail, HH, head_fails, head_moves, head_less, KK, all_clauses_fail}
 use Rattle.cc_grammar.proofs.FrontsFor.{for_head_fails}
 use Rattle.cc_grammar.proofs.OnSymbols as s
 
@@ -57,6 +50,14 @@ from_nothing c {j} {i = due p ys} w u = record {
   holds = λ zs _. subst (λ (z : Lexeme). T c j (w.front.go (put (due p ys) (w.more (real (token (k.mark mark.Semicolon)) ∷ zs)))) (raw.simple z.place w.tree ∷ []) zs) (ap look (u _))
       (g.simple (ap (λ l. opens_no_expression (look l).kind) (u _)) (w.holds _) end_now);
   first = λ zs. fresh (ap (λ l. is_tail (look l).kind) (u _));
+}
+from_nothing c {j} {i = anew t q us v ys} w u = record {
+  front = w.front;
+  more = λ zs. w.more (real (token (k.mark mark.Semicolon)) ∷ zs);
+  tree = raw.simple t.place w.tree ∷ [];
+  holds = λ zs _. subst (λ (z : Lexeme). T c j (w.front.go (put (anew t q us v ys) (w.more (real (token (k.mark mark.Semicolon)) ∷ zs)))) (raw.simple z.place w.tree ∷ []) zs) (ap look (u _))
+      (g.simple (ap (λ l. opens_no_expression (look l).kind) (u _) ∙ ap opens_no_expression q) (w.holds _) end_now);
+  first = λ zs. fresh (ap (λ l. is_tail (look l).kind) (u _) ∙ ap is_tail q);
 }
 
 pub simple_begun : (c : Context) {j : ℕ} {xs : Symbols} {i : Spot} → opens_no_expression (look xs).kind ≡ false → Begun (EE j true 0) xs i → Begun (TT c j) xs i
@@ -82,6 +83,7 @@ on_line {j} {xs} {i} e w = by i w (started w.front) where
   by : (i : Spot) (w : Begun (EE j true 0) xs i) → Started w.front → OnLine j xs i
   by i w (some kept) = record { begun = w; line = λ zs. ap (λ z. z.after_line) (kept (put i (w.more zs))) ∙ e }
   by (due p ys) w (none q u) = record { begun = w; line = λ zs. ap (λ l. (look l).after_line) (u _) ∙ ap (λ l. (look l).after_line) (sym q) ∙ e }
+  by (anew t r us v ys) w (none q u) = record { begun = w; line = λ zs. ap (λ l. (look l).after_line) (u _) ∙ ap (λ l. (look l).after_line) (sym q) ∙ e }
   by (here ys) w (none q u) = record {
     begun = record {
       front = w.front;

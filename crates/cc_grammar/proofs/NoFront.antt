@@ -13,7 +13,7 @@ use Rattle.cc_grammar.proofs.AlikeStatements.{program_alike}
 abbrev Read : Type 0
 Read = Outcome Symbols (Sized (List RawStmt))
 
-too_long : {t : Symbol} {xs : Symbols} → Suffix (t ∷ xs) xs → ⊥
+pub too_long : {t : Symbol} {xs : Symbols} → Suffix (t ∷ xs) xs → ⊥
 too_long {t} {xs} s = omega (arith, ap length s.is, length-append s.before (t ∷ xs))
 
 differ : {o : Read} {x : Sized (List RawStmt) × Symbols} {y : Fault × Symbols} → o ≡ Ok x → o ≡ Err y → ⊥

@@ -1,6 +1,6 @@
 -- Two readings of the same symbols, up to a place where one has a part that is due and the other a token that is refused
 -- there: what the two have in common up to that place, and what becomes of the token.
-use Rattle.std.specs.Prelude.{◌≡◌, ℕ, Bool, true, false, Ok, Err, cond, nat_lt, is_some, List, [], ◌∷◌, ◌++◌, ◌⊎◌, Option, Some, None}
+use Rattle.std.specs.Prelude.{◌≡◌, ℕ, Bool, true, false, Ok, Err, cond, is_some, List, [], ◌∷◌, ◌++◌, ◌⊎◌, Option, Some, None}
 use Rattle.std.proofs.Common.{refl, sym, ap, ◌∙◌, subst, inl, inr}
 use Rattle.cc_ast.specs.declared.place.Place.{Place}
 use Rattle.cc_ast.specs.declared.reading.Construct.{Construct}
@@ -16,7 +16,7 @@ use Rattle.cc_grammar.specs.Fronts.{is_end}
 use Rattle.cc_grammar.specs.Faults.{any}
 use Rattle.cc_grammar.specs.Reading.{Outcome, Fault, Cause, Due, and_then, fault, semicolon_symbol, is_remedy, depth, spent, refused}
 use Rattle.cc_grammar.specs.Reading as r
-use Rattle.cc_grammar.proofs.Alike.{Suffix, Stands, whole, tail_of, is_limit, is_spent, IsErr, is_err, stands_after, stand_by, semicolon_walks}
+use Rattle.cc_grammar.proofs.Alike.{Stands, whole, tail_of, is_limit, IsErr, is_err, stands_after, stand_by, semicolon_walks}
 use Rattle.cc_grammar.proofs.OnSymbols as s
 
 -- what is asked of the symbols behind the token
@@ -69,8 +69,9 @@ module _ (x : Change) where
   pub data IsLimit {A : Type 0} : Outcome Symbols A → Type 0 where
     held : {f : Fault} {ys : Symbols} → is_limit f.cause ≡ true → IsLimit (Err (f, ys))
 
+  -- the construct is refused at the place of the token
   pub data IsRefused {A : Type 0} : Outcome Symbols A → Type 0 where
-    is_refused : {f : Fault} {ys : Symbols} → f.cause ≡ refused x.construct → IsRefused (Err (f, ys))
+    is_refused : {f : Fault} {ys : Symbols} → f.cause ≡ refused x.construct → f.place ≡ x.place.place → IsRefused (Err (f, ys))
 
   pub data Falls {A : Type 0} (xs : Symbols) : Outcome Symbols A → Type 0 where
     falls_there : {f : Fault} → is_limit f.cause ≡ false → Falls xs (Err (f, token ∷ xs))
@@ -131,20 +132,20 @@ module _ (x : Change) where
   pub falls_by : {A : Type 0} {xs : Symbols} {o u : Outcome Symbols A} → o ≡ u → Falls xs u → Falls xs o
   falls_by {xs} e h = let P : Outcome Symbols _ → Type 0 = λ y. Falls xs y in subst P (sym e) h
 
-  err_after : {A B : Type 0} {o : Outcome Symbols A} (f : A → s.Reader B) → IsErr o → IsErr (and_then o f)
+  pub err_after : {A B : Type 0} {o : Outcome Symbols A} (f : A → s.Reader B) → IsErr o → IsErr (and_then o f)
   err_after f is_err = is_err
 
-  limit_after : {A B : Type 0} {o : Outcome Symbols A} (f : A → s.Reader B) → IsLimit o → IsLimit (and_then o f)
+  pub limit_after : {A B : Type 0} {o : Outcome Symbols A} (f : A → s.Reader B) → IsLimit o → IsLimit (and_then o f)
   limit_after f (held e) = held e
 
-  refused_after : {A B : Type 0} {o : Outcome Symbols A} (f : A → s.Reader B) → IsRefused o → IsRefused (and_then o f)
-  refused_after f (is_refused e) = is_refused e
+  pub refused_after : {A B : Type 0} {o : Outcome Symbols A} (f : A → s.Reader B) → IsRefused o → IsRefused (and_then o f)
+  refused_after f (is_refused e p) = is_refused e p
 
   falls_after : {A B : Type 0} {xs : Symbols} {o : Outcome Symbols A} (f : A → s.Reader B) → Falls xs o → Falls xs (and_then o f)
   falls_after f (falls_there e) = falls_there e
 
   module _ {A B : Type 0} {p q : s.Reader A} {f g : A → s.Reader B} where
-    swaps_after : (before : Symbols) → ((a : A) → Swap (f a) (g a)) → Swaps p q before → Swaps (λ i. and_then (p i) f) (λ i. and_then (q i) g) before
+    pub swaps_after : (before : Symbols) → ((a : A) → Swap (f a) (g a)) → Swaps p q before → Swaps (λ i. and_then (p i) f) (λ i. and_then (q i) g) before
     swaps_after before h (barred e) = barred (λ xs. err_after g (e xs))
     swaps_after before h (limited e) = limited (λ xs. limit_after f (e xs))
     swaps_after before h (passes free e) = passes free (λ xs. stands_after xs (p (before ++ token ∷ xs)) f (e xs) (λ a ys. (h a).later.walks ys))
@@ -187,19 +188,8 @@ module _ (x : Change) where
   look_stops c = record { first = barred (λ xs. is_err); later = λ l. (swap_err _ _).later }
 
   -- by the next symbol
-  pub swap_look : {A : Type 0} {p q : Lexeme → s.Reader A} → Look p q → Swap (λ i. p (look i) i) (λ i. q (look i) i)
-  swap_look {p} {q} h = record {
-    first = at_first h.first;
-    later = record { swaps = λ m before. seen m before ((h.later (lexeme_of m)).swaps m before); walks = λ xs. (h.later (look xs)).walks xs };
-  } where
-    at_first : Swaps (p lexeme) (q (record x.place { kind = k.due x.part })) [] → Swaps (λ i. p (look i) i) (λ i. q (look i) i) []
-    at_first (stops mid a u v) = stops mid a u v
-    at_first (barred v) = barred v
-    at_first (limited u) = limited u
-    at_first (passes free u) = passes free u
-    at_first (refuses u) = refuses u
-    at_first (falls n u) = falls n u
-
+  pub later_look : {A : Type 0} {p q : Lexeme → s.Reader A} → ((l : Lexeme) → Later (p l) (q l)) → Later (λ i. p (look i) i) (λ i. q (look i) i)
+  later_look {p} {q} h = record { swaps = λ m before. seen m before ((h (lexeme_of m)).swaps m before); walks = λ xs. (h (look xs)).walks xs } where
     seen : (m : Symbol) (before : Symbols) → Swaps (p (lexeme_of m)) (q (lexeme_of m)) (m ∷ before) → Swaps (λ i. p (look i) i) (λ i. q (look i) i) (m ∷ before)
     seen m before (stops mid a u v) = stops mid a u v
     seen m before (barred v) = barred v
@@ -207,6 +197,16 @@ module _ (x : Change) where
     seen m before (passes free u) = passes free u
     seen m before (refuses u) = refuses u
     seen m before (falls n u) = falls n u
+
+  pub swap_look : {A : Type 0} {p q : Lexeme → s.Reader A} → Look p q → Swap (λ i. p (look i) i) (λ i. q (look i) i)
+  swap_look {p} {q} h = record { first = at_first h.first; later = later_look h.later } where
+    at_first : Swaps (p lexeme) (q (record x.place { kind = k.due x.part })) [] → Swaps (λ i. p (look i) i) (λ i. q (look i) i) []
+    at_first (stops mid a u v) = stops mid a u v
+    at_first (barred v) = barred v
+    at_first (limited u) = limited u
+    at_first (passes free u) = passes free u
+    at_first (refuses u) = refuses u
+    at_first (falls n u) = falls n u
 
   -- takes the symbol
   pub take_then : {A : Type 0} {f g : Lexeme → s.Reader A} → ((l : Lexeme) → Swap (f l) (g l)) → Taking (λ i. and_then (Ok (look i, rest i)) f) (λ i. and_then (Ok (look i, rest i)) g)
@@ -272,6 +272,15 @@ module _ (x : Change) where
     by false false e n = w.first
     by false true e n = let no : true ≡ false = n in absurd (cc)
 
+  -- a test that answers the same of the token and of the part
+  pub like_test : {A : Type 0} (f : Lexeme → Bool) {p q u v : Lexeme → s.Reader A} → f lexeme ≡ f (record x.place { kind = k.due x.part }) → Look p u → Look q v → Look (λ l. cond (f l) (p l) (q l)) (λ l. cond (f l) (u l) (v l))
+  like_test f {p} {q} {u} {v} e h w = record { first = by (f lexeme) (f (record x.place { kind = k.due x.part })) e; later = λ l. later_fork (f l) _ _ _ _ (h.later l) (w.later l) } where
+    by : (b c : Bool) → b ≡ c → Swaps (cond b (p lexeme) (q lexeme)) (cond c (u (record x.place { kind = k.due x.part })) (v (record x.place { kind = k.due x.part }))) []
+    by true true n = h.first
+    by false false n = w.first
+    by true false n = let no : true ≡ false = n in absurd (cc)
+    by false true n = let no : false ≡ true = n in absurd (cc)
+
   -- by what a table has for it
   pub listed : {A X : Type 0} (t : Kind → Option X) {p q : Option X → Lexeme → s.Reader A} → t (k.due x.part) ≡ None → ((o : Option X) (l : Lexeme) → Later (p o l) (q o l)) → Look (p None) (q None)
       → ((o : X) → t x.kind ≡ Some o → Swaps (p (Some o) lexeme) (q None (record x.place { kind = k.due x.part })) []) → Look (λ l. p (t l.kind) l) (λ l. q (t l.kind) l)
@@ -280,6 +289,16 @@ module _ (x : Change) where
     by None None e n = w.first
     by (Some o) None e n = f o e
     by a (Some o) e n = let no : Some o ≡ None = n in absurd (cc)
+
+  -- by a table that has the same for the token and for the part
+  pub alike_listed : {A X : Type 0} (t : Kind → X) (v : X) {p q : X → Lexeme → s.Reader A} → t x.kind ≡ v → t (k.due x.part) ≡ v → Swaps (p v lexeme) (q v (record x.place { kind = k.due x.part })) []
+      → ((y : X) (l : Lexeme) → Later (p y l) (q y l)) → Look (λ l. p (t l.kind) l) (λ l. q (t l.kind) l)
+  alike_listed {X} t v {p} {q} e f h w = record { first = subst P (sym e) (subst Q (sym f) h); later = λ l. w (t l.kind) l } where
+    P : X → Type 0
+    P y = Swaps (p y lexeme) (q (t (k.due x.part)) (record x.place { kind = k.due x.part })) []
+
+    Q : X → Type 0
+    Q y = Swaps (p v lexeme) (q y (record x.place { kind = k.due x.part })) []
 
   -- ---- tokens of a kind
 

@@ -1,18 +1,15 @@
 -- Two readings of the same symbols up to a place: the look ahead behind `delete`.
-use Rattle.std.specs.Prelude.{◌≡◌, ℕ, zero, suc, not, Bool, true, false, Ok, Err, cond, nat_lt, is_some, List, [], ◌∷◌, ◌++◌, Option, Some, None}
-use Rattle.std.proofs.Common.{refl, sym, ap, ◌∙◌, subst}
+use Rattle.std.specs.Prelude.{◌≡◌, ℕ, zero, suc, not, Bool, true, false, Ok, Err, cond, is_some, [], ◌∷◌, ◌++◌}
+use Rattle.std.proofs.Common.{refl, ap, ◌∙◌}
 use Rattle.cc_ast.specs.declared.place.Place.{Place}
 use Rattle.cc_ast.specs.declared.reading.Construct.{Construct}
-use Rattle.cc_ast.specs.declared.reading.Construct.TheVariants as construct
 use Rattle.cc_lexer.specs.declared.token.Mark.TheVariants as mark
-use Rattle.cc_grammar.specs.declared.word.Word.TheVariants as word
 use Rattle.cc_grammar.specs.Symbols.{Kind, Lexeme, Symbol, Symbols, real, inserted, look, rest, lexeme_of, is_mark}
 use Rattle.cc_grammar.specs.Symbols as k
-use Rattle.cc_grammar.specs.Signs.{refused_name}
 use Rattle.cc_grammar.specs.Reading.{Outcome, Fault, and_then, goes_on, allowed, variable_of, semicolon_symbol, refused, depth}
 use Rattle.cc_grammar.specs.Reading as r
-use Rattle.cc_grammar.proofs.Alike.{IsErr, is_err, Stands, stand_by, stands_after}
-use Rattle.cc_grammar.proofs.Swap.{Next, Change, Pair, slash, slash_equal, comma, function, label, name, accessor, delete, IsPair, IsLimit, held, IsRefused, is_refused, Falls, falls_there, Swaps, stops, barred, passes, limited, refuses, falls, Later, part, token, lexeme, Fits, err_by, limit_by, refused_by, falls_by}
+use Rattle.cc_grammar.proofs.Alike.{IsErr, is_err, Stands, stand_by}
+use Rattle.cc_grammar.proofs.Swap.{Next, Change, Pair, slash, slash_equal, comma, function, label, name, accessor, delete, IsPair, IsLimit, held, IsRefused, Swaps, stops, barred, passes, limited, refuses, falls, Later, part, token, Fits, err_by, limit_by, refused_by, falls_by, err_after, limit_after, refused_after}
 use Rattle.cc_grammar.proofs.SwapSites.{change}
 use Rattle.cc_grammar.proofs.OnSymbols as s
 
@@ -149,6 +146,26 @@ module _ (x : Change) where
     settled_refuses : ((xs : Symbols) → Fits x xs → IsRefused x (p (before ++ token x ∷ xs))) → Settled p q before
     settled_limited : ((xs : Symbols) → IsLimit x (p (before ++ token x ∷ xs))) → Settled p q before
     settled_barred : ((xs : Symbols) → IsErr (q (before ++ part x ∷ xs))) → Settled p q before
+
+  pub settled_after : {A B : Type 0} {p q : s.Reader A} {before : Symbols} (f g : A → s.Reader B) → Settled p q before → Settled (λ i. and_then (p i) f) (λ i. and_then (q i) g) before
+  settled_after f g (settled_refuses u) = settled_refuses (λ xs h. refused_after x f (u xs h))
+  settled_after f g (settled_limited u) = settled_limited (λ xs. limit_after x f (u xs))
+  settled_after f g (settled_barred v) = settled_barred (λ xs. err_after x g (v xs))
+
+  pub settled_by : {A : Type 0} {p q u v : s.Reader A} {before after : Symbols} → ((xs : Symbols) → p (before ++ token x ∷ xs) ≡ u (after ++ token x ∷ xs)) → ((xs : Symbols) → q (before ++ part x ∷ xs) ≡ v (after ++ part x ∷ xs)) → Settled u v after → Settled p q before
+  settled_by f g (settled_refuses h) = settled_refuses (λ xs l. refused_by x (f xs) (h xs l))
+  settled_by f g (settled_limited h) = settled_limited (λ xs. limit_by x (f xs) (h xs))
+  settled_by f g (settled_barred h) = settled_barred (λ xs. err_by x (g xs) (h xs))
+
+  pub settled_fork : {A : Type 0} {before : Symbols} (b : Bool) (p q u v : s.Reader A) → Settled p u before → Settled q v before → Settled (cond b p q) (cond b u v) before
+  settled_fork true p q u v h l = h
+  settled_fork false p q u v h l = l
+
+  pub settled_deeper : {A : Type 0} (b c : Bool) (p q : s.Reader A) {before : Symbols} → Settled p q before
+      → Settled (λ i. cond b (p i) (Err (record { cause = depth; place = (look i).place }, i))) (λ i. cond c (q i) (Err (record { cause = depth; place = (look i).place }, i))) before
+  settled_deeper true true p q h = h
+  settled_deeper true false p q h = settled_barred (λ xs. is_err)
+  settled_deeper false c p q h = settled_limited (λ xs. held refl)
 
   module _ {A : Type 0} (place : Place) (n o : ℕ) (p q : s.Reader A) where
     abbrev guarded : ℕ → s.Reader A → s.Reader A

@@ -5,8 +5,8 @@ use Rattle.cc_grammar.specs.Symbols as k
 use Rattle.cc_grammar.specs.RawTree.{RawStmt, stmts}
 use Rattle.cc_grammar.specs.Sizes.{of_stmts}
 use Rattle.cc_grammar.specs.Fronts.{ReadsWithin}
-use Rattle.cc_grammar.specs.Faults.{Splits, FirstFault, FaultAt, rank}
-use Rattle.cc_grammar.specs.Reading.{Cause, Fault, refused, read_tokens}
+use Rattle.cc_grammar.specs.Faults.{Splits, FirstFault, FaultAt}
+use Rattle.cc_grammar.specs.Reading.{Cause, Fault, read_tokens}
 
 -- a token that stands in a text, and is not its end
 abbrev pub is_inner : Kind → Bool
@@ -56,32 +56,7 @@ pub record Fails (d : ℕ) (ts : List Lexeme) (f : Fault) : Type 0 where
 abbrev pub IsFirstFault : Type 0
 IsFirstFault = (turns d : ℕ) (ts us : List Lexeme) (f : Fault) → IsText ts → length ts < turns → read_tokens turns d ts ≡ Err (f, us) → Fails d ts f
 
--- a cause that is no refused construct
-abbrev pub is_plain : Cause → Bool
-is_plain (refused c) = false
-is_plain _ = true
-
--- Such a fault at a token: there, and the first of such faults.
-pub record FailsPlainly (d : ℕ) (ts : List Lexeme) (f : Fault) : Type 0 where
-  pub before : List Lexeme
-  pub token : Lexeme
-  pub after : List Lexeme
-  pub number : ℕ
-  pub splits : Splits ts number before token after
-  pub place : f.place ≡ token.place
-  pub is : FaultAt d ts number f.cause
-  pub least : (i : ℕ) (b : Cause) → is_plain b ≡ true → i < number → ¬ (FaultAt d ts i b)
-  pub ranked : (b : Cause) → is_plain b ≡ true → rank b < rank f.cause → ¬ (FaultAt d ts number b)
-
--- Where reading stops, but not at a refused construct, the fault is there, and none of syntax or depth comes first.
-abbrev pub IsFirstPlainFault : Type 0
-IsFirstPlainFault = (turns d : ℕ) (ts us : List Lexeme) (f : Fault) → IsText ts → length ts < turns → read_tokens turns d ts ≡ Err (f, us) → is_plain f.cause ≡ true → FailsPlainly d ts f
-
--- What is read has no fault of syntax or depth.
-abbrev pub HasNoPlainFault : Type 0
-HasNoPlainFault = (d h n : ℕ) (ts : List Lexeme) (b : List RawStmt) (c : Cause) → ReadsWithin h ts b → h ≤ d → is_plain c ≡ true → ¬ (FaultAt d ts n c)
-
--- What is read has no fault.
+-- What is derived within the depth has no fault.
 abbrev pub HasNoFault : Type 0
 HasNoFault = (d h n : ℕ) (ts : List Lexeme) (b : List RawStmt) (c : Cause) → IsText ts → ReadsWithin h ts b → h ≤ d → ¬ (FaultAt d ts n c)
 

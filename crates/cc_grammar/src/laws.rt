@@ -1,6 +1,6 @@
 //! The laws of the reading function. The functions here state them, and do nothing.
 
-ghost use Rattle.cc_grammar.specs.Laws.{IsSound, IsOne, IsComplete, IsSmall, IsFirstPlainFault, HasNoPlainFault};
+ghost use Rattle.cc_grammar.specs.Laws.{IsSound, IsOne, IsComplete, IsSmall, IsFirstFault, HasNoFault};
 
 /// With justified insertions a list of tokens derives one tree.
 pub fn one_tree()
@@ -23,13 +23,14 @@ pub fn reading_is_complete()
     ensures { IsComplete }
 {}
 
-/// Where reading stops for its syntax or for its depth, that fault is at the token, and no fault of
-/// syntax or depth comes first. Where the turns are more than the tokens, it never stops for them.
-pub fn plain_faults_are_first()
-    ensures { IsFirstPlainFault }
+/// Where reading stops the fault is at the token of its place, and it is the first: no refused
+/// construct, no fault of depth and none of syntax is at an earlier token, and none of a lower rank
+/// at this one. Where the turns are more than the tokens, it never stops for them.
+pub fn faults_are_first()
+    ensures { IsFirstFault }
 {}
 
-/// What is derived within the depth has no fault of syntax or depth.
-pub fn derived_lists_have_no_plain_fault()
-    ensures { HasNoPlainFault }
+/// What is derived within the depth has no fault.
+pub fn derived_lists_have_no_fault()
+    ensures { HasNoFault }
 {}
