@@ -1,4 +1,4 @@
--- The law of folding: whichever scopes of a program are folded by its plan, it does the same.
+-- The laws of folding, whichever scopes of a program are folded by its plan.
 use Rattle.std.specs.Prelude.{ℕ, Bool}
 use Rattle.cc_ast.specs.Syntax.{Stmts, more_stmts, Program}
 use Rattle.cc_ast.specs.declared.tree.Ref.{Ref}
@@ -16,3 +16,7 @@ folded_by P f ss = re_stmts (built_in (built_globals P)) fold same_call same_dec
 
 abbrev pub FoldingKeeps : Type 0
 FoldingKeeps = (P Q : Program) → WellMade P → HasNoPaths P → IsMixed (folded_by P) P Q → Same P Q
+
+-- whichever scopes are folded, the program stays well made, and without flat paths
+abbrev pub FoldingKeepsWellMade : Type 0
+FoldingKeepsWellMade = (P Q : Program) → WellMade P → HasNoPaths P → IsMixed (folded_by P) P Q → WellMade Q × HasNoPaths Q
