@@ -19,5 +19,6 @@ pub mod SourceParts
 pub mod SourceTables
 pub mod SourceWellMade
 pub mod SourcePaths
+pub mod Folded
 pub mod Faithful
 pub mod Done

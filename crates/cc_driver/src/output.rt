@@ -7,9 +7,10 @@ use crate::naming::name;
 use crate::outcome::Outcome;
 use crate::resolve::resolve;
 use crate::spelling::{spell, text};
+use cc_passes::optimise::optimise;
 use std::alloc::Global;
 
-/// Reads externs and a source, resolves and names the program, and spells it.
+/// Reads externs and a source, resolves the program, puts it through the phases, names and spells it.
 pub fn output_of(alloc: Global, externs: &[u8], source: &[u8]) -> Result<Vec<u8>, Outcome>
     ensures ok { IfOk result (λ text. IsCompiled externs.now source.now text.items) }
     ensures err { IfErr result (IsRefused externs.now source.now) }
@@ -21,6 +22,7 @@ pub fn output_of(alloc: Global, externs: &[u8], source: &[u8]) -> Result<Vec<u8>
         return Err(Outcome::Unbuilt(2));
     };
     let program = resolve(alloc, &extern_names, source.len(), &statements)?;
+    let program = optimise(alloc, program)?;
     let Some(pieces) = spell(alloc, &program)? else {
         unreachable!()
     };

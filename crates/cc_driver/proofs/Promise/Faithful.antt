@@ -1,8 +1,10 @@
 -- What is compiled agrees with its source.
 use Rattle.std.proofs.Common.{◌≡◌, ℕ, List, length, sym, subst, Some}
-use Rattle.cc_meaning.specs.Alike.{In}
-use Rattle.cc_tied.proofs.Erase.{erasure}
-use Rattle.cc_tied.proofs.AlikeEnds.{agreement_reaches_alike}
+use Rattle.cc_meaning.specs.Alike.{In, Alike}
+use Rattle.cc_ast.specs.Syntax.{Program}
+use Rattle.cc_tied.proofs.AlikeEnds.{joining}
+use Rattle.cc_passes.specs.Phases.{optimised}
+use Rattle.cc_passes.specs.Lawful.{rounds_keep}
 use Rattle.cc_driver.specs.Form.{IsExterns, IsSource, IsReading}
 use Rattle.cc_driver.specs.Source.{program_of}
 use Rattle.cc_driver.specs.Spelling.{spell_chunk, text_of}
@@ -20,7 +22,9 @@ use Rattle.cc_driver.proofs.Promise.Naming.{naming_law}
 use Rattle.cc_driver.proofs.Promise.SourceNames.{others_are}
 use Rattle.cc_driver.proofs.Promise.ReadAgain.{renaming, written_reads}
 use Rattle.cc_driver.proofs.Promise.AlikePrograms.{alike_again}
+use Rattle.cc_driver.proofs.Promise.SourceWellMade.{source_well}
 use Rattle.cc_driver.proofs.Promise.SourcePaths.{source_has_no_paths}
+use Rattle.cc_driver.proofs.Promise.Folded.{source_stays}
 
 -- two readings of one text are equal
 pub reading_once : (externs : List (List ℕ)) (text : List ℕ) (ss ts : List Statement) → IsReading externs text ss → IsReading externs text ts → ss ≡ ts
@@ -44,16 +48,21 @@ source_names externs size ss pieces names n = naming_law (program_of externs siz
 pub output_faithful : (file : List ℕ) (externs : List (List ℕ)) (source : List ℕ) (ss : List Statement) (text : List ℕ) → IsExterns file externs → IsSource externs source ss
     → IsOutput externs (length source) ss text → IsFaithful externs source ss text
 output_faithful file externs source ss text ex so out =
-    let f = renaming file externs source ss ex so (length source) out.pieces out.names out.named in
-    let reading : IsReading externs text (statements_again f 0 ss) =
-    subst (λ t. IsReading externs t (statements_again f 0 ss)) (sym out.text) (written_reads file externs source ss ex so (length source) out.pieces out.names out.named out.spelled) in
     let S = program_of externs (length source) ss in
+    let stays : optimised S ≡ S = source_stays externs (length source) ss in
+    let spelled : spell_chunk S 0 ≡ Some out.pieces = subst (λ (p : Program). spell_chunk p 0 ≡ Some out.pieces) stays out.spelled in
+    let named : IsNaming S out.pieces out.names = subst (λ (p : Program). IsNaming p out.pieces out.names) stays out.named in
+    let f = renaming file externs source ss ex so (length source) out.pieces out.names named in
+    let reading : IsReading externs text (statements_again f 0 ss) =
+    subst (λ t. IsReading externs t (statements_again f 0 ss)) (sym out.text) (written_reads file externs source ss ex so (length source) out.pieces out.names named spelled) in
     let E = program_of externs (length text) (statements_again f 0 ss) in
+    let kept = rounds_keep 12 S (source_well file externs source ss ex so) (source_has_no_paths externs (length source) ss) in
+    let alike : Alike (optimised S) E = subst (λ (p : Program). Alike p E) (sym stays) (alike_again file externs source ss ex so (length source) out.pieces out.names named (length text)) in
     record {
       statements_read = statements_again f 0 ss;
       reading = reading;
       only = λ others h. reading_once externs text others (statements_again f 0 ss) h reading;
-      agrees = agreement_reaches_alike S S E (erasure S (source_has_no_paths externs (length source) ss)) (alike_again file externs source ss ex so (length source) out.pieces out.names out.named (length text));
+      agrees = joining S (optimised S) E kept.0 kept.2 alike;
     }
 
 pub compiled_faithful : (externs source text : List ℕ) (c : IsCompiled externs source text) → IsFaithful c.names source c.statements text

@@ -1,0 +1,5 @@
+//! The list of phases, and a program put through them by one worker.
+#![tactic(auto)]
+
+pub mod folding;
+pub mod optimise;
