@@ -83,6 +83,7 @@ module _ (F : Facts) where
     pub data SetI : Ctx → Ref → Prim → Type 0 where
       sets_known : {o : Option ℕ} {c n : ℕ} {p : Prim} → F.Known n (holds_literal p) → ((h : Held) → F.Known n h → h ≡ holds_literal p) → SetI (at o c) (Ref.Global n) p
 
+    -- functions that known globals are bound to, in a chunk's own list; further in nothing is bound
     pub data BindI : Ctx → Ref → ℕ → Type 0 where
       binds_known : {c n f : ℕ} → F.Known n (holds_function f) → ((h : Held) → F.Known n h → h ≡ holds_function f) → BindI (at None c) (Ref.Global n) f
 
