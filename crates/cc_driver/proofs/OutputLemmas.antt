@@ -1,16 +1,20 @@
 -- What joins reading, naming and spelling.
-use Rattle.std.proofs.Common.{◌≡◌, ℕ, zero, suc, nat_lt, true, List, [], ◌∷◌, Some, None, All, IsAscii, arith, ltb-true}
+use Rattle.std.proofs.Common.{◌≡◌, ap, subst, ◌∙◌, length, ℕ, zero, suc, nat_lt, true, List, [], ◌∷◌, Some, None, All, IsAscii, arith, ltb-true}
 use Rattle.std.proofs.lemmas.Bool.{and_parts}
 use Rattle.std.proofs.lemmas.List.Elements.{All-weaker}
 use Rattle.cc_ast.specs.declared.tables.GlobalInfo.{GlobalInfo}
+use Rattle.cc_ast.specs.Syntax.{Program}
+use Rattle.cc_passes.specs.Phases.{optimised}
 use Rattle.cc_driver.specs.declared.form.Statement.{Statement}
 use Rattle.cc_driver.specs.declared.spelling.Piece.{Piece}
 use Rattle.cc_driver.specs.Form.{IsExterns, IsSource}
 use Rattle.cc_driver.specs.Source.{program_of}
-use Rattle.cc_driver.specs.Spelling.{spell_chunk}
+use Rattle.cc_driver.specs.Spelling.{spell_chunk, text_of}
+use Rattle.cc_driver.specs.Compile.{IsCompiled}
 use Rattle.cc_driver.specs.Naming.{IsNaming}
 use Rattle.cc_driver.proofs.SourceLaws.{is_ascii_name, globals_ascii, source_spelled}
 use Rattle.cc_driver.proofs.NamingLaws.{names-ASCII}
+use Rattle.cc_driver.proofs.Promise.Folded.{source_stays}
 
 -- each unit of an ASCII name is below 128
 ascii_at : (n : List ℕ) → is_ascii_name n ≡ true → IsAscii n
@@ -28,3 +32,27 @@ printed_ascii file externs text size ss pieces names h s n =
 -- a source of the form has its pieces
 pub is_spelled : (externs : List (List ℕ)) (text : List ℕ) (size : ℕ) (ss : List Statement) → IsSource externs text ss → spell_chunk (program_of externs size ss) 0 ≡ None → ⊥
 is_spelled externs text size ss s none = let found = source_spelled externs text size ss s in let is : spell_chunk (program_of externs size ss) 0 ≡ Some found.0 = found.1 in cc (is, none)
+
+-- ---- what is written for a program that the phases made
+
+-- what the phases make of a source of the form is its program
+pub made_again : (externs : List (List ℕ)) (size : ℕ) (ss : List Statement) (P Q : Program) → P ≡ program_of externs size ss → Q ≡ optimised P → Q ≡ program_of externs size ss
+made_again externs size ss P Q p q = q ∙ ap optimised p ∙ source_stays externs size ss
+
+pub compiled_by : (file source out : List ℕ) (externs : List (List ℕ)) (ss : List Statement) (P Q : Program) (pieces : List Piece) (names : List (List ℕ)) → IsExterns file externs → IsSource externs source ss
+    → P ≡ program_of externs (length source) ss → Q ≡ optimised P → spell_chunk Q 0 ≡ Some pieces → IsNaming Q pieces names → out ≡ text_of names pieces → IsCompiled file source out
+compiled_by file source out externs ss P Q pieces names h s p q spelled named written =
+    let made : Q ≡ optimised (program_of externs (length source) ss) = q ∙ ap optimised p in
+    record {
+      names = externs;
+      statements = ss;
+      of_externs = h;
+      of_source = s;
+      output = record {
+        pieces = pieces;
+        names = names;
+        spelled = subst (λ (z : Program). spell_chunk z 0 ≡ Some pieces) made spelled;
+        named = subst (λ (z : Program). IsNaming z pieces names) made named;
+        text = written;
+      };
+    }

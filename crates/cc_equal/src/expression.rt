@@ -56,7 +56,10 @@ pub fn same_expr(a: &Expr, b: &Expr) -> bool
             None => false,
         },
         Expr::Binary(s, op, a, c) => match view::binary_of(b) {
-            Some((s2, op2, a2, c2)) => *s == s2 && *op == op2 && same_boxed(a, a2) && same_boxed(c, c2),
+            Some((s2, op2, a2, c2)) => *s == s2
+                && *op == op2
+                && same_boxed(a, a2)
+                && same_boxed(c, c2),
             None => false,
         },
         Expr::And(s, a, c) => match view::and_of(b) {
@@ -69,24 +72,21 @@ pub fn same_expr(a: &Expr, b: &Expr) -> bool
         },
         Expr::Cond(s, t, a, c) => match view::cond_of(b) {
             Some((s2, t2, a2, c2)) => {
-                *s == s2
-                    && same_boxed(t, t2)
-                    && same_boxed(a, a2)
-                    && same_boxed(c, c2)
+                *s == s2 && same_boxed(t, t2) && same_boxed(a, a2) && same_boxed(c, c2)
             }
             None => false,
         },
         Expr::Assign(s, op, t, a) => match view::assign_of(b) {
             Some((s2, op2, t2, a2)) => {
-                *s == s2
-                    && same_operator(*op, op2)
-                    && same_target(t, t2)
-                    && same_boxed(a, a2)
+                *s == s2 && same_operator(*op, op2) && same_target(t, t2) && same_boxed(a, a2)
             }
             None => false,
         },
         Expr::Step(s, up, prefix, t) => match view::step_of(b) {
-            Some((s2, up2, prefix2, t2)) => *s == s2 && *up == up2 && *prefix == prefix2 && same_target(t, t2),
+            Some((s2, up2, prefix2, t2)) => *s == s2
+                && *up == up2
+                && *prefix == prefix2
+                && same_target(t, t2),
             None => false,
         },
         Expr::Member(s, a, p) => match view::member_of(b) {

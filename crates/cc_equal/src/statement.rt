@@ -26,7 +26,10 @@ pub fn same_stmt(a: &Stmt, b: &Stmt) -> bool
             None => false,
         },
         Stmt::If(s, t, a, c) => match view::if_of(b) {
-            Some((s2, t2, a2, c2)) => *s == s2 && same_expr(t, t2) && same_stmts(a, a2) && same_stmts(c, c2),
+            Some((s2, t2, a2, c2)) => *s == s2
+                && same_expr(t, t2)
+                && same_stmts(a, a2)
+                && same_stmts(c, c2),
             None => false,
         },
         Stmt::While(s, t, c) => match view::while_of(b) {
@@ -49,10 +52,7 @@ pub fn same_stmt(a: &Stmt, b: &Stmt) -> bool
         },
         Stmt::ForIn(s, h, t, c) => match view::for_in_of(b) {
             Some((s2, h2, t2, c2)) => {
-                *s == s2
-                    && same_for_target(h, h2)
-                    && same_expr(t, t2)
-                    && same_stmts(c, c2)
+                *s == s2 && same_for_target(h, h2) && same_expr(t, t2) && same_stmts(c, c2)
             }
             None => false,
         },

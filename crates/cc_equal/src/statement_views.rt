@@ -146,7 +146,16 @@ pub fn switch_of(tree: &Stmt) -> Option<(u32, &Expr, &Items<Case>)>
     }
 }
 
-pub fn try_of(tree: &Stmt) -> Option<(u32, &Items<Stmt>, &Option<Items<Stmt>>, &Option<Items<Stmt>>)>
+pub fn try_of(
+    tree: &Stmt,
+) -> Option<
+    (
+        u32,
+        &Items<Stmt>,
+        &Option<Items<Stmt>>,
+        &Option<Items<Stmt>>,
+    ),
+>
     ensures some { IfSome result (λ x. tree.now ≡ stmt.Try x.0 x.1.now x.2.now x.3.now) }
     ensures none { IfNone result ((s : _) (c : _) (k : _) (f : _) → tree.now ≡ stmt.Try s c k f → ⊥) }
 {
