@@ -5,7 +5,7 @@ use Rattle.cc_ast.specs.declared.tree.Expr.{Expr}
 use Rattle.cc_ast.specs.declared.tree.Stmt.{Stmt, Stmt-F, out-Stmt, roll-Stmt, roll-out-Stmt}
 use Rattle.cc_ast.specs.declared.tree.Stmt.TheVariants as V
 use Rattle.cc_ast.specs.declared.tree.Stmt.TheFolds.{fold-roll-Case}
-use Rattle.cc_ast.specs.declared.tree.Case.{Case, Case-F, out-Case, roll-Case, roll-out-Case}
+use Rattle.cc_ast.specs.declared.tree.Case.{Case, out-Case, roll-Case, roll-out-Case}
 use Rattle.cc_ast.specs.declared.tree.Declarator.{Declarator}
 use Rattle.cc_ast.specs.declared.tree.ForInit.{ForInit}
 use Rattle.cc_ast.specs.declared.tree.ForInit.TheVariants as init
@@ -13,7 +13,7 @@ use Rattle.cc_ast.specs.declared.tree.ForTarget.{ForTarget}
 use Rattle.cc_ast.specs.declared.tree.ForTarget.TheVariants as to
 use Rattle.cc_ast.specs.declared.tree.Ref.{Ref}
 use Rattle.cc_ast.specs.Syntax as S
-use Rattle.cc_ast.specs.Bridge.{term, target, option_term}
+use Rattle.cc_ast.specs.Bridge.{term, option_term}
 use Rattle.cc_ast.specs.StmtBridge.{CaseTerm, case_layer, stmt_layer, term_stmt, term_case, term_stmts, term_cases, maybe_stmts, declarator, for_init, for_target}
 use Rattle.cc_ast.specs.StmtTerms as T
 use Rattle.cc_equal.proofs.OneExpr.{one_expr, one_target}

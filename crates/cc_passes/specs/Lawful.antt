@@ -1,5 +1,5 @@
 -- What rounds of folding keep.
-use Rattle.std.specs.Prelude.{◌≡◌, ℕ, zero, suc, Bool, true, false, cond, List, [], ◌∷◌, map, Option, Some, None, slice_get, IsSome}
+use Rattle.std.specs.Prelude.{◌≡◌, ℕ, zero, suc, Bool, true, false, cond, List, [], ◌∷◌, map, Option, Some}
 use Rattle.std.proofs.Common.{refl, sym, ap, ◌∙◌, subst}
 use Rattle.cc_ast.specs.Syntax.{Scope, Program}
 use Rattle.cc_ast.specs.declared.tree.Ref.{Ref}
@@ -8,7 +8,7 @@ use Rattle.cc_meaning.specs.WellMade.{WellMade}
 use Rattle.cc_meaning.proofs.SameLaws.{reflexive, transitive}
 use Rattle.cc_tied.specs.Promises.{HasNoPaths}
 use Rattle.cc_tied.specs.Mixed.{MixedScopes, no_scopes, as_it_was, with_other, IsMixed}
-use Rattle.cc_core.specs.Work.{Work, Lawful, VisitsAll, with_scopes, with_heads, heads_of, mixed, or_same, part, phase}
+use Rattle.cc_core.specs.Work.{Lawful, VisitsAll, with_scopes, mixed, part, phase}
 use Rattle.cc_fold.specs.Built.{built_globals, built_in}
 use Rattle.cc_fold.specs.Fold.{fold_scope}
 use Rattle.cc_fold.specs.Law.{folded_by}

@@ -1,6 +1,6 @@
 -- The phases: folding, repeated until a round changes nothing, at most 12 times.
-use Rattle.std.specs.Prelude.{◌≡◌, ℕ, zero, suc, ◌+◌, nat_lt, Bool, true, not, ◌&&◌, cond, List, map, Option, Some, None}
-use Rattle.cc_ast.specs.Syntax.{Scope, Program}
+use Rattle.std.specs.Prelude.{ℕ, zero, suc, ◌+◌, nat_lt, Bool, true, not, ◌&&◌, cond, List, map, Option, Some, None}
+use Rattle.cc_ast.specs.Syntax.{Program}
 use Rattle.cc_meaning.specs.WellMade.{WellMade}
 use Rattle.cc_tied.specs.Promises.{HasNoPaths}
 use Rattle.cc_core.specs.Work.{Work, with_scopes, heads_of}
