@@ -9,7 +9,10 @@ use Rattle.cc_driver.specs.Form.{IsExterns, IsSource}
 use Rattle.cc_driver.specs.Source.{program_of}
 use Rattle.cc_driver.specs.Spelling.{spell_chunk}
 use Rattle.cc_driver.specs.Naming.{IsNaming}
-use Rattle.cc_driver.proofs.SourceLaws.{is_ascii_name, globals_ascii, source_spelled}
+use Rattle.cc_driver.specs.Sound.{AreSound}
+use Rattle.cc_driver.proofs.SourceLaws.{is_ascii_name, sound_ascii}
+use Rattle.cc_driver.proofs.Promise.Fit.{sound_source}
+use Rattle.cc_driver.proofs.Promise.Text.{sound_spelled}
 use Rattle.cc_driver.proofs.NamingLaws.{names-ASCII}
 
 -- each unit of an ASCII name is below 128
@@ -19,12 +22,20 @@ ascii_at (c ∷ cs) e zero = ltb-true c 128 (and_parts (nat_lt c 128) (is_ascii_
 ascii_at (c ∷ cs) e (suc i) = ascii_at cs (and_parts (nat_lt c 128) (is_ascii_name cs) e).1 i
 
 -- the names that are printed are ASCII
+pub sound_printed_ascii : (file : List ℕ) (externs : List (List ℕ)) (size : ℕ) (ss : List Statement) (pieces : List Piece) (names : List (List ℕ)) → IsExterns file externs → AreSound externs ss
+    → IsNaming (program_of externs size ss) pieces names → All IsAscii names
+sound_printed_ascii file externs size ss pieces names h s n =
+    names-ASCII (program_of externs size ss) pieces names n
+    (All-weaker (λ (g : GlobalInfo). is_ascii_name g.name ≡ true) (λ (g : GlobalInfo). IsAscii g.name) (λ g e. ascii_at g.name e) (program_of externs size ss).globals (sound_ascii file externs size ss h s))
+
 pub printed_ascii : (file : List ℕ) (externs : List (List ℕ)) (text : List ℕ) (size : ℕ) (ss : List Statement) (pieces : List Piece) (names : List (List ℕ)) → IsExterns file externs → IsSource externs text ss
     → IsNaming (program_of externs size ss) pieces names → All IsAscii names
-printed_ascii file externs text size ss pieces names h s n =
-    names-ASCII (program_of externs size ss) pieces names n
-    (All-weaker (λ (g : GlobalInfo). is_ascii_name g.name ≡ true) (λ (g : GlobalInfo). IsAscii g.name) (λ g e. ascii_at g.name e) (program_of externs size ss).globals (globals_ascii file externs text size ss h s))
+printed_ascii file externs text size ss pieces names h s n = sound_printed_ascii file externs size ss pieces names h (sound_source externs text ss s) n
+
+-- sound statements have their pieces
+pub sound_is_spelled : (externs : List (List ℕ)) (size : ℕ) (ss : List Statement) → AreSound externs ss → spell_chunk (program_of externs size ss) 0 ≡ None → ⊥
+sound_is_spelled externs size ss s none = let found = sound_spelled externs size ss s in let is : spell_chunk (program_of externs size ss) 0 ≡ Some found.0 = found.1 in cc (is, none)
 
 -- a source of the form has its pieces
 pub is_spelled : (externs : List (List ℕ)) (text : List ℕ) (size : ℕ) (ss : List Statement) → IsSource externs text ss → spell_chunk (program_of externs size ss) 0 ≡ None → ⊥
-is_spelled externs text size ss s none = let found = source_spelled externs text size ss s in let is : spell_chunk (program_of externs size ss) 0 ≡ Some found.0 = found.1 in cc (is, none)
+is_spelled externs text size ss s none = sound_is_spelled externs size ss (sound_source externs text ss s) none

@@ -62,9 +62,9 @@ number_behind n (c ∷ cs) = number_behind (n * 10 + (c - 48)) cs
 abbrev pub most_digits : ℕ
 most_digits = 16
 
--- the one digit 0, or digits of which the first is another
+-- one digit, or digits of which the first is not 0
 abbrev pub leads_well : List ℕ → Bool
-leads_well ds = not (nat_eq (look ds) 48) || nat_eq (length ds) 1
+leads_well ds = nat_lt 48 (look ds) || nat_eq (length ds) 1
 
 -- digits that write a number of the form
 abbrev pub is_free_number : List ℕ → Bool

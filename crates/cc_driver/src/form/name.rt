@@ -117,8 +117,8 @@ fn leads_well(digits: &[u8]) -> bool
     ensures { result ≡ reading.leads_well digits.now }
 {
     match digits.first() {
-        Some(first) => *first != b'0' || digits.len() == 1,
-        None => true,
+        Some(first) => b'0' < *first || digits.len() == 1,
+        None => false,
     }
 }
 
