@@ -71,7 +71,7 @@ module _ (old names : List (List ℕ)) (C Q : List ℕ → Type 0) where
       let last = operand_text f m.operand in
       let sum = joined (spell_value e) (join (one (codes "+")) right) t (43 ∷ last) k (joined (one (codes "+")) right (codes "+") last (bytes (codes "+")) (operand_spells m.operand h.0)) in
       let next : S.Expr = S.binary m.plus Add e (operand_tree old m.operand) in
-      same_text (spell_value (chain_tree old next ms)) ((t ++ 43 ∷ last) ++ more_text f ms) (t ++ 43 ∷ last ++ more_text f ms) (append_assoc t (43 ∷ last) (more_text f ms))
+      same_text (spell_value (chain_tree old next ms)) ((t ++ 43 ∷ last) ++ more_text f ms) (t ++ (43 ∷ last ++ more_text f ms)) (append_assoc t (43 ∷ last) (more_text f ms))
       (chain_spells next (t ++ 43 ∷ last) ms sum h.1)
 
   value_spells : (v : Value) → ValueFit C Q v → Spells names (spell_value (value_tree old v)) (value_text f v)
