@@ -1,17 +1,20 @@
 -- What is read is of the form.
-use Rattle.std.proofs.Common.{◌≡◌, ℕ, zero, suc, ◌+◌, Bool, true, nat_eq, List, [], ◌∷◌, ◌++◌, length, take, drop, None, Some, refl, sym, ap, subst, ◌∙◌, arith, eqb-true, ⊎_elim, length-append, append_assoc, append-nil, codes, length-take-le}
+use Rattle.std.proofs.Common.{◌≡◌, ℕ, zero, suc, ◌+◌, ◌≤◌, pos, Bool, true, nat_eq, List, [], ◌∷◌, ◌++◌, length, take, drop, None, Some, refl, sym, ap, subst, ◌∙◌, arith, eqb-true, ⊎_elim, length-append, append_assoc, append-nil, codes, length-take-le}
 use Rattle.std.specs.List.{list_all, prefix_len}
 use Rattle.std.proofs.lemmas.List.{take-append-drop}
 use Rattle.std.proofs.lemmas.List.Sums.{prefix_len-le-length}
 use Rattle.std.proofs.lemmas.Bool.{and_parts, or_cases}
 use Rattle.cc_driver.specs.Names.{is_name_part, IsName}
 use Rattle.cc_driver.specs.Form as form
-use Rattle.cc_driver.specs.Form.{is_plain, IsValue, IsValues, IsStatement, IsStatements, IsFunctions}
+use Rattle.cc_driver.specs.Form.{is_plain, most_more, IsOperand, IsMore, IsValue, IsValues, IsStatement, IsStatements, IsFunctions}
+use Rattle.cc_driver.specs.declared.form.Operand.{Operand}
+use Rattle.cc_driver.specs.declared.form.Operand.TheVariants.{Named, Text, Whole}
+use Rattle.cc_driver.specs.declared.form.Added.{Added}
 use Rattle.cc_driver.specs.declared.form.Value.{Value}
-use Rattle.cc_driver.specs.declared.form.Value.TheVariants.{Named, Text}
 use Rattle.cc_driver.specs.declared.form.Statement.{Statement}
 use Rattle.cc_driver.specs.declared.form.Statement.TheVariants.{Declares, Calls}
-use Rattle.cc_driver.specs.FormReading.{and_then, look, expect, read_name, read_text, read_value, read_values, read_arguments, read_declaration, read_call, read_statement, read_statements, read_function, read_functions}
+use Rattle.cc_driver.specs.FormReading.{and_then, look, expect, is_digit, number_behind, read_name, read_text, read_number, read_operand, read_more, read_value, read_values, read_arguments, read_declaration, read_call, read_statement, read_statements, read_function, read_functions}
+use Rattle.cc_driver.proofs.WholeLaws.{free_parts, free_written}
 use Rattle.cc_driver.proofs.Runs.{run_passes, looked, parts, tested, either, same_some, expected, expected_word, begun}
 
 -- what was read has a text of the form, which stood at the beginning
@@ -43,14 +46,14 @@ name_sound at xs p e =
       ends = ap (λ n. at + n) (sym (taken is_name_part xs));
     })
 
-pub record IsText (quote at : ℕ) (xs : List ℕ) (p : Value × ℕ × List ℕ) : Type 0 where
+pub record IsText (quote at : ℕ) (xs : List ℕ) (p : Operand × ℕ × List ℕ) : Type 0 where
   pub text : List ℕ
   pub plain : list_all is_plain text ≡ true
   pub value : p.0 ≡ Text at text
   pub here : xs ≡ text ++ (quote ∷ p.2)
   pub ends : p.1 ≡ at + 1 + length text + 1
 
-pub text_sound : (quote at : ℕ) (xs : List ℕ) (p : Value × ℕ × List ℕ) → read_text (suc quote) at xs ≡ Some p → IsText (suc quote) at xs p
+pub text_sound : (quote at : ℕ) (xs : List ℕ) (p : Operand × ℕ × List ℕ) → read_text (suc quote) at xs ≡ Some p → IsText (suc quote) at xs p
 unfolding read_text
 text_sound quote at xs p e =
     let k = prefix_len is_plain xs in
@@ -65,39 +68,111 @@ text_sound quote at xs p e =
       ends = q.ends ∙ ap (λ n. at + 1 + n + 1) (sym (taken is_plain xs));
     })
 
-quoted : (quote at : ℕ) (xs : List ℕ) (p : Value × ℕ × List ℕ)
-    → ((t : List ℕ) → list_all is_plain t ≡ true → IsValue at (suc quote ∷ t ++ suc quote ∷ []) (Text at t))
-    → look xs ≡ suc quote → read_text (look xs) at (drop 1 xs) ≡ Some p → Is (IsValue at) at xs p
+quoted : (quote at : ℕ) (xs : List ℕ) (p : Operand × ℕ × List ℕ)
+    → ((t : List ℕ) → list_all is_plain t ≡ true → IsOperand at (suc quote ∷ t ++ suc quote ∷ []) (Text at t))
+    → look xs ≡ suc quote → read_text (look xs) at (drop 1 xs) ≡ Some p → Is (IsOperand at) at xs p
 quoted quote at xs p make l e =
     let t = text_sound quote at (drop 1 xs) p (ap (λ q. read_text q at (drop 1 xs)) (sym l) ∙ e) in
     record {
       text = suc quote ∷ t.text ++ suc quote ∷ [];
-      is = subst (IsValue at (suc quote ∷ t.text ++ suc quote ∷ [])) (sym t.value) (make t.text t.plain);
+      is = subst (IsOperand at (suc quote ∷ t.text ++ suc quote ∷ [])) (sym t.value) (make t.text t.plain);
       here = looked xs quote l ∙ ap (λ r. suc quote ∷ r) (t.here ∙ sym (append_assoc t.text (suc quote ∷ []) p.2));
       ends = t.ends ∙ (let n : length (suc quote ∷ t.text ++ suc quote ∷ []) ≡ suc (length t.text + 1) = ap suc (length-append t.text (suc quote ∷ [])) in omega arith);
     }
 
-pub value_sound : (at : ℕ) (xs : List ℕ) (p : Value × ℕ × List ℕ) → read_value at xs ≡ Some p → Is (IsValue at) at xs p
-unfolding read_value
-value_sound at xs p e = ⊎_elim (λ h. ⊎_elim (single h.1) (double h.1) (or_cases _ _ h.0)) (λ h. bare h.1) (either _ _ _ _ e)
+pub number_sound : (at : ℕ) (xs : List ℕ) (p : Operand × ℕ × List ℕ) → read_number at xs ≡ Some p → Is (IsOperand at) at xs p
+unfolding read_number
+number_sound at xs p e =
+    let k = prefix_len is_digit xs in
+    let w = tested _ _ _ e in
+    let free = free_parts (take k xs) w.0 in
+    let written = free_written (take k xs) (run_passes is_digit xs) free in
+    subst (Is (IsOperand at) at xs) w.1 (record {
+      text = take k xs;
+      is = subst (λ t. IsOperand at t (Whole at (pos (number_behind 0 (take k xs))))) written (form.a_whole free.small);
+      here = sym (take-append-drop k xs);
+      ends = ap (λ n. at + n) (sym (taken is_digit xs));
+    })
+
+pub operand_sound : (at : ℕ) (xs : List ℕ) (p : Operand × ℕ × List ℕ) → read_operand at xs ≡ Some p → Is (IsOperand at) at xs p
+unfolding read_operand
+operand_sound at xs p e =
+    ⊎_elim (λ h. ⊎_elim (single h.1) (double h.1) (or_cases _ _ h.0)) (λ h. ⊎_elim (λ d. number_sound at xs p d.1) (λ d. bare d.1) (either _ _ _ _ h.1)) (either _ _ _ _ e)
   where
-    single : read_text (look xs) at (drop 1 xs) ≡ Some p → nat_eq (look xs) 39 ≡ true → Is (IsValue at) at xs p
+    single : read_text (look xs) at (drop 1 xs) ≡ Some p → nat_eq (look xs) 39 ≡ true → Is (IsOperand at) at xs p
     single r l = quoted 38 at xs p (λ t h. form.in_single_quotes h) (eqb-true _ _ l) r
 
-    double : read_text (look xs) at (drop 1 xs) ≡ Some p → nat_eq (look xs) 34 ≡ true → Is (IsValue at) at xs p
+    double : read_text (look xs) at (drop 1 xs) ≡ Some p → nat_eq (look xs) 34 ≡ true → Is (IsOperand at) at xs p
     double r l = quoted 33 at xs p (λ t h. form.in_double_quotes h) (eqb-true _ _ l) r
 
-    bare : and_then (read_name at xs) (λ n end rest. Some (Named at n, end, rest)) ≡ Some p → Is (IsValue at) at xs p
+    bare : and_then (read_name at xs) (λ n end rest. Some (Named at n, end, rest)) ≡ Some p → Is (IsOperand at) at xs p
     bare r =
         let w = parts _ _ _ r in
         let n = name_sound at xs (w.first, w.end, w.rest) w.read in
         let s : (Named at w.first, w.end, w.rest) ≡ p = same_some w.then in
-        subst (Is (IsValue at) at xs) s (record {
+        subst (Is (IsOperand at) at xs) s (record {
           text = w.first;
           is = form.a_name n.name;
           here = n.here;
           ends = n.ends;
         })
+
+-- operands that were read, each behind a `+`, as many as n at most, after those that were found before
+pub record AreMore (n : ℕ) (found : List Added) (at : ℕ) (xs : List ℕ) (p : List Added × ℕ × List ℕ) : Type 0 where
+  pub text : List ℕ
+  pub more : List Added
+  pub is : IsMore at text more
+  pub few : length more ≤ n
+  pub all : p.0 ≡ found ++ more
+  pub here : xs ≡ text ++ p.2
+  pub ends : p.1 ≡ at + length text
+
+no_more_read : (n : ℕ) (found : List Added) (at : ℕ) (xs : List ℕ) (p : List Added × ℕ × List ℕ) → (found, at, xs) ≡ p → AreMore n found at xs p
+no_more_read n found at xs p s = subst (AreMore n found at xs) s (record { text = []; more = []; is = form.no_more; few = omega arith; all = sym (append-nil found); here = refl; ends = omega arith })
+
+pub more_sound : (n : ℕ) (found : List Added) (at : ℕ) (xs : List ℕ) (p : List Added × ℕ × List ℕ) → read_more n found at xs ≡ Some p → AreMore n found at xs p
+unfolding read_more
+more_sound zero found at xs p e = no_more_read zero found at xs p (same_some e)
+more_sound (suc n) found at xs p e = ⊎_elim (λ h. next (eqb-true _ _ h.0) h.1 (λ m a ys. more_sound n (found ++ m ∷ []) a ys p)) (λ h. no_more_read (suc n) found at xs p (same_some h.1)) (either _ _ _ _ e)
+  where
+    next : look xs ≡ 43 → and_then (read_operand (at + 1) (drop 1 xs)) (λ o a ys. read_more n (found ++ (record { plus = at; operand = o }) ∷ []) a ys) ≡ Some p
+        → ((m : Added) (a : ℕ) (ys : List ℕ) → read_more n (found ++ m ∷ []) a ys ≡ Some p → AreMore n (found ++ m ∷ []) a ys p) → AreMore (suc n) found at xs p
+    next l h again =
+        let w = parts _ _ _ h in
+        let m : Added = record { plus = at; operand = w.first } in
+        let o = operand_sound (at + 1) (drop 1 xs) (w.first, w.end, w.rest) w.read in
+        let r = again m w.end w.rest w.then in
+        record {
+          text = 43 ∷ o.text ++ r.text;
+          more = m ∷ r.more;
+          is = form.one_more o.is (subst (λ k. IsMore k r.text r.more) o.ends r.is);
+          few = (let less : length r.more ≤ n = r.few in omega arith);
+          all = r.all ∙ append_assoc found (m ∷ []) r.more;
+          here = looked xs 42 l ∙ ap (λ t. 43 ∷ t) (o.here ∙ ap (λ t. o.text ++ t) r.here ∙ sym (append_assoc o.text r.text p.2));
+          ends = (let whole : length (43 ∷ o.text ++ r.text) ≡ suc (length o.text + length r.text) = ap suc (length-append o.text r.text) in
+              let o_is : w.end ≡ at + 1 + length o.text = o.ends in
+              let r_is : p.1 ≡ w.end + length r.text = r.ends in omega arith);
+        }
+
+pub value_sound : (at : ℕ) (xs : List ℕ) (p : Value × ℕ × List ℕ) → read_value at xs ≡ Some p → Is (IsValue at) at xs p
+unfolding read_value
+value_sound at xs p e =
+    let w = parts _ _ _ e in
+    let o = operand_sound at xs (w.first, w.end, w.rest) w.read in
+    let v = parts _ _ _ w.then in
+    let m = more_sound most_more [] w.end w.rest (v.first, v.end, v.rest) v.read in
+    let chain : Value = record { first = w.first; more = v.first } in
+    let s : (chain, v.end, v.rest) ≡ p = same_some v.then in
+    let all : IsMore w.end m.text v.first = subst (IsMore w.end m.text) (sym m.all) m.is in
+    let whole : length (o.text ++ m.text) ≡ length o.text + length m.text = length-append o.text m.text in
+    let o_is : w.end ≡ at + length o.text = o.ends in
+    let m_is : v.end ≡ w.end + length m.text = m.ends in
+    subst (Is (IsValue at) at xs) s (record {
+      text = o.text ++ m.text;
+      is = form.a_chain o.is (subst (λ k. IsMore k m.text v.first) o.ends all) (subst (λ ms. length ms ≤ most_more) (sym m.all) m.few);
+      here = o.here ∙ ap (λ t. o.text ++ t) m.here ∙ sym (append_assoc o.text m.text v.rest);
+      ends = omega arith;
+    })
 
 -- values that were read, with the parenthesis behind them, after those that were found before
 pub record AreValues (found : List Value) (at : ℕ) (xs : List ℕ) (p : List Value × ℕ × List ℕ) : Type 0 where

@@ -4,6 +4,7 @@ pub mod CompileLemmas
 pub mod CompletesLemmas
 pub mod Runs
 pub mod Turns
+pub mod WholeLaws
 pub mod FormSound
 pub mod FormComplete
 pub mod FormLaws

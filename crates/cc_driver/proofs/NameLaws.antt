@@ -9,12 +9,14 @@ use Rattle.std.proofs.lemmas.List.Folds.{list_any_at}
 use Rattle.std.proofs.lemmas.List.Elements.{All-nil, All-cons, All-head, All-tail, All-append, All-weaker, recursion_from_All}
 use Rattle.indexmap.proofs.CallerLemmas.{Contains-list_any}
 use Rattle.cc_driver.specs.Names.{is_in}
-use Rattle.cc_driver.specs.Form.{declared, called, used, named_by, named_by_all}
+use Rattle.cc_driver.specs.Form.{declared, called, used, named_by_one, named_by_more, named_by, named_by_all}
+use Rattle.cc_driver.specs.declared.form.Operand.{Operand}
+use Rattle.cc_driver.specs.declared.form.Operand.TheVariants.{Named, Text, Whole}
+use Rattle.cc_driver.specs.declared.form.Added.{Added}
 use Rattle.cc_driver.specs.declared.form.Value.{Value}
-use Rattle.cc_driver.specs.declared.form.Value.TheVariants.{Named, Text}
 use Rattle.cc_driver.specs.declared.form.Statement.{Statement}
 use Rattle.cc_driver.specs.declared.form.Statement.TheVariants.{Declares, Calls}
-use Rattle.cc_driver.specs.FormChecks.{enter, and_after, each_once, all_declared, is_known, uses_known}
+use Rattle.cc_driver.specs.FormChecks.{enter, and_after, each_once, all_declared, is_known_one, is_known, uses_known}
 use Rattle.cc_driver.proofs.Runs.{same_some}
 
 abbrev pub Names : Type 0
@@ -149,13 +151,40 @@ all_parts P (x ∷ xs) ys h =
     let w = all_parts P xs ys (All-tail P x (xs ++ ys) h) in
     (All-cons P x xs (All-head P x (xs ++ ys) h) w.0, w.1)
 
+one_known_sound : (names : Names) (o : Operand) → is_known_one names o ≡ true → All (Contains names) (named_by_one o)
+one_known_sound names (Named at n) e = All-cons (Contains names) n [] (contained n names e) (All-nil _)
+one_known_sound names (Text at t) e = All-nil _
+one_known_sound names (Whole at z) e = All-nil _
+
+one_known_complete : (names : Names) (o : Operand) → All (Contains names) (named_by_one o) → is_known_one names o ≡ true
+one_known_complete names (Named at n) h = found n names (All-head (Contains names) n [] h)
+one_known_complete names (Text at t) h = refl
+one_known_complete names (Whole at z) h = refl
+
+abbrev are_known : Names → List Added → Bool
+are_known names ms = list_all (λ (m : Added). is_known_one names m.operand) ms
+
+more_known_sound : (names : Names) (ms : List Added) → are_known names ms ≡ true → All (Contains names) (named_by_more ms)
+more_known_sound names [] e = All-nil _
+more_known_sound names (m ∷ ms) e =
+    let w = and_parts (is_known_one names m.operand) (are_known names ms) e in
+    All-append (Contains names) (named_by_one m.operand) (named_by_more ms) (one_known_sound names m.operand w.0) (more_known_sound names ms w.1)
+
+more_known_complete : (names : Names) (ms : List Added) → All (Contains names) (named_by_more ms) → are_known names ms ≡ true
+more_known_complete names [] h = refl
+more_known_complete names (m ∷ ms) h =
+    let w = all_parts (Contains names) (named_by_one m.operand) (named_by_more ms) h in
+    and_from _ _ (one_known_complete names m.operand w.0) (more_known_complete names ms w.1)
+
 known_sound : (names : Names) (v : Value) → is_known names v ≡ true → All (Contains names) (named_by v)
-known_sound names (Named at n) e = All-cons (Contains names) n [] (contained n names e) (All-nil _)
-known_sound names (Text at t) e = All-nil _
+known_sound names v e =
+    let w = and_parts (is_known_one names v.first) (are_known names v.more) e in
+    All-append (Contains names) (named_by_one v.first) (named_by_more v.more) (one_known_sound names v.first w.0) (more_known_sound names v.more w.1)
 
 known_complete : (names : Names) (v : Value) → All (Contains names) (named_by v) → is_known names v ≡ true
-known_complete names (Named at n) h = found n names (All-head (Contains names) n [] h)
-known_complete names (Text at t) h = refl
+known_complete names v h =
+    let w = all_parts (Contains names) (named_by_one v.first) (named_by_more v.more) h in
+    and_from _ _ (one_known_complete names v.first w.0) (more_known_complete names v.more w.1)
 
 all_known_sound : (names : Names) (vs : List Value) → list_all (is_known names) vs ≡ true → All (Contains names) (named_by_all vs)
 all_known_sound names [] e = All-nil _

@@ -7,6 +7,7 @@ pub mod RankOrder
 pub mod Naming
 pub mod SourceNames
 pub mod Fit
+pub mod Folding
 pub mod Text
 pub mod FormAgain
 pub mod ReadAgain

@@ -1,6 +1,6 @@
 -- Steps of making a program.
 use Rattle.std.proofs.Common.{◌≡◌, ℕ, zero, suc, ◌+◌, ◌<◌, ◌≤◌, ◌^◌, List, [], ◌∷◌, ◌++◌, length, map, take, drop, get_or, false, refl, sym, ap, subst, ◌∙◌, arith, append_assoc, All, length-append, append-nil, take-append-drop, drop-cons}
-use Rattle.std.proofs.lemmas.List.{map-append, take_more}
+use Rattle.std.proofs.lemmas.List.{map-append, take_more, drop_more, drop_all}
 use Rattle.cc_driver.specs.Names.{is_in, built_in_names}
 use Rattle.cc_driver.specs.Form.{IsStatement, IsStatements, IsFunctions, IsExterns, IsSource, declared, declared_by}
 use Rattle.cc_ast.specs.declared.tree.Stmt.{Stmt}
@@ -8,7 +8,10 @@ use Rattle.cc_ast.specs.StmtBridge.{stmts, term_stmt, term_stmts}
 use Rattle.cc_driver.specs.Form as form
 use Rattle.cc_driver.specs.Reach.{reach, names_of, program_with}
 use Rattle.cc_ast.specs.declared.tables.GlobalInfo.{GlobalInfo}
-use Rattle.cc_driver.specs.Source.{places_from, place_at, global_of_no_chunk, global_of_main, global_names, statement_tree, program_of}
+use Rattle.cc_driver.specs.Source.{places_from, place_at, global_of_no_chunk, global_of_main, global_names, operand_tree, chain_tree, statement_tree, program_of}
+use Rattle.cc_ast.specs.Syntax as S
+use Rattle.cc_ast.specs.declared.operator.BinOp.TheVariants.{Add}
+use Rattle.cc_driver.specs.declared.form.Added.{Added}
 use Rattle.cc_driver.specs.declared.form.Statement.{Statement}
 use Rattle.cc_driver.proofs.NameLaws.{Names, Distinct, absent_before}
 use Rattle.std.proofs.lemmas.List.Elements.{All-nil, All-cons, All-weaker}
@@ -93,15 +96,17 @@ names_of_globals externs ss =
     map-append (λ g. g.name) (map global_of_no_chunk (externs ++ built_in_names)) (map global_of_main (declared ss))
     ∙ (λ i. names_outside (externs ++ built_in_names) i ++ names_inside (declared ss) i)
 
--- a source has fewer globals than 2 ^ 32
-pub globals_few : (file : List ℕ) (externs : Names) (text : List ℕ) (ss : List Statement) → IsExterns file externs → IsSource externs text ss → length (global_names externs ss) < 2 ^ 32
-globals_few file externs text ss h s =
+-- there are fewer globals than 2 ^ 32 beside so few declarations
+pub declared_few : (file : List ℕ) (externs : Names) (size : ℕ) (ss : List Statement) → IsExterns file externs → length (declared ss) ≤ size → size ≤ 16777216 → length (global_names externs ss) < 2 ^ 32
+declared_few file externs size ss h inside brief =
     let outside : length externs ≤ length file = functions_few file externs h.form in
-    let inside : length (declared ss) ≤ length text = statements_few 0 text ss s.reading.form in
     let short : length file ≤ 16777216 = h.short in
-    let brief : length text ≤ 16777216 = s.short in
     let all : length (global_names externs ss) ≡ length externs + 3 + length (declared ss) = simp length-append in
     omega arith
+
+-- a source has fewer globals than 2 ^ 32
+pub globals_few : (file : List ℕ) (externs : Names) (text : List ℕ) (ss : List Statement) → IsExterns file externs → IsSource externs text ss → length (global_names externs ss) < 2 ^ 32
+globals_few file externs text ss h s = declared_few file externs (length text) ss h (statements_few 0 text ss s.reading.form) s.short
 
 -- each place of its trees is in range
 pub places_fit : (externs : Names) (text : List ℕ) (ss : List Statement) → IsSource externs text ss → All (λ s. reach s < 2 ^ 32) ss
@@ -109,6 +114,16 @@ places_fit externs text ss s =
     let brief : length text ≤ 16777216 = s.short in
     let wide : (t : Statement) → reach t ≤ 0 + length text → reach t < 2 ^ 32 = λ t k. omega arith in
     All-weaker (λ t. reach t ≤ 0 + length text) (λ t. reach t < 2 ^ 32) wide ss (statements_reach 0 text ss s.reading.form)
+
+-- a turn of the loop over the operands that follow
+pub chain_turn : (names : Names) (e : S.Expr) (ms : List Added) (i : ℕ) (m : Added) → i < length ms → m ≡ get_or ms i m
+    → chain_tree names (S.binary m.plus Add e (operand_tree names m.operand)) (drop (i + 1) ms) ≡ chain_tree names e (drop i ms)
+chain_turn names e ms i m lt is =
+    let cut : drop i ms ≡ m ∷ drop (i + 1) ms = drop_more ms i m lt ∙ ap (λ x. x ∷ drop (i + 1) ms) (sym is) in
+    ap (chain_tree names e) (sym cut)
+
+pub chain_end : (names : Names) (e : S.Expr) (ms : List Added) (i : ℕ) → length ms ≤ i → chain_tree names e (drop i ms) ≡ e
+chain_end names e ms i h = ap (chain_tree names e) (drop_all i ms h)
 
 -- the program of the globals and the statements is the program of the source
 pub resolved : (externs : Names) (size : ℕ) (ss : List Statement) (globals : List GlobalInfo) (body : List Stmt)

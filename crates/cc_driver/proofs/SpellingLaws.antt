@@ -1,5 +1,5 @@
 -- Laws of joined pieces and of lists that are spelled.
-use Rattle.std.proofs.Common.{◌≡◌, ℕ, ◌+◌, ◌<◌, List, [], ◌∷◌, ◌++◌, length, get_or, drop, ◌≤◌, Option, Some, None, refl, sym, ap, ◌∙◌, arith, append_assoc, append-nil}
+use Rattle.std.proofs.Common.{◌≡◌, ℕ, ◌+◌, ◌<◌, true, false, cond, List, [], ◌∷◌, ◌++◌, length, get_or, drop, ◌≤◌, Option, Some, None, refl, sym, ap, ◌∙◌, arith, append_assoc, append-nil}
 use Rattle.std.proofs.lemmas.List.{drop_more, drop_all}
 use Rattle.cc_ast.specs.declared.tree.Ref.TheVariants.{Global}
 use Rattle.cc_ast.specs.declared.tree.Expr.{Expr}
@@ -9,10 +9,12 @@ use Rattle.cc_ast.specs.StmtBridge.{term_stmt, term_stmts}
 use Rattle.cc_ast.specs.Terms.{terms-empty, terms-more}
 use Rattle.cc_ast.specs.StmtTerms.{term_stmts-empty, term_stmts-more}
 use Rattle.cc_ast.specs.Syntax as S
+use Rattle.cc_ast.specs.declared.operator.BinOp.{BinOp}
+use Rattle.cc_ast.specs.declared.operator.BinOp.TheVariants.{Add}
 use Rattle.cc_driver.specs.declared.spelling.Piece.{Piece}
 use Rattle.cc_driver.specs.declared.spelling.Piece.TheVariants as piece
 use Rattle.cc_driver.specs.Spelling.{join, one, spell_value, spell_values, spell_statements, spell_statement}
-use Rattle.cc_driver.specs.Shapes.{spell_more}
+use Rattle.cc_driver.specs.Shapes.{is_add, spell_added, spell_more}
 
 pub join-assoc : (a b c : Option (List Piece)) → join (join a b) c ≡ join a (join b c)
 join-assoc None b c = refl
@@ -60,6 +62,20 @@ pub vars_site : (s : ℕ) (ds : List S.Declarator) → spell_statement (S.vars s
 vars_site s [] = refl
 vars_site s (d ∷ []) = refl
 vars_site s (d ∷ e ∷ ds) = refl
+
+-- a sum, or an expression with another operator
+pub sum_spelled : (s : ℕ) (op : BinOp) (a b : S.Expr) → spell_value (S.binary s op a b) ≡ cond (is_add op) (join (spell_value a) (spell_added b)) None
+sum_spelled s Add a b = refl
+sum_spelled s _ a b = refl
+
+pub no_sum : (old : List Piece) (s : ℕ) (op : BinOp) (a b : S.Expr) → is_add op ≡ false → None ≡ join (Some old) (spell_value (S.binary s op a b))
+no_sum old s op a b e = sym (ap (join (Some old)) (sum_spelled s op a b ∙ ap (λ t. cond t (join (spell_value a) (spell_added b)) None) e))
+
+pub sum_goes_on : (old : List Piece) (s : ℕ) (op : BinOp) (a b : S.Expr) (mid : Option (List Piece)) → is_add op ≡ true → mid ≡ join (Some old) (spell_value a)
+    → join mid (spell_added b) ≡ join (Some old) (spell_value (S.binary s op a b))
+sum_goes_on old s op a b mid e m =
+    ap (λ t. join t (spell_added b)) m ∙ join-assoc (Some old) (spell_value a) (spell_added b)
+    ∙ sym (ap (join (Some old)) (sum_spelled s op a b ∙ ap (λ t. cond t (join (spell_value a) (spell_added b)) None) e))
 
 -- a turn of the loop over values that each follow a comma: p is what was there with the comma
 more_turn : (start : Option (List Piece)) (es : List Expr) (i : ℕ) (e : Expr) (now : List Piece) → i < length es → e ≡ get_or es i e

@@ -1,8 +1,11 @@
 -- A source of the form under new names: its text, and the statements that the text is.
+use Rattle.std.specs.Fmt.{signed_decimal}
 use Rattle.std.specs.Prelude.{ℕ, ◌+◌, List, [], ◌∷◌, ◌++◌, codes, length, unwrap_or, slice_get}
 use Rattle.cc_driver.specs.Source.{number_of}
+use Rattle.cc_driver.specs.declared.form.Operand.{Operand}
+use Rattle.cc_driver.specs.declared.form.Operand.TheVariants.{Named, Text, Whole}
+use Rattle.cc_driver.specs.declared.form.Added.{Added}
 use Rattle.cc_driver.specs.declared.form.Value.{Value}
-use Rattle.cc_driver.specs.declared.form.Value.TheVariants.{Named, Text}
 use Rattle.cc_driver.specs.declared.form.Statement.{Statement}
 use Rattle.cc_driver.specs.declared.form.Statement.TheVariants.{Declares, Calls}
 
@@ -11,9 +14,17 @@ abbrev pub new_name : (old new : List (List ℕ)) → List ℕ → List ℕ
 new_name old new name = unwrap_or (slice_get new (number_of old name)) []
 
 module _ (f : List ℕ → List ℕ) where
+  abbrev pub operand_text : Operand → List ℕ
+  operand_text (Named at n) = f n
+  operand_text (Text at t) = 34 ∷ t ++ 34 ∷ []
+  operand_text (Whole at z) = signed_decimal z
+
+  abbrev pub more_text : List Added → List ℕ
+  more_text [] = []
+  more_text (m ∷ ms) = 43 ∷ operand_text m.operand ++ more_text ms
+
   abbrev pub value_text : Value → List ℕ
-  value_text (Named at n) = f n
-  value_text (Text at t) = 34 ∷ t ++ 34 ∷ []
+  value_text v = operand_text v.first ++ more_text v.more
 
   abbrev pub values_text : List Value → List ℕ
   values_text [] = []
@@ -29,9 +40,17 @@ module _ (f : List ℕ → List ℕ) where
   statements_text [] = []
   statements_text (s ∷ ss) = statement_text s ++ statements_text ss
 
+  abbrev pub operand_again : ℕ → Operand → Operand
+  operand_again at (Named old n) = Named at (f n)
+  operand_again at (Text old t) = Text at t
+  operand_again at (Whole old z) = Whole at z
+
+  abbrev pub more_again : ℕ → List Added → List Added
+  more_again at [] = []
+  more_again at (m ∷ ms) = (record { plus = at; operand = operand_again (at + 1) m.operand }) ∷ more_again (at + 1 + length (operand_text m.operand)) ms
+
   abbrev pub value_again : ℕ → Value → Value
-  value_again at (Named old n) = Named at (f n)
-  value_again at (Text old t) = Text at t
+  value_again at v = record { first = operand_again at v.first; more = more_again (at + length (operand_text v.first)) v.more }
 
   abbrev pub values_again : ℕ → List Value → List Value
   values_again at [] = []

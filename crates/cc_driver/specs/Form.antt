@@ -1,11 +1,14 @@
 -- The form of externs and sources that is compiled so far, by cases on the text. Each part has the
 -- offset in bytes at which it begins.
-use Rattle.std.specs.Prelude.{ℕ, ◌+◌, ◌≤◌, Bool, not, nat_eq, ◌||◌, ◌&&◌, List, [], ◌∷◌, ◌++◌, codes, length, IsTrue, All, Contains}
+use Rattle.std.specs.Prelude.{ℕ, ◌+◌, ◌≤◌, ◌<◌, pos, Bool, not, nat_eq, ◌||◌, ◌&&◌, List, [], ◌∷◌, ◌++◌, codes, length, IsTrue, All, Contains}
 use Rattle.std.specs.List.{list_all, IsDistinct}
 use Rattle.std.specs.Str.{bytes_eq}
+use Rattle.std.specs.Fmt.{decimal}
 use Rattle.cc_driver.specs.Names.{between, IsName}
+use Rattle.cc_driver.specs.declared.form.Operand.{Operand}
+use Rattle.cc_driver.specs.declared.form.Operand.TheVariants.{Named, Text, Whole}
+use Rattle.cc_driver.specs.declared.form.Added.{Added}
 use Rattle.cc_driver.specs.declared.form.Value.{Value}
-use Rattle.cc_driver.specs.declared.form.Value.TheVariants.{Named, Text}
 use Rattle.cc_driver.specs.declared.form.Statement.{Statement}
 use Rattle.cc_driver.specs.declared.form.Statement.TheVariants.{Declares, Calls}
 
@@ -17,10 +20,29 @@ is_plain c = between 32 126 c && not (nat_eq c 34 || nat_eq c 39 || nat_eq c 92)
 abbrev pub most_bytes : ℕ
 most_bytes = 16777216
 
+-- 2^53: the whole numbers below it are exact
+abbrev pub whole_limit : ℕ
+whole_limit = 9007199254740992
+
+-- a tree of a greater depth isn't compiled
+abbrev pub most_more : ℕ
+most_more = 256
+
+-- a name, a text in quotes, or a decimal with no zero in front
+pub data IsOperand (at : ℕ) : List ℕ → Operand → Type 0 where
+  a_name : {n : List ℕ} → IsName n → IsOperand at n (Named at n)
+  in_single_quotes : {t : List ℕ} → IsTrue (list_all is_plain t) → IsOperand at (39 ∷ t ++ 39 ∷ []) (Text at t)
+  in_double_quotes : {t : List ℕ} → IsTrue (list_all is_plain t) → IsOperand at (34 ∷ t ++ 34 ∷ []) (Text at t)
+  a_whole : {n : ℕ} → n < whole_limit → IsOperand at (decimal n) (Whole at (pos n))
+
+-- operands that each follow a `+`
+pub data IsMore : (at : ℕ) → List ℕ → List Added → Type 0 where
+  no_more : {at : ℕ} → IsMore at [] []
+  one_more : {at : ℕ} {x y : List ℕ} {o : Operand} {ms : List Added} → IsOperand (at + 1) x o → IsMore (at + 1 + length x) y ms → IsMore at (43 ∷ x ++ y) ((record { plus = at; operand = o }) ∷ ms)
+
+-- operands with `+` between them
 pub data IsValue (at : ℕ) : List ℕ → Value → Type 0 where
-  a_name : {n : List ℕ} → IsName n → IsValue at n (Named at n)
-  in_single_quotes : {t : List ℕ} → IsTrue (list_all is_plain t) → IsValue at (39 ∷ t ++ 39 ∷ []) (Text at t)
-  in_double_quotes : {t : List ℕ} → IsTrue (list_all is_plain t) → IsValue at (34 ∷ t ++ 34 ∷ []) (Text at t)
+  a_chain : {x y : List ℕ} {o : Operand} {ms : List Added} → IsOperand at x o → IsMore (at + length x) y ms → length ms ≤ most_more → IsValue at (x ++ y) (record { first = o; more = ms })
 
 -- values with commas between them
 pub data IsValues : (at : ℕ) → List ℕ → List Value → Type 0 where
@@ -45,9 +67,17 @@ abbrev pub called_by : Statement → List (List ℕ)
 called_by (Declares at n v) = []
 called_by (Calls at n vs) = n ∷ []
 
+abbrev pub named_by_one : Operand → List (List ℕ)
+named_by_one (Named at n) = n ∷ []
+named_by_one (Text at t) = []
+named_by_one (Whole at z) = []
+
+abbrev pub named_by_more : List Added → List (List ℕ)
+named_by_more [] = []
+named_by_more (m ∷ ms) = named_by_one m.operand ++ named_by_more ms
+
 abbrev pub named_by : Value → List (List ℕ)
-named_by (Named at n) = n ∷ []
-named_by (Text at t) = []
+named_by v = named_by_one v.first ++ named_by_more v.more
 
 abbrev pub named_by_all : List Value → List (List ℕ)
 named_by_all [] = []

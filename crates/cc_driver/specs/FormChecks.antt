@@ -7,8 +7,10 @@ use Rattle.cc_driver.specs.Names.{is_in}
 use Rattle.cc_driver.specs.FormReading.{read_functions, read_statements}
 use Rattle.cc_driver.specs.declared.form.unread.Unread.{Unread}
 use Rattle.cc_driver.specs.declared.form.unread.Unread.TheVariants.{Form, Memory}
+use Rattle.cc_driver.specs.declared.form.Operand.{Operand}
+use Rattle.cc_driver.specs.declared.form.Operand.TheVariants.{Named, Text, Whole}
+use Rattle.cc_driver.specs.declared.form.Added.{Added}
 use Rattle.cc_driver.specs.declared.form.Value.{Value}
-use Rattle.cc_driver.specs.declared.form.Value.TheVariants.{Named, Text}
 use Rattle.cc_driver.specs.declared.form.Statement.{Statement}
 use Rattle.cc_driver.specs.declared.form.Statement.TheVariants.{Declares, Calls}
 
@@ -49,9 +51,13 @@ unfoldable pub all_declared : List (List ℕ) → List (List ℕ) → List State
 all_declared externs before [] = Some before
 all_declared externs before (s ∷ ss) = and_after (enter_declared externs before s) (λ names. all_declared externs names ss)
 
+abbrev pub is_known_one : List (List ℕ) → Operand → Bool
+is_known_one declared (Named at n) = is_in n declared
+is_known_one declared (Text at t) = true
+is_known_one declared (Whole at z) = true
+
 abbrev pub is_known : List (List ℕ) → Value → Bool
-is_known declared (Named at n) = is_in n declared
-is_known declared (Text at t) = true
+is_known declared v = is_known_one declared v.first && list_all (λ m. is_known_one declared m.operand) v.more
 
 abbrev pub uses_known : List (List ℕ) → List (List ℕ) → Statement → Bool
 uses_known externs declared (Declares at n v) = is_known declared v

@@ -1,14 +1,16 @@
 -- Reading the form from left to right. Each reader takes the offset and the bytes from there on, and
 -- gives what it read, the offset behind it and the bytes from there on, where there is such a reading.
-use Rattle.std.specs.Prelude.{◌≡◌, ℕ, zero, suc, ◌+◌, Bool, not, nat_eq, ◌||◌, ◌&&◌, List, [], ◌∷◌, ◌++◌, codes, length, take, drop, Option, None, Some, cond, Result, Ok, Err}
+use Rattle.std.specs.Prelude.{◌≡◌, ℕ, zero, suc, ◌+◌, ◌*◌, ◌-◌, pos, Bool, not, nat_eq, nat_le, nat_lt, ◌||◌, ◌&&◌, List, [], ◌∷◌, ◌++◌, codes, length, take, drop, Option, None, Some, cond, Result, Ok, Err}
 use Rattle.std.specs.List.{prefix_len}
 use Rattle.std.specs.Str.{bytes_eq}
-use Rattle.cc_driver.specs.Names.{is_name_part, starts_name, is_in, reserved_words, built_in_names, special_names}
-use Rattle.cc_driver.specs.Form.{is_plain}
+use Rattle.cc_driver.specs.Names.{between, is_name_part, starts_name, is_in, reserved_words, built_in_names, special_names}
+use Rattle.cc_driver.specs.Form.{is_plain, whole_limit, most_more}
 use Rattle.cc_driver.specs.declared.form.unread.Unread.{Unread}
 use Rattle.cc_driver.specs.declared.form.unread.Unread.TheVariants.{Form, Memory}
+use Rattle.cc_driver.specs.declared.form.Operand.{Operand}
+use Rattle.cc_driver.specs.declared.form.Operand.TheVariants.{Named, Text, Whole}
+use Rattle.cc_driver.specs.declared.form.Added.{Added}
 use Rattle.cc_driver.specs.declared.form.Value.{Value}
-use Rattle.cc_driver.specs.declared.form.Value.TheVariants.{Named, Text}
 use Rattle.cc_driver.specs.declared.form.Statement.{Statement}
 use Rattle.cc_driver.specs.declared.form.Statement.TheVariants.{Declares, Calls}
 
@@ -42,17 +44,53 @@ named at xs n = cond (is_free_name (take n xs)) (Some (take n xs, at + n, drop n
 unfoldable pub read_name : ℕ → List ℕ → Reading (List ℕ)
 read_name at xs = named at xs (prefix_len is_name_part xs)
 
-abbrev pub texted : ℕ → ℕ → List ℕ → ℕ → Reading Value
+abbrev pub texted : ℕ → ℕ → List ℕ → ℕ → Reading Operand
 texted quote at xs n = and_then (expect quote (at + 1 + n) (drop n xs)) (λ u end rest. Some (Text at (take n xs), end, rest))
 
 -- a text behind its opening quote, which stands at the offset
-unfoldable pub read_text : ℕ → ℕ → List ℕ → Reading Value
+unfoldable pub read_text : ℕ → ℕ → List ℕ → Reading Operand
 read_text quote at xs = texted quote at xs (prefix_len is_plain xs)
+
+abbrev pub is_digit : ℕ → Bool
+is_digit = between 48 57
+
+-- the number that digits write behind those that wrote n
+abbrev pub number_behind : ℕ → List ℕ → ℕ
+number_behind n [] = n
+number_behind n (c ∷ cs) = number_behind (n * 10 + (c - 48)) cs
+
+abbrev pub most_digits : ℕ
+most_digits = 16
+
+-- one digit, or digits of which the first is not 0
+abbrev pub leads_well : List ℕ → Bool
+leads_well ds = nat_lt 48 (look ds) || nat_eq (length ds) 1
+
+-- digits that write a number of the form
+abbrev pub is_free_number : List ℕ → Bool
+is_free_number ds = leads_well ds && (nat_le (length ds) most_digits && nat_lt (number_behind 0 ds) whole_limit)
+
+abbrev pub numbered : ℕ → List ℕ → ℕ → Reading Operand
+numbered at xs n = cond (is_free_number (take n xs)) (Some (Whole at (pos (number_behind 0 (take n xs))), at + n, drop n xs)) None
+
+unfoldable pub read_number : ℕ → List ℕ → Reading Operand
+read_number at xs = numbered at xs (prefix_len is_digit xs)
+
+unfoldable pub read_operand : ℕ → List ℕ → Reading Operand
+read_operand at xs =
+    cond (nat_eq (look xs) 39 || nat_eq (look xs) 34) (read_text (look xs) at (drop 1 xs))
+    (cond (is_digit (look xs)) (read_number at xs)
+    (and_then (read_name at xs) (λ n end rest. Some (Named at n, end, rest))))
+
+-- the operands from here on that each follow a `+`, as many as are asked for at most, after those that were found before
+unfoldable pub read_more : ℕ → List Added → ℕ → List ℕ → Reading (List Added)
+read_more zero found at xs = Some (found, at, xs)
+read_more (suc n) found at xs =
+    cond (nat_eq (look xs) 43) (and_then (read_operand (at + 1) (drop 1 xs)) (λ o a ys. read_more n (found ++ (record { plus = at; operand = o }) ∷ []) a ys)) (Some (found, at, xs))
 
 unfoldable pub read_value : ℕ → List ℕ → Reading Value
 read_value at xs =
-    cond (nat_eq (look xs) 39 || nat_eq (look xs) 34) (read_text (look xs) at (drop 1 xs))
-    (and_then (read_name at xs) (λ n end rest. Some (Named at n, end, rest)))
+    and_then (read_operand at xs) (λ o a ys. and_then (read_more most_more [] a ys) (λ ms b zs. Some (record { first = o; more = ms }, b, zs)))
 
 -- the values from here on, with the parenthesis behind them, after those that were found before
 unfoldable pub read_values : ℕ → List Value → ℕ → List ℕ → Reading (List Value)

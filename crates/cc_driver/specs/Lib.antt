@@ -4,6 +4,7 @@ pub mod FormReading
 pub mod FormChecks
 pub mod Source
 pub mod Reach
+pub mod Sound
 pub mod Spelling
 pub mod Shapes
 pub mod Naming

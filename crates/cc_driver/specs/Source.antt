@@ -11,10 +11,13 @@ use Rattle.cc_ast.specs.declared.tree.Ref.TheVariants.{Global}
 use Rattle.cc_ast.specs.Bridge.{exprs}
 use Rattle.cc_ast.specs.StmtBridge.{stmts}
 use Rattle.cc_ast.specs.Syntax as S
+use Rattle.cc_ast.specs.declared.operator.BinOp.TheVariants.{Add}
 use Rattle.cc_meaning.specs.Names.{always_kept}
 use Rattle.cc_driver.specs.Names.{built_in_names}
+use Rattle.cc_driver.specs.declared.form.Operand.{Operand}
+use Rattle.cc_driver.specs.declared.form.Operand.TheVariants.{Named, Text, Whole}
+use Rattle.cc_driver.specs.declared.form.Added.{Added}
 use Rattle.cc_driver.specs.declared.form.Value.{Value}
-use Rattle.cc_driver.specs.declared.form.Value.TheVariants.{Named, Text}
 use Rattle.cc_driver.specs.declared.form.Statement.{Statement}
 use Rattle.cc_driver.specs.declared.form.Statement.TheVariants.{Declares, Calls}
 use Rattle.cc_driver.specs.Form.{declared}
@@ -23,9 +26,18 @@ use Rattle.cc_driver.specs.Form.{declared}
 abbrev pub number_of : List (List ℕ) → List ℕ → ℕ
 number_of names name = position_or_len (bytes_eq name) names
 
+abbrev pub operand_tree : List (List ℕ) → Operand → S.Expr
+operand_tree names (Named at n) = S.var at (Global (number_of names n))
+operand_tree names (Text at t) = S.lit at (S.text t)
+operand_tree names (Whole at z) = S.lit at (S.whole z)
+
+-- a sum of what stands before and of each operand that follows, from left to right (ECMA-262 5.1, 11.6)
+abbrev pub chain_tree : List (List ℕ) → S.Expr → List Added → S.Expr
+chain_tree names e [] = e
+chain_tree names e (m ∷ ms) = chain_tree names (S.binary m.plus Add e (operand_tree names m.operand)) ms
+
 abbrev pub value_tree : List (List ℕ) → Value → S.Expr
-value_tree names (Named at n) = S.var at (Global (number_of names n))
-value_tree names (Text at t) = S.lit at (S.text t)
+value_tree names v = chain_tree names (operand_tree names v.first) v.more
 
 abbrev pub statement_tree : List (List ℕ) → Statement → S.Stmt
 statement_tree names (Declares at n v) =

@@ -1,13 +1,15 @@
 -- The one text of a program, as pieces: bytes that stand for themselves, and globals, which a
 -- naming turns into names. A program with a node outside the form has none.
-use Rattle.std.specs.Prelude.{ℕ, List, [], ◌∷◌, ◌++◌, codes, Option, None, Some, cond, unwrap_or, slice_get}
+use Rattle.std.specs.Prelude.{ℕ, pos, nat_lt, List, [], ◌∷◌, ◌++◌, codes, Option, None, Some, cond, unwrap_or, slice_get}
 use Rattle.std.specs.List.{list_all, flat_map}
+use Rattle.std.specs.Fmt.{decimal}
 use Rattle.cc_ast.specs.declared.tree.Ref.{Ref}
 use Rattle.cc_ast.specs.declared.tree.Ref.TheVariants.{Frame, Global}
 use Rattle.cc_ast.specs.Syntax as S
+use Rattle.cc_ast.specs.declared.operator.BinOp.TheVariants.{Add}
 use Rattle.cc_driver.specs.declared.spelling.Piece.{Piece}
 use Rattle.cc_driver.specs.declared.spelling.Piece.TheVariants as piece
-use Rattle.cc_driver.specs.Form.{is_plain}
+use Rattle.cc_driver.specs.Form.{is_plain, whole_limit}
 
 -- pieces one after the other, where both are there
 abbrev pub join : Option (List Piece) → Option (List Piece) → Option (List Piece)
@@ -19,10 +21,16 @@ abbrev pub one : List ℕ → Option (List Piece)
 one text = Some (piece.Bytes text ∷ [])
 
 -- a text takes double quotes, since the form has no quotes in texts
+abbrev pub spell_operand : S.Expr → Option (List Piece)
+spell_operand (S.var s (Global g)) = Some (piece.Global g ∷ [])
+spell_operand (S.lit s (S.text t)) = cond (list_all is_plain t) (Some (piece.Bytes (34 ∷ t ++ 34 ∷ []) ∷ [])) None
+spell_operand (S.lit s (S.whole (pos n))) = cond (nat_lt n whole_limit) (Some (piece.Bytes (decimal n) ∷ [])) None
+spell_operand _ = None
+
+-- a sum without parentheses leans to the left
 abbrev pub spell_value : S.Expr → Option (List Piece)
-spell_value (S.var s (Global g)) = Some (piece.Global g ∷ [])
-spell_value (S.lit s (S.text t)) = cond (list_all is_plain t) (Some (piece.Bytes (34 ∷ t ++ 34 ∷ []) ∷ [])) None
-spell_value _ = None
+spell_value (S.binary s Add a b) = join (spell_value a) (join (one (codes "+")) (spell_operand b))
+spell_value e = spell_operand e
 
 abbrev pub spell_values : S.Exprs → Option (List Piece)
 spell_values S.no_exprs = Some []

@@ -13,11 +13,27 @@ use cc_ast::units::Units;
 pub use read::{read_externs, read_source};
 use sqlite_items::Items;
 
-/// A value: the offset in bytes at which it begins, and its name, or its text.
+/// What a chain is made of: the offset in bytes at which it begins, and a name, a text, or a whole
+/// number from 0 to 2^53-1.
 #[derive(Debug, Drop)]
-pub enum Value {
+pub enum Operand {
     Named(u32, Units),
     Text(u32, Units),
+    Whole(u32, i64),
+}
+
+/// An operand behind a `+`, which stands at this offset.
+#[derive(Debug, Drop)]
+pub struct Added {
+    pub plus: u32,
+    pub operand: Operand,
+}
+
+/// A value: operands with `+` between them, at most 257.
+#[derive(Debug, Drop)]
+pub struct Value {
+    pub first: Operand,
+    pub more: Items<Added>,
 }
 
 /// A statement: the offset in bytes at which it begins, the name that it declares with its value,

@@ -2,6 +2,7 @@
 
 ghost use Rattle.std.specs.Prelude.{◌≡◌, ℕ, ◌+◌, ◌<◌, ◌≤◌, ◌^◌, ◌++◌, ◌∷◌, [], List, length, map, IfOk, All, None, false};
 ghost use Rattle.cc_ast.specs.Bridge.{term};
+ghost use Rattle.cc_ast.specs.Syntax as S;
 ghost use Rattle.cc_ast.specs.StmtBridge.{term_stmt, term_stmts};
 ghost use Rattle.cc_driver.specs.Form.{IsExterns, IsSource};
 ghost use Rattle.cc_driver.specs.FormChecks.{names_in};
@@ -13,10 +14,11 @@ ghost use Rattle.std.specs.Str.{bytes_eq};
 mod globals;
 mod kept;
 
-use crate::form::{Statement, Value};
+use crate::form::{Operand, Statement, Value};
 use crate::names::{NameTable, name_number};
 use crate::resolve::globals::{global_table, globals_of};
 use crate::resolve::kept::kept_names;
+use cc_ast::operator::BinOp;
 use cc_ast::place::Place;
 use cc_ast::program::{Program, Scope};
 use cc_ast::tables::{ChunkInfo, ChunkName, GlobalInfo, SiteDoc};
@@ -41,14 +43,40 @@ fn global_ref(table: &NameTable<'_>, name: &Units) -> Ref
 }
 
 #[tactic(auto, using(cc_ast::specs::Terms::steps))]
+fn operand_tree(
+    alloc: Global,
+    table: &NameTable<'_>,
+    operand: &Operand,
+) -> Result<Expr, AllocError>
+    requires { length (names_in table.now) < 2 ^ 32 }
+    ensures { IfOk result (λ tree. term tree ≡ source.operand_tree (names_in table.now) operand.now) }
+{
+    match operand {
+        Operand::Named(at, name) => Ok(Expr::Var(*at, global_ref(table, name))),
+        Operand::Text(at, text) => Ok(Expr::Text(*at, copy_units(alloc, text)?)),
+        Operand::Whole(at, number) => Ok(Expr::Whole(*at, *number)),
+    }
+}
+
+#[tactic(auto, using(cc_ast::specs::Terms::steps))]
+fn sum(alloc: Global, plus: u32, left: Expr, right: Expr) -> Result<Expr, AllocError>
+    ensures { IfOk result (λ tree. term tree ≡ S.binary plus BinOp.Add (term left) (term right)) }
+{
+    let left = Boxed::new(alloc, left)?;
+    let right = Boxed::new(alloc, right)?;
+    Ok(Expr::Binary(plus, BinOp::Add, left, right))
+}
+
 fn value_tree(alloc: Global, table: &NameTable<'_>, value: &Value) -> Result<Expr, AllocError>
     requires { length (names_in table.now) < 2 ^ 32 }
     ensures { IfOk result (λ tree. term tree ≡ source.value_tree (names_in table.now) value.now) }
 {
-    match value {
-        Value::Named(at, name) => Ok(Expr::Var(*at, global_ref(table, name))),
-        Value::Text(at, text) => Ok(Expr::Text(*at, copy_units(alloc, text)?)),
+    let mut tree = operand_tree(alloc, table, &value.first)?;
+    for added in value.more.as_slice() {
+        let right = operand_tree(alloc, table, &added.operand)?;
+        tree = sum(alloc, added.plus, tree, right)?;
     }
+    Ok(tree)
 }
 
 fn value_trees(

@@ -1,18 +1,22 @@
 -- The trees of what is read again are alike to those of the source.
 use Rattle.std.proofs.Common.{◌≡◌, ℕ, zero, suc, ◌+◌, ◌<◌, List, [], ◌∷◌, length, map, refl, sym, ◌∙◌, subst, ◌⊎◌, inl, inr, arith}
 use Rattle.cc_ast.specs.declared.tree.Ref.TheVariants as ref
+use Rattle.cc_ast.specs.Syntax as S
 use Rattle.cc_ast.specs.Bridge.{exprs}
 use Rattle.cc_ast.specs.StmtBridge.{stmts}
+use Rattle.cc_ast.specs.declared.operator.BinOp.TheVariants.{Add}
 use Rattle.cc_meaning.specs.State.{Tables}
 use Rattle.cc_meaning.specs.Alike.{In, here, there, ListT, nil_t, cons_t, OptT, some_t, none_t, Paired, OneToOne, Numbering, RefA, ExprA, ExprsA, StmtA, StmtsA, DeclA}
 use Rattle.cc_meaning.specs.Alike as alike
-use Rattle.cc_driver.specs.Source.{number_of, value_tree, statement_tree}
+use Rattle.cc_driver.specs.Source.{number_of, operand_tree, chain_tree, value_tree, statement_tree}
+use Rattle.cc_driver.specs.declared.form.Operand.{Operand}
+use Rattle.cc_driver.specs.declared.form.Operand.TheVariants.{Named, Text, Whole}
+use Rattle.cc_driver.specs.declared.form.Added.{Added}
 use Rattle.cc_driver.specs.declared.form.Value.{Value}
-use Rattle.cc_driver.specs.declared.form.Value.TheVariants.{Named, Text}
 use Rattle.cc_driver.specs.declared.form.Statement.{Statement}
 use Rattle.cc_driver.specs.declared.form.Statement.TheVariants.{Declares, Calls}
-use Rattle.cc_driver.specs.Again.{value_text, statement_text, value_again, values_again, statement_again, statements_again}
-use Rattle.cc_driver.proofs.Promise.Fit.{ValueFit, ValuesFit, StatementFit, StatementsFit}
+use Rattle.cc_driver.specs.Again.{operand_text, value_text, statement_text, operand_again, more_again, value_again, values_again, statement_again, statements_again}
+use Rattle.cc_driver.specs.Sound.{OperandFit, MoreFit, ValueFit, ValuesFit, StatementFit, StatementsFit}
 
 -- each number below n, paired with itself
 abbrev pub pairs : ℕ → List (ℕ × ℕ)
@@ -56,9 +60,21 @@ module _ (A B : Tables) (old new : List (List ℕ)) (f : List ℕ → List ℕ) 
   ref_again x h =
       subst (λ k. RefA A B (by_number (length old)) [] (ref.Global (number_of old x)) (ref.Global k)) (sym (same x h)) (alike.global_a (paired_within (length old) (number_of old x) (within x h)))
 
+  operand_alike : (at : ℕ) (o : Operand) → OperandFit C Q o → ExprA A B (by_number (length old)) [] (operand_tree old o) (operand_tree new (operand_again f at o))
+  operand_alike at (Named s n) h = alike.var_a (ref_again n (q n h))
+  operand_alike at (Text s t) h = alike.lit_a
+  operand_alike at (Whole s z) h = alike.lit_a
+
+  chain_alike : (at : ℕ) (d e : S.Expr) (ms : List Added) → ExprA A B (by_number (length old)) [] d e → MoreFit C Q ms
+      → ExprA A B (by_number (length old)) [] (chain_tree old d ms) (chain_tree new e (more_again f at ms))
+  chain_alike at d e [] k h = k
+  chain_alike at d e (m ∷ ms) k h =
+      chain_alike (at + 1 + length (operand_text f m.operand)) (S.binary m.plus Add d (operand_tree old m.operand)) (S.binary at Add e (operand_tree new (operand_again f (at + 1) m.operand))) ms
+      (alike.binary_a k (operand_alike (at + 1) m.operand h.0)) h.1
+
   value_alike : (at : ℕ) (v : Value) → ValueFit C Q v → ExprA A B (by_number (length old)) [] (value_tree old v) (value_tree new (value_again f at v))
-  value_alike at (Named s n) h = alike.var_a (ref_again n (q n h))
-  value_alike at (Text s t) h = alike.lit_a
+  value_alike at v h =
+      chain_alike (at + length (operand_text f v.first)) (operand_tree old v.first) (operand_tree new (operand_again f at v.first)) v.more (operand_alike at v.first h.0) h.1.0
 
   values_alike : (at : ℕ) (vs : List Value) → ValuesFit C Q vs → ExprsA A B (by_number (length old)) [] (exprs (map (value_tree old) vs)) (exprs (map (value_tree new) (values_again f at vs)))
   unfolding exprs

@@ -1,20 +1,37 @@
 -- The text of statements under new names is of the form again.
-use Rattle.std.proofs.Common.{◌≡◌, ℕ, ◌+◌, List, [], ◌∷◌, ◌++◌, length, map, refl, sym, ap₂, ◌∙◌}
+use Rattle.std.proofs.Common.{◌≡◌, ℕ, suc, ◌+◌, ◌≤◌, List, [], ◌∷◌, ◌++◌, length, map, refl, sym, ap, ap₂, subst, ◌∙◌}
 use Rattle.std.proofs.lemmas.List.{map-append}
 use Rattle.cc_driver.specs.Names.{IsName}
 use Rattle.cc_driver.specs.Form as form
-use Rattle.cc_driver.specs.Form.{IsValue, IsValues, IsStatement, IsStatements, IsReading, declared, called, used, declared_by, called_by, used_by, named_by, named_by_all}
+use Rattle.cc_driver.specs.Form.{most_more, IsOperand, IsMore, IsValue, IsValues, IsStatement, IsStatements, IsReading, declared, called, used, declared_by, called_by, used_by, named_by_one, named_by_more, named_by, named_by_all}
+use Rattle.cc_driver.specs.declared.form.Operand.{Operand}
+use Rattle.cc_driver.specs.declared.form.Operand.TheVariants.{Named, Text, Whole}
+use Rattle.cc_driver.specs.declared.form.Added.{Added}
 use Rattle.cc_driver.specs.declared.form.Value.{Value}
-use Rattle.cc_driver.specs.declared.form.Value.TheVariants.{Named, Text}
 use Rattle.cc_driver.specs.declared.form.Statement.{Statement}
 use Rattle.cc_driver.specs.declared.form.Statement.TheVariants.{Declares, Calls}
-use Rattle.cc_driver.specs.Again.{value_text, values_text, statement_text, statements_text, value_again, values_again, statement_again, statements_again}
-use Rattle.cc_driver.proofs.Promise.Fit.{ValueFit, ValuesFit, StatementFit, StatementsFit}
+use Rattle.cc_driver.specs.Again.{operand_text, more_text, value_text, values_text, statement_text, statements_text, operand_again, more_again, value_again, values_again, statement_again, statements_again}
+use Rattle.cc_driver.specs.Sound as sound
+use Rattle.cc_driver.specs.Sound.{OperandFit, MoreFit, ValueFit, ValuesFit, StatementFit, StatementsFit}
+
+more_length : (f : List ℕ → List ℕ) (at : ℕ) (ms : List Added) → length (more_again f at ms) ≡ length ms
+more_length f at [] = refl
+more_length f at (m ∷ ms) = ap suc (more_length f (at + 1 + length (operand_text f m.operand)) ms)
 
 module _ (f : List ℕ → List ℕ) (C Q : List ℕ → Type 0) (c : (n : List ℕ) → C n → IsName (f n)) (q : (n : List ℕ) → Q n → IsName (f n)) where
+  operand_reads : (at : ℕ) (o : Operand) → OperandFit C Q o → IsOperand at (operand_text f o) (operand_again f at o)
+  operand_reads at (Named old n) h = form.a_name (q n h)
+  operand_reads at (Text old t) h = form.in_double_quotes h
+  operand_reads at (Whole old _) (sound.small l) = form.a_whole l
+
+  more_reads : (at : ℕ) (ms : List Added) → MoreFit C Q ms → IsMore at (more_text f ms) (more_again f at ms)
+  more_reads at [] h = form.no_more
+  more_reads at (m ∷ ms) h = form.one_more (operand_reads (at + 1) m.operand h.0) (more_reads (at + 1 + length (operand_text f m.operand)) ms h.1)
+
   value_reads : (at : ℕ) (v : Value) → ValueFit C Q v → IsValue at (value_text f v) (value_again f at v)
-  value_reads at (Named old n) h = form.a_name (q n h)
-  value_reads at (Text old t) h = form.in_double_quotes h
+  value_reads at v h =
+      let behind = at + length (operand_text f v.first) in
+      form.a_chain (operand_reads at v.first h.0) (more_reads behind v.more h.1.0) (subst (λ n. n ≤ most_more) (sym (more_length f behind v.more)) h.1.1)
 
   values_read : (at : ℕ) (vs : List Value) → ValuesFit C Q vs → IsValues at (values_text f vs) (values_again f at vs)
   values_read at [] h = form.no_values
@@ -32,9 +49,19 @@ module _ (f : List ℕ → List ℕ) (C Q : List ℕ → Type 0) (c : (n : List 
 -- ---- the names of what is read
 
 module _ (f : List ℕ → List ℕ) where
+  operand_names : (at : ℕ) (o : Operand) → named_by_one (operand_again f at o) ≡ map f (named_by_one o)
+  operand_names at (Named old n) = refl
+  operand_names at (Text old t) = refl
+  operand_names at (Whole old z) = refl
+
+  more_names : (at : ℕ) (ms : List Added) → named_by_more (more_again f at ms) ≡ map f (named_by_more ms)
+  more_names at [] = refl
+  more_names at (m ∷ ms) =
+      ap₂ (λ x y. x ++ y) (operand_names (at + 1) m.operand) (more_names (at + 1 + length (operand_text f m.operand)) ms) ∙ sym (map-append f (named_by_one m.operand) (named_by_more ms))
+
   value_names : (at : ℕ) (v : Value) → named_by (value_again f at v) ≡ map f (named_by v)
-  value_names at (Named old n) = refl
-  value_names at (Text old t) = refl
+  value_names at v =
+      ap₂ (λ x y. x ++ y) (operand_names at v.first) (more_names (at + length (operand_text f v.first)) v.more) ∙ sym (map-append f (named_by_one v.first) (named_by_more v.more))
 
   values_names : (at : ℕ) (vs : List Value) → named_by_all (values_again f at vs) ≡ map f (named_by_all vs)
   values_names at [] = refl

@@ -1,24 +1,29 @@
 -- The parts of a source's trees, one by one.
-use Rattle.std.proofs.Common.{◌≡◌, ℕ, ◌+◌, ◌<◌, true, ◌||◌, List, [], ◌∷◌, ◌++◌, length, map, refl, ap, ◌⊎◌, inl, inr, arith}
+use Rattle.std.proofs.Common.{◌≡◌, ℕ, ◌+◌, ◌<◌, true, nat_le, le-leb, ◌||◌, List, [], ◌∷◌, ◌++◌, length, map, refl, ap, ◌⊎◌, inl, inr, arith}
 use Rattle.std.proofs.lemmas.Bool.{and_from}
 use Rattle.cc_ast.specs.declared.tree.Ref.TheVariants as ref
+use Rattle.cc_ast.specs.Syntax as S
+use Rattle.cc_ast.specs.declared.operator.BinOp.TheVariants.{Add}
 use Rattle.cc_ast.specs.Bridge.{exprs}
 use Rattle.cc_ast.specs.StmtBridge.{stmts}
 use Rattle.cc_meaning.specs.State.{Tables}
+use Rattle.cc_meaning.specs.Operators.{greatest_whole}
 use Rattle.cc_meaning.specs.Alike.{In, here, there}
 use Rattle.cc_meaning.specs.Store.{global_kind, extern, of_chunk}
 use Rattle.cc_meaning.specs.Parts as Pa
 use Rattle.cc_meaning.specs.Parts.{Part, has_site, mentions, declares, makes, expr_parts, exprs_parts, option_parts, vars_parts, stmt_parts, stmts_parts, expr_well, exprs_well, may_read, is_no_built, built_callee, is_string, exact_prim}
 use Rattle.cc_meaning.specs.WellMade.{Open, option_well, vars_well, some_vars, stmt_well, stmts_well, functions_in}
-use Rattle.cc_driver.specs.Form.{declared, declared_by}
-use Rattle.cc_driver.specs.Source.{number_of, value_tree, statement_tree}
+use Rattle.cc_driver.specs.Form.{whole_limit, declared, declared_by}
+use Rattle.cc_driver.specs.Source.{number_of, operand_tree, chain_tree, value_tree, statement_tree}
+use Rattle.cc_driver.specs.declared.form.Operand.{Operand}
+use Rattle.cc_driver.specs.declared.form.Operand.TheVariants.{Named, Text, Whole}
+use Rattle.cc_driver.specs.declared.form.Added.{Added}
 use Rattle.cc_driver.specs.declared.form.Value.{Value}
-use Rattle.cc_driver.specs.declared.form.Value.TheVariants.{Named, Text}
 use Rattle.cc_driver.specs.declared.form.Statement.{Statement}
 use Rattle.cc_driver.specs.declared.form.Statement.TheVariants.{Declares, Calls}
 use Rattle.cc_driver.proofs.Promise.Lists.{in_left, in_right, in_either}
-use Rattle.cc_driver.proofs.Promise.Fit.{ValueFit, ValuesFit, StatementFit, StatementsFit}
-use Rattle.cc_driver.proofs.Promise.SourceSites.{ValueSites, ValuesSites, StatementSites, StatementsSites}
+use Rattle.cc_driver.specs.Sound as sound
+use Rattle.cc_driver.specs.Sound.{OperandFit, MoreFit, ValueFit, ValuesFit, StatementFit, StatementsFit, OperandSites, MoreSites, ValueSites, ValuesSites, StatementSites, StatementsSites}
 
 -- each part of a list is so
 abbrev pub Each : (Part → Type 0) → List Part → Type 0
@@ -43,10 +48,23 @@ module _ (T : Tables) (old : List (List ℕ)) (C Q : List ℕ → Type 0) (bound
     (calls : (n : List ℕ) → C n → R (mentions 0 (ref.Global (number_of old n))))
     (uses : (n : List ℕ) → Q n → R (mentions 0 (ref.Global (number_of old n))))
     (sets : (n : List ℕ) → Q n → R (declares 0 (ref.Global (number_of old n)))) where
-  value_each : (v : Value) → ValueFit C Q v → ValueSites bound v → Each R (expr_parts T 0 (value_tree old v))
+  operand_each : (o : Operand) → OperandFit C Q o → OperandSites bound o → Each R (expr_parts T 0 (operand_tree old o))
   unfolding expr_parts
-  value_each (Named at n) h l = each_more R (has_site at) (mentions 0 (ref.Global (number_of old n)) ∷ []) (site at l) (each_more R (mentions 0 (ref.Global (number_of old n))) [] (uses n h) (each_none R))
-  value_each (Text at t) h l = each_more R (has_site at) [] (site at l) (each_none R)
+  operand_each (Named at n) h l = each_more R (has_site at) (mentions 0 (ref.Global (number_of old n)) ∷ []) (site at l) (each_more R (mentions 0 (ref.Global (number_of old n))) [] (uses n h) (each_none R))
+  operand_each (Text at t) h l = each_more R (has_site at) [] (site at l) (each_none R)
+  operand_each (Whole at z) h l = each_more R (has_site at) [] (site at l) (each_none R)
+
+  sum_each : (i : ℕ) (a b : S.Expr) → i < bound → Each R (expr_parts T 0 a) → Each R (expr_parts T 0 b) → Each R (expr_parts T 0 (S.binary i Add a b))
+  unfolding expr_parts
+  sum_each i a b l h k = each_more R (has_site i) (expr_parts T 0 a ++ expr_parts T 0 b) (site i l) (each_both R (expr_parts T 0 a) (expr_parts T 0 b) h k)
+
+  chain_each : (e : S.Expr) (ms : List Added) → Each R (expr_parts T 0 e) → MoreFit C Q ms → MoreSites bound ms → Each R (expr_parts T 0 (chain_tree old e ms))
+  chain_each e [] k h l = k
+  chain_each e (m ∷ ms) k h l =
+      chain_each (S.binary m.plus Add e (operand_tree old m.operand)) ms (sum_each m.plus e (operand_tree old m.operand) l.0 k (operand_each m.operand h.0 l.1.0)) h.1 l.1.1
+
+  value_each : (v : Value) → ValueFit C Q v → ValueSites bound v → Each R (expr_parts T 0 (value_tree old v))
+  value_each v h l = chain_each (operand_tree old v.first) v.more (operand_each v.first h.0 l.0) h.1.0 l.1
 
   values_each : (vs : List Value) → ValuesFit C Q vs → ValuesSites bound vs → Each R (exprs_parts T 0 (exprs (map (value_tree old) vs)))
   unfolding exprs_parts exprs
@@ -113,10 +131,23 @@ no_functions (Pa.sets_method w p f ∷ xs) h = no_functions xs (λ x k. h x (the
 -- the statements are of the language
 module _ (T : Tables) (old : List (List ℕ)) (o : Open) (C Q : List ℕ → Type 0)
     (outer : (n : List ℕ) → C n → global_kind T (number_of old n) ≡ extern) (own : (n : List ℕ) → Q n → global_kind T (number_of old n) ≡ of_chunk 0) where
-  value_well : (v : Value) → ValueFit C Q v → expr_well T (value_tree old v) ≡ true
+  operand_well : (o : Operand) → OperandFit C Q o → expr_well T (operand_tree old o) ≡ true
   unfolding expr_well may_read is_no_built exact_prim
-  value_well (Named at n) h = ap is_no_built (own n h)
-  value_well (Text at t) h = refl
+  operand_well (Named at n) h = ap is_no_built (own n h)
+  operand_well (Text at t) h = refl
+  operand_well (Whole at _) (sound.small {n} l) = exact n l
+    where
+      exact : (k : ℕ) → k < whole_limit → nat_le k greatest_whole ≡ true
+      exact k m = le-leb k greatest_whole (omega arith)
+
+  chain_well : (e : S.Expr) (ms : List Added) → expr_well T e ≡ true → MoreFit C Q ms → expr_well T (chain_tree old e ms) ≡ true
+  unfolding expr_well
+  chain_well e [] k h = k
+  chain_well e (m ∷ ms) k h =
+      chain_well (S.binary m.plus Add e (operand_tree old m.operand)) ms (and_from (expr_well T e) (expr_well T (operand_tree old m.operand)) k (operand_well m.operand h.0)) h.1
+
+  value_well : (v : Value) → ValueFit C Q v → expr_well T (value_tree old v) ≡ true
+  value_well v h = chain_well (operand_tree old v.first) v.more (operand_well v.first h.0) h.1.0
 
   values_well : (vs : List Value) → ValuesFit C Q vs → exprs_well T (exprs (map (value_tree old) vs)) ≡ true
   unfolding exprs_well exprs

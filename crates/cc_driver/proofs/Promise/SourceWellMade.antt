@@ -19,11 +19,12 @@ use Rattle.cc_driver.specs.Names.{built_in_names, IsName}
 use Rattle.cc_driver.specs.Form.{IsExterns, IsSource, declared}
 use Rattle.cc_driver.specs.Source.{number_of, statement_tree, program_of, global_names, global_of_no_chunk, global_of_main, main_scope, places_from}
 use Rattle.cc_driver.specs.declared.form.Statement.{Statement}
-use Rattle.cc_driver.proofs.SourceLaws.{functions_named, statements_named, globals_distinct}
-use Rattle.cc_driver.proofs.Resolved.{globals_few}
+use Rattle.cc_driver.proofs.SourceLaws.{functions_named, sound_distinct}
+use Rattle.cc_driver.proofs.Resolved.{declared_few}
 use Rattle.cc_driver.proofs.Promise.Lists.{Distinct, distinct_places, all_at}
-use Rattle.cc_driver.proofs.Promise.Fit.{StatementsFit, reading_fits}
-use Rattle.cc_driver.proofs.Promise.SourceSites.{StatementsSites, statements_sites}
+use Rattle.cc_driver.specs.Sound.{StatementsFit, StatementsSites, AreSound, AreWithin}
+use Rattle.cc_driver.proofs.Promise.Fit.{sound_source, sound_fits, declared_named}
+use Rattle.cc_driver.proofs.Promise.SourceSites.{source_within}
 use Rattle.cc_driver.proofs.Promise.SourceKinds.{without_is, outer_count, extern_at, extern_kind, own_kind}
 use Rattle.cc_driver.proofs.Promise.SourceParts.{Each, MakesNone, statements_each, declares_in, no_functions, statements_well}
 use Rattle.cc_driver.proofs.Promise.SourceTables.{in_from_test, same_built_ins, no_built_in, not_refused, taken_names, inner_chunk, outer_name, no_paths, Shape, of_outer, of_own, shape_of}
@@ -38,27 +39,27 @@ places_count : (at n : ℕ) → length (places_from at n) ≡ n
 places_count at zero = refl
 places_count at (suc n) = ap suc (places_count (at + 1) n)
 
-module _ (file : List ℕ) (externs : List (List ℕ)) (source : List ℕ) (ss : List Statement) (ex : IsExterns file externs) (so : IsSource externs source ss) where
+module _ (file : List ℕ) (externs : List (List ℕ)) (size : ℕ) (ss : List Statement) (ex : IsExterns file externs) (so : AreSound externs ss) (within : AreWithin size ss) where
   abbrev P : S.Program
-  P = program_of externs (length source) ss
+  P = program_of externs size ss
 
   abbrev G : List (List ℕ)
   G = global_names externs ss
 
   distinct : Distinct G
-  distinct = globals_distinct file externs source ss ex so
+  distinct = sound_distinct file externs ss ex so
 
   fits : StatementsFit (λ x. In x externs) (λ x. In x (declared ss)) ss
-  fits = reading_fits externs source ss so.reading
+  fits = sound_fits externs ss so
 
-  sites : StatementsSites (length source) ss
-  sites = statements_sites (length source) 0 source ss so.reading.form (omega arith)
+  sites : StatementsSites size ss
+  sites = within.reach
 
   extern_named : (x : List ℕ) → In x externs → IsName x
   extern_named x h = all_at IsName h (functions_named file externs ex.form)
 
   own_named : (x : List ℕ) → In x (declared ss) → IsName x
-  own_named x h = all_at IsName h (statements_named 0 source ss so.reading.form)
+  own_named x h = all_at IsName h (declared_named ss so.writable)
 
   -- ---- the statements
 
@@ -67,31 +68,31 @@ module _ (file : List ℕ) (externs : List (List ℕ)) (source : List ℕ) (ss :
   declared_here x h = record { here = (0, declares_in (tables_of P) G ss x h); least = λ d k l. absurd (omega arith) }
 
   own_sound : (c : ℕ) (x : List ℕ) → In x (declared ss) → IsSound P 0 c (ref.Global (number_of G x))
-  own_sound c x h = sound_global (number_of G x) 0 (own_kind externs (length source) ss distinct x h) (declared_here x h)
+  own_sound c x h = sound_global (number_of G x) 0 (own_kind externs size ss distinct x h) (declared_here x h)
 
   extern_sound : (c : ℕ) (x : List ℕ) → In x externs → IsSound P 0 c (ref.Global (number_of G x))
-  extern_sound c x h = sound_outer (number_of G x) (global_of_no_chunk x) (extern_at externs (length source) ss x h) refl
+  extern_sound c x h = sound_outer (number_of G x) (global_of_no_chunk x) (extern_at externs size ss x h) refl
 
   here_is_chunk : IsTrue (is_chunk P 0)
   unfolding is_chunk
   here_is_chunk = refl
 
-  site_part : (i : ℕ) → i < length source → IsPart P 0 (has_site i)
-  site_part i l = a_site i (omega (arith, places_count 0 (length source)))
+  site_part : (i : ℕ) → i < size → IsPart P 0 (has_site i)
+  site_part i l = a_site i (omega (arith, places_count 0 size))
 
   parts : Each (IsPart P 0) (parts_of P 0)
   unfolding parts_of body_of body_in
   parts =
-      statements_each (tables_of P) G (λ x. In x externs) (λ x. In x (declared ss)) (length source) (IsPart P 0) site_part
+      statements_each (tables_of P) G (λ x. In x externs) (λ x. In x (declared ss)) size (IsPart P 0) site_part
       (λ x h. a_mention 0 (ref.Global (number_of G x)) (λ _. extern_sound 0 x h))
       (λ x h. a_mention 0 (ref.Global (number_of G x)) (λ _. own_sound 0 x h))
-      (λ x h. a_declaration 0 (ref.Global (number_of G x)) (placed_global (number_of G x) 0 here_is_chunk (own_kind externs (length source) ss distinct x h)) (λ _. own_sound 0 x h))
+      (λ x h. a_declaration 0 (ref.Global (number_of G x)) (placed_global (number_of G x) 0 here_is_chunk (own_kind externs size ss distinct x h)) (λ _. own_sound 0 x h))
       ss fits sites
 
   statements : IsTrue (stmts_well (tables_of P) (opened P 0) [] (stmts (map (statement_tree G) ss)))
   statements =
       statements_well (tables_of P) G (opened P 0) (λ x. In x externs) (λ x. In x (declared ss))
-      (extern_kind externs (length source) ss) (own_kind externs (length source) ss distinct) ss fits
+      (extern_kind externs size ss) (own_kind externs size ss distinct) ss fits
 
   main_well : IsScope P 0 (main_scope G ss)
   main_well = record { statements = statements; parts = parts; doc = lit< tt; chunk_own = λ h. refl; chunk_parent = λ h. refl }
@@ -103,7 +104,7 @@ module _ (file : List ℕ) (externs : List (List ℕ)) (source : List ℕ) (ss :
   makes_none : Each MakesNone (stmts_parts (tables_of P) 0 (stmts (map (statement_tree G) ss)))
   unfolding W.functions_in
   makes_none =
-      statements_each (tables_of P) G (λ x. In x externs) (λ x. In x (declared ss)) (length source) MakesNone (λ i l. refl) (λ x h. refl) (λ x h. refl) (λ x h. refl) ss fits sites
+      statements_each (tables_of P) G (λ x. In x externs) (λ x. In x (declared ss)) size MakesNone (λ i l. refl) (λ x h. refl) (λ x h. refl) (λ x h. refl) ss fits sites
 
   functions : all_functions (tables_of P) P.scopes ≡ []
   unfolding all_functions
@@ -164,7 +165,7 @@ module _ (file : List ℕ) (externs : List (List ℕ)) (source : List ℕ) (ss :
       by (inl l) =
           let there = outer_name externs (map global_of_no_chunk built_in_names ++ map global_of_main (declared ss)) n g (ap (λ t. slice_get t n) (sym apart) ∙ e) l in
           absurd (no_built_in g.name (extern_named g.name there) (subst (In g.name) same_built_ins (in_from_test g.name builtin_globals built)))
-      by (inr l) = omega (arith, outer_count externs (length source) ss)
+      by (inr l) = omega (arith, outer_count externs size ss)
 
   global_count : length P.globals ≡ length G
   global_count = lengths (externs ++ built_in_names) (declared ss)
@@ -180,16 +181,16 @@ module _ (file : List ℕ) (externs : List (List ℕ)) (source : List ℕ) (ss :
   counted : IsCounted P
   unfolding method_count
   counted = record {
-    globals = (let few : length G < 2 ^ 32 = globals_few file externs source ss ex so in omega (arith, few, global_count, no_paths (externs ++ built_in_names) (declared ss)));
+    globals = (let few : length G < 2 ^ 32 = declared_few file externs size ss ex within.few within.short in omega (arith, few, global_count, no_paths (externs ++ built_in_names) (declared ss)));
     docs = lit< tt;
     scopes = lit< tt;
     props = lit< tt;
     classes = lit< tt;
-    places = (let short : length source ≤ 16777216 = so.short in omega (arith, short, places_count 0 (length source)));
+    places = (let short : size ≤ 16777216 = within.short in omega (arith, short, places_count 0 size));
   }
 
-  pub source_well : WellMade P
-  source_well = record {
+  pub sound_well : WellMade P
+  sound_well = record {
     chunks = lit≤ tt;
     dependencies = no_deps;
     scopes = scopes;
@@ -206,3 +207,7 @@ module _ (file : List ℕ) (externs : List (List ℕ)) (source : List ℕ) (ss :
     meant = λ f c n r h. record { meant = meant n };
     counted = counted;
   }
+
+-- the program of a source is well made
+pub source_well : (file : List ℕ) (externs : List (List ℕ)) (source : List ℕ) (ss : List Statement) → IsExterns file externs → IsSource externs source ss → WellMade (program_of externs (length source) ss)
+source_well file externs source ss ex so = sound_well file externs (length source) ss ex (sound_source externs source ss so) (source_within externs source ss so)

@@ -6,7 +6,7 @@ ghost use Rattle.cc_driver.specs.FormChecks as checks;
 ghost use Rattle.cc_driver.specs.FormChecks.{names_in, FindsNames, Enters};
 
 use crate::form::unread::Unread;
-use crate::form::{Statement, Value};
+use crate::form::{Added, Operand, Statement, Value};
 use crate::names::{NameTable, enter_name, has_name};
 use cc_ast::units::Units;
 use sqlite_items::Items;
@@ -66,13 +66,27 @@ pub(crate) fn all_declared<'a>(
     Ok(table)
 }
 
+fn is_known_one(declared: &NameTable<'_>, operand: &Operand) -> bool
+    ensures { result ≡ checks.is_known_one (names_in declared.now) operand.now }
+{
+    match operand {
+        Operand::Named(_, name) => has_name(declared, name),
+        Operand::Text(_, _) => true,
+        Operand::Whole(_, _) => true,
+    }
+}
+
+fn are_known_more(declared: &NameTable<'_>, more: &[Added]) -> bool
+    ensures { result ≡ list_all (λ m. checks.is_known_one (names_in declared.now) m.operand) more.now }
+{
+    more.iter()
+        .all(|added| is_known_one(declared, &added.operand))
+}
+
 fn is_known(declared: &NameTable<'_>, value: &Value) -> bool
     ensures { result ≡ checks.is_known (names_in declared.now) value.now }
 {
-    match value {
-        Value::Named(_, name) => has_name(declared, name),
-        Value::Text(_, _) => true,
-    }
+    is_known_one(declared, &value.first) && are_known_more(declared, value.more.as_slice())
 }
 
 fn are_known(declared: &NameTable<'_>, values: &[Value]) -> bool

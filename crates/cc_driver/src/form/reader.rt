@@ -6,12 +6,23 @@ ghost use Rattle.cc_driver.specs.FormReading as reading;
 ghost use Rattle.cc_driver.specs.FormReading.{Reads, Finds};
 
 use crate::form::cursor::Cursor;
-use crate::form::name::{is_free_name, name_length, plain_length, units_of};
+use crate::form::name::{
+    digits_length,
+    free_number,
+    is_digit,
+    is_free_name,
+    name_length,
+    plain_length,
+    units_of,
+};
 use crate::form::unread::Unread;
-use crate::form::{Statement, Value};
+use crate::form::{Added, Operand, Statement, Value};
 use cc_ast::units::Units;
 use sqlite_items::Items;
 use std::alloc::Global;
+
+// The most operands that follow the first one of a chain.
+const MOST_MORE: usize = 256;
 
 #[tactic(auto, unfolding(crate::specs::FormReading::read_name))]
 fn name(alloc: Global, cursor: &mut Cursor<'_>) -> Result<Units, Unread>
@@ -29,7 +40,7 @@ fn name(alloc: Global, cursor: &mut Cursor<'_>) -> Result<Units, Unread>
 
 // The rest of a text behind its opening quote, which stands at `at`.
 #[tactic(auto, unfolding(crate::specs::FormReading::read_text))]
-fn text(alloc: Global, cursor: &mut Cursor<'_>, at: u32, quote: u8) -> Result<Value, Unread>
+fn text(alloc: Global, cursor: &mut Cursor<'_>, at: u32, quote: u8) -> Result<Operand, Unread>
     requires place { cursor.old.at ≡ at + 1 }
     requires some { 0 < quote }
     ensures { Reads (reading.read_text quote at cursor.old.rest.now) result cursor.new.at cursor.new.rest.now }
@@ -39,22 +50,66 @@ fn text(alloc: Global, cursor: &mut Cursor<'_>, at: u32, quote: u8) -> Result<Va
     let text = &rest[..length];
     cursor.advance(length);
     cursor.byte(quote)?;
-    Ok(Value::Text(at, units_of(alloc, text)?))
+    Ok(Operand::Text(at, units_of(alloc, text)?))
+}
+
+// A whole number.
+#[tactic(auto, unfolding(crate::specs::FormReading::read_number))]
+fn number(cursor: &mut Cursor<'_>) -> Result<Operand, Unread>
+    ensures { Reads (reading.read_number cursor.old.at cursor.old.rest.now) result cursor.new.at cursor.new.rest.now }
+{
+    let at = cursor.at();
+    let rest = cursor.rest();
+    let length = digits_length(rest);
+    let Some(number) = free_number(&rest[..length]) else {
+        return Err(Unread::Form);
+    };
+    cursor.advance(length);
+    Ok(Operand::Whole(at, number))
+}
+
+#[tactic(auto, unfolding(crate::specs::FormReading::read_operand))]
+fn operand(alloc: Global, cursor: &mut Cursor<'_>) -> Result<Operand, Unread>
+    ensures { Reads (reading.read_operand cursor.old.at cursor.old.rest.now) result cursor.new.at cursor.new.rest.now }
+{
+    let at = cursor.at();
+    let first = cursor.look();
+    if first == b'\'' || first == b'"' {
+        cursor.advance(1);
+        text(alloc, cursor, at, first)
+    } else if is_digit(first) {
+        number(cursor)
+    } else {
+        let name = name(alloc, cursor)?;
+        Ok(Operand::Named(at, name))
+    }
+}
+
+// The operands from here on that each follow a `+`, as many as `most` at most.
+#[tactic(auto, unfolding(crate::specs::FormReading::read_more))]
+fn more(alloc: Global, cursor: &mut Cursor<'_>, most: usize) -> Result<Items<Added>, Unread>
+    ensures { Reads (reading.read_more most [] cursor.old.at cursor.old.rest.now) result cursor.new.at cursor.new.rest.now }
+{
+    let mut found = Items::new(alloc);
+    for _turn in 0..most {
+        if cursor.look() != b'+' {
+            return Ok(found);
+        }
+        let plus = cursor.at();
+        cursor.advance(1);
+        let operand = operand(alloc, cursor)?;
+        found.push(Added { plus, operand })?;
+    }
+    Ok(found)
 }
 
 #[tactic(auto, unfolding(crate::specs::FormReading::read_value))]
 fn value(alloc: Global, cursor: &mut Cursor<'_>) -> Result<Value, Unread>
     ensures { Reads (reading.read_value cursor.old.at cursor.old.rest.now) result cursor.new.at cursor.new.rest.now }
 {
-    let at = cursor.at();
-    let quote = cursor.look();
-    if quote == b'\'' || quote == b'"' {
-        cursor.advance(1);
-        text(alloc, cursor, at, quote)
-    } else {
-        let name = name(alloc, cursor)?;
-        Ok(Value::Named(at, name))
-    }
+    let first = operand(alloc, cursor)?;
+    let more = more(alloc, cursor, MOST_MORE)?;
+    Ok(Value { first, more })
 }
 
 // The values from here on, with the parenthesis behind them.

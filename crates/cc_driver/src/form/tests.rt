@@ -1,7 +1,7 @@
 // Each public function once, with ample memory.
 
 use crate::form::read::{read_externs, read_source};
-use crate::form::{Statement, Value};
+use crate::form::{Operand, Statement};
 use std::test::Fail;
 
 #[test]
@@ -23,8 +23,9 @@ fn a_source_is_read(rt: HostRuntime) -> Result<(), Fail> {
     match statements.get(1) {
         Some(Statement::Calls(11, name, values)) => {
             assert_eq!(rt; name.list.len(), 5);
-            match values.get(0) {
-                Some(Value::Named(17, used)) => assert_eq!(rt;
+            let value = values.get(0).ok_or("no value")?;
+            match &value.first {
+                Operand::Named(17, used) => assert_eq!(rt;
                     used.list.as_slice(),
                     [103].as_slice()
                 ),
@@ -37,8 +38,8 @@ fn a_source_is_read(rt: HostRuntime) -> Result<(), Fail> {
 }
 
 #[test]
-fn a_number_is_no_value(rt: HostRuntime) -> Result<(), Fail> {
+fn a_number_with_a_zero_before_it_is_no_value(rt: HostRuntime) -> Result<(), Fail> {
     let externs = read_externs(rt.alloc(), b"")?.ok_or("no externs")?;
-    assert!(rt; read_source(rt.alloc(), &externs, b"var x=1;")?.is_none());
+    assert!(rt; read_source(rt.alloc(), &externs, b"var x=01;")?.is_none());
     Ok(())
 }

@@ -5,12 +5,16 @@ ghost use Rattle.std.specs.Str.{IsAscii};
 ghost use Rattle.cc_driver.specs.declared.spelling.Piece.TheVariants.{Bytes};
 ghost use Rattle.cc_driver.specs.Form.{is_plain};
 ghost use Rattle.cc_driver.specs.Spelling.{piece_text};
-ghost use Rattle.cc_driver.specs.Shapes.{quoted};
+ghost use Rattle.cc_driver.specs.Shapes.{numeral, quoted};
 
 use crate::spelling::Piece;
 use cc_ast::units::Units;
+use itoa::Buffer;
 use sqlite_items::Items;
 use std::alloc::{AllocError, Global};
+
+// 2^53: the whole numbers below it are exact.
+const WHOLE_LIMIT: i64 = 9_007_199_254_740_992;
 
 /// The bytes as one piece at the end.
 pub fn push_bytes(alloc: Global, pieces: &mut Items<Piece>, bytes: &[u8]) -> Result<(), AllocError>
@@ -33,6 +37,18 @@ pub fn quote(alloc: Global, text: &Units) -> Result<Option<Items<u8>>, AllocErro
     }
     bytes.push(b'"')?;
     Ok(Some(bytes))
+}
+
+/// The decimal of a number, or `None` where it is below 0 or above 2^53-1.
+pub fn decimal_of(alloc: Global, number: i64) -> Result<Option<Items<u8>>, AllocError>
+    ensures { IfOk result (λ bytes. bytes ≡ numeral number) }
+{
+    if number < 0 || number >= WHOLE_LIMIT {
+        return Ok(None);
+    }
+    let mut buffer = Buffer::new();
+    let text = buffer.format(number as u64).as_bytes();
+    Ok(Some(Items::from_slice(alloc, text)?))
 }
 
 /// Whether a text may have the unit: 32 to 126 without quotes and backslash.

@@ -6,10 +6,11 @@ use cc_ast::tree::{Expr, Ref};
 use cc_ast::units::Units;
 use sqlite_items::Items;
 
-/// The expressions of the form, and all others.
+/// The operands and calls of the form, and all other expressions.
 pub enum Shape<'a> {
     Global(u32),
     Text(&'a Units),
+    Whole(i64),
     Call(&'a Expr, &'a Items<Expr>),
     Other,
 }
@@ -28,7 +29,7 @@ pub fn shape_of(e: &Expr) -> Shape<'_>
         Expr::Undefined(_) => Shape::Other,
         Expr::Null(_) => Shape::Other,
         Expr::Truth(_, _) => Shape::Other,
-        Expr::Whole(_, _) => Shape::Other,
+        Expr::Whole(_, number) => Shape::Whole(*number),
         Expr::This(_) => Shape::Other,
         Expr::Fun(_, _) => Shape::Other,
         Expr::List(_, _) => Shape::Other,

@@ -71,11 +71,13 @@ fn push_simple(alloc: Global, pieces: &mut Items<Piece>, e: &Expr) -> Result<boo
         Shape::Call(f, arguments) => match shape_of(f) {
             Shape::Global(g) => push_call(alloc, pieces, g, arguments),
             Shape::Text(_) => Ok(false),
+            Shape::Whole(_) => Ok(false),
             Shape::Call(_, _) => Ok(false),
             Shape::Other => Ok(false),
         },
         Shape::Global(_) => Ok(false),
         Shape::Text(_) => Ok(false),
+        Shape::Whole(_) => Ok(false),
         Shape::Other => Ok(false),
     }
 }

@@ -8,7 +8,10 @@ use Rattle.cc_driver.specs.Source.{program_of}
 use Rattle.cc_driver.specs.Spelling.{spell_chunk}
 use Rattle.cc_driver.specs.Compile.{no_externs, no_source}
 use Rattle.cc_driver.proofs.StepLemmas.{memory_refuses}
-use Rattle.cc_driver.proofs.OutputLemmas.{printed_ascii, is_spelled, made_again, compiled_by}
+use Rattle.cc_driver.proofs.OutputLemmas.{sound_printed_ascii, sound_is_spelled, made_again, compiled_by}
+use Rattle.cc_driver.specs.Sound.{AreSound}
+use Rattle.cc_driver.proofs.Promise.Fit.{sound_source}
+use Rattle.cc_driver.proofs.Promise.Folded.{made_of, made_sound}
 use Rattle.cc_driver.proofs.Promise.SourceWellMade.{source_well}
 use Rattle.cc_driver.proofs.Promise.SourcePaths.{source_has_no_paths}
 use Rattle.cc_driver.proofs.output.output_of.Goals as goal
@@ -57,19 +60,21 @@ pub unreachable-requires : goal.unreachable-requires
 unreachable-requires c =
     let read : IsSource c.in-Some.extern_names c.args.source.now c.in-Some-2.statements = rw c.in-Some-2.is at c.in_ok-statements.ensures in
     let spelled : c.in_ok-pieces.field-0 ≡ spell_chunk c.in_ok-program-2.program 0 = c.in_ok-pieces.ensures in
-    let made : c.in_ok-program-2.program ≡ program_of c.in-Some.extern_names (length c.args.source.now) c.in-Some-2.statements =
-    made_again c.in-Some.extern_names (length c.args.source.now) c.in-Some-2.statements c.in_ok-program.program c.in_ok-program-2.program c.in_ok-program.ensures c.in_ok-program-2.ensures in
-    is_spelled c.in-Some.extern_names c.args.source.now (length c.args.source.now) c.in-Some-2.statements read
+    let sound : AreSound c.in-Some.extern_names c.in-Some-2.statements = sound_source c.in-Some.extern_names c.args.source.now c.in-Some-2.statements read in
+    let made : c.in_ok-program-2.program ≡ program_of c.in-Some.extern_names (length c.args.source.now) (made_of c.in-Some-2.statements) =
+    made_again c.in-Some.extern_names (length c.args.source.now) c.in-Some-2.statements c.in_ok-program.program c.in_ok-program-2.program sound c.in_ok-program.ensures c.in_ok-program-2.ensures in
+    sound_is_spelled c.in-Some.extern_names (length c.args.source.now) (made_of c.in-Some-2.statements) (made_sound c.in-Some.extern_names c.in-Some-2.statements sound)
     (subst (λ (p : Program). spell_chunk p 0 ≡ None) made (sym spelled ∙ c.in_default-3.is))
 
 pub text-requires : goal.text-requires
 text-requires c =
     let names_read : IsExterns c.args.externs.now c.in-Some.extern_names = rw c.in-Some.is at c.in_ok-extern_names.ensures in
     let read : IsSource c.in-Some.extern_names c.args.source.now c.in-Some-2.statements = rw c.in-Some-2.is at c.in_ok-statements.ensures in
-    let made : c.in_ok-program-2.program ≡ program_of c.in-Some.extern_names (length c.args.source.now) c.in-Some-2.statements =
-    made_again c.in-Some.extern_names (length c.args.source.now) c.in-Some-2.statements c.in_ok-program.program c.in_ok-program-2.program c.in_ok-program.ensures c.in_ok-program-2.ensures in
+    let sound : AreSound c.in-Some.extern_names c.in-Some-2.statements = sound_source c.in-Some.extern_names c.args.source.now c.in-Some-2.statements read in
+    let made : c.in_ok-program-2.program ≡ program_of c.in-Some.extern_names (length c.args.source.now) (made_of c.in-Some-2.statements) =
+    made_again c.in-Some.extern_names (length c.args.source.now) c.in-Some-2.statements c.in_ok-program.program c.in_ok-program-2.program sound c.in_ok-program.ensures c.in_ok-program-2.ensures in
     let named : IsNaming c.in_ok-program-2.program c.in-Some-3.pieces c.in_ok-names.names = c.in_ok-names.ensures in
-    printed_ascii c.args.externs.now c.in-Some.extern_names c.args.source.now (length c.args.source.now) c.in-Some-2.statements c.in-Some-3.pieces c.in_ok-names.names names_read read
+    sound_printed_ascii c.args.externs.now c.in-Some.extern_names (length c.args.source.now) (made_of c.in-Some-2.statements) c.in-Some-3.pieces c.in_ok-names.names names_read (made_sound c.in-Some.extern_names c.in-Some-2.statements sound)
     (subst (λ (p : Program). IsNaming p c.in-Some-3.pieces c.in_ok-names.names) made named)
 
 pub returns-clause-ok : goal.returns-clause-ok
