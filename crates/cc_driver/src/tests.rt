@@ -85,8 +85,12 @@ fn what_is_printed_more_often_gets_the_earlier_name(rt: HostRuntime) -> Result<(
 
 #[test]
 fn what_is_not_of_the_form_is_refused(rt: HostRuntime) -> Result<(), Fail> {
-    let sources: [&[u8]; 8] = [
-        b"var x=1;",
+    let sources: [&[u8]; 12] = [
+        b"var x=01;",
+        b"alert(9007199254740992);",
+        b"alert(1+);",
+        b"alert(+1);",
+        b"alert(1 + 2);",
         b"alert(x);",
         b"var alert='x';",
         b"var x='1';var x='2';",
@@ -141,7 +145,7 @@ fn a_failing_write_and_a_missing_file_are_told(rt: HostRuntime) -> Result<(), Fa
 #[test]
 fn an_untold_message_changes_no_answer(rt: HostRuntime) -> Result<(), Fail> {
     let words = words(rt.alloc(), WORDS.as_slice())?;
-    let mut silent = host(rt.alloc(), EXTERNS, b"var x=1;")?;
+    let mut silent = host(rt.alloc(), EXTERNS, b"var x=01;")?;
     silent.fail.push(2)?;
     assert_eq!(rt;
         compile_alone(rt.alloc(), words.as_slice(), &mut silent),
@@ -149,5 +153,40 @@ fn an_untold_message_changes_no_answer(rt: HostRuntime) -> Result<(), Fail> {
     );
     assert_eq!(rt; silent.told.as_slice(), b"".as_slice());
     assert_eq!(rt; (silent.count, silent.tell_count), (0, 1));
+    Ok(())
+}
+
+#[test]
+fn sums_of_literals_are_folded(rt: HostRuntime) -> Result<(), Fail> {
+    let pairs: [(&[u8], &[u8]); 6] = [
+        (b"alert(1+2+3);", b"alert(6);"),
+        (b"var s='a';alert(s+1+2);", b"var a=\"a\";alert(a+1+2);"),
+        (b"alert(9007199254740990+1);", b"alert(9007199254740991);"),
+        (b"alert(9007199254740991+1);", b"alert(9007199254740991+1);"),
+        (b"alert('a'+1+2);", b"alert(\"a12\");"),
+        (b"var s=1;alert(1+2+s+3);", b"var a=1;alert(3+a+3);"),
+    ];
+    for (source, text) in pairs {
+        let (outcome, _told, output) = compiled(rt.alloc(), EXTERNS, source)?;
+        assert_eq!(rt; outcome, Outcome::Done);
+        assert_eq!(rt; output.as_slice(), text);
+    }
+    Ok(())
+}
+
+#[test]
+fn a_chain_has_257_operands_at_most(rt: HostRuntime) -> Result<(), Fail> {
+    let mut source = Vec::from_slice(rt.alloc(), b"alert(1")?;
+    for _operand in 0..256 {
+        source.extend_from_slice(b"+1")?;
+    }
+    let mut longer = Vec::from_slice(rt.alloc(), source.as_slice())?;
+    source.extend_from_slice(b");")?;
+    let (outcome, _told, output) = compiled(rt.alloc(), EXTERNS, source.as_slice())?;
+    assert_eq!(rt; outcome, Outcome::Done);
+    assert_eq!(rt; output.as_slice(), b"alert(257);".as_slice());
+    longer.extend_from_slice(b"+1);")?;
+    let (outcome, _told, _output) = compiled(rt.alloc(), EXTERNS, longer.as_slice())?;
+    assert_eq!(rt; outcome, Outcome::Unbuilt(2));
     Ok(())
 }
