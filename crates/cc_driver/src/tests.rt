@@ -1,5 +1,6 @@
 //! The worked examples on the top call over a host in memory.
 
+mod chains;
 mod written;
 
 use crate::compile::compile_alone;
@@ -86,7 +87,7 @@ fn what_is_printed_more_often_gets_the_earlier_name(rt: HostRuntime) -> Result<(
 #[test]
 fn what_is_not_of_the_form_is_refused(rt: HostRuntime) -> Result<(), Fail> {
     let sources: [&[u8]; 8] = [
-        b"var x=1;",
+        b"var x=-1;",
         b"alert(x);",
         b"var alert='x';",
         b"var x='1';var x='2';",
@@ -141,7 +142,7 @@ fn a_failing_write_and_a_missing_file_are_told(rt: HostRuntime) -> Result<(), Fa
 #[test]
 fn an_untold_message_changes_no_answer(rt: HostRuntime) -> Result<(), Fail> {
     let words = words(rt.alloc(), WORDS.as_slice())?;
-    let mut silent = host(rt.alloc(), EXTERNS, b"var x=1;")?;
+    let mut silent = host(rt.alloc(), EXTERNS, b"var x=01;")?;
     silent.fail.push(2)?;
     assert_eq!(rt;
         compile_alone(rt.alloc(), words.as_slice(), &mut silent),
