@@ -6,7 +6,9 @@ use Rattle.cc_ast.specs.declared.tree.Expr.{Expr}
 use Rattle.cc_ast.specs.declared.tree.Stmt.{Stmt}
 use Rattle.cc_ast.specs.Bridge.{term, terms}
 use Rattle.cc_ast.specs.StmtBridge.{term_stmt, term_stmts}
-use Rattle.cc_ast.specs.Terms.{terms-empty, terms-more}
+use Rattle.cc_ast.specs.Terms.{term-Binary, terms-empty, terms-more}
+use Rattle.cc_ast.specs.declared.tree.Expr.TheVariants as V
+use Rattle.std.specs.Prelude.{Result, Ok, Err, IfOk}
 use Rattle.cc_ast.specs.StmtTerms.{term_stmts-empty, term_stmts-more}
 use Rattle.cc_ast.specs.Syntax as S
 use Rattle.cc_ast.specs.declared.operator.BinOp.{BinOp}
@@ -76,6 +78,16 @@ pub sum_goes_on : (old : List Piece) (s : ℕ) (op : BinOp) (a b : S.Expr) (mid 
 sum_goes_on old s op a b mid e m =
     ap (λ t. join t (spell_added b)) m ∙ join-assoc (Some old) (spell_value a) (spell_added b)
     ∙ sym (ap (join (Some old)) (sum_spelled s op a b ∙ ap (λ t. cond t (join (spell_value a) (spell_added b)) None) e))
+
+-- what is put for a sum: what is there behind its left side, and then the operand on its right
+pub sum_put : (v : Expr) (s : ℕ) (op : BinOp) (l r : Expr) (old mid : List Piece) (o : Option (List Piece)) → v ≡ V.Binary s op l r → is_add op ≡ true → Some mid ≡ join (Some old) (spell_value (term l))
+    → o ≡ join (Some mid) (spell_added (term r)) → o ≡ join (Some old) (spell_value (term v))
+sum_put v s op l r old mid o is e m h =
+    h ∙ sum_goes_on old s op (term l) (term r) (Some mid) e m ∙ sym (ap (λ z. join (Some old) (spell_value (term z))) is ∙ ap (λ z. join (Some old) (spell_value z)) (term-Binary s op l r))
+
+pub ok_as : {A E : Type 0} (r : Result A E) (P Q : A → Type 0) → ((x : A) → P x → Q x) → IfOk r P → IfOk r Q
+ok_as (Ok x) P Q f h = f x h
+ok_as (Err e) P Q f h = h
 
 -- a turn of the loop over values that each follow a comma: p is what was there with the comma
 more_turn : (start : Option (List Piece)) (es : List Expr) (i : ℕ) (e : Expr) (now : List Piece) → i < length es → e ≡ get_or es i e

@@ -29,11 +29,3 @@ pub fn source_is_well_made()
     ensures { (file : List ℕ) (externs : List (List ℕ)) (source : List ℕ) (statements : List Statement)
         → IsExterns file externs → IsSource externs source statements → WellMade (program_of externs (length source) statements) }
 {}
-
-fn scratch_form()
-    ensures { (n : ℕ) → n ≡ n }
-{}
-
-fn scratch_promise()
-    ensures { (n : ℕ) → n ≡ n }
-{}

@@ -43,11 +43,7 @@ fn global_ref(table: &NameTable<'_>, name: &Units) -> Ref
 }
 
 #[tactic(auto, using(cc_ast::specs::Terms::steps))]
-fn operand_tree(
-    alloc: Global,
-    table: &NameTable<'_>,
-    operand: &Operand,
-) -> Result<Expr, AllocError>
+fn operand_tree(alloc: Global, table: &NameTable<'_>, operand: &Operand) -> Result<Expr, AllocError>
     requires { length (names_in table.now) < 2 ^ 32 }
     ensures { IfOk result (λ tree. term tree ≡ source.operand_tree (names_in table.now) operand.now) }
 {

@@ -7,13 +7,7 @@ ghost use Rattle.cc_driver.specs.FormReading.{Reads, Finds};
 
 use crate::form::cursor::Cursor;
 use crate::form::name::{
-    digits_length,
-    free_number,
-    is_digit,
-    is_free_name,
-    name_length,
-    plain_length,
-    units_of,
+    digits_length, free_number, is_digit, is_free_name, name_length, plain_length, units_of,
 };
 use crate::form::unread::Unread;
 use crate::form::{Added, Operand, Statement, Value};

@@ -25,10 +25,7 @@ fn a_source_is_read(rt: HostRuntime) -> Result<(), Fail> {
             assert_eq!(rt; name.list.len(), 5);
             let value = values.get(0).ok_or("no value")?;
             match &value.first {
-                Operand::Named(17, used) => assert_eq!(rt;
-                    used.list.as_slice(),
-                    [103].as_slice()
-                ),
+                Operand::Named(17, used) => assert_eq!(rt; used.list.as_slice(), [103].as_slice()),
                 _ => assert!(rt; false, "the value is another one"),
             }
         }

@@ -65,11 +65,7 @@ fn is_sum(op: BinOp) -> bool
 
 /// The pieces of a `+` and of the operand behind it.
 #[tactic(auto, using(crate::proofs::SpellingLaws::spelling))]
-fn push_added(
-    alloc: Global,
-    pieces: &mut Items<Piece>,
-    operand: &Expr,
-) -> Result<bool, AllocError>
+fn push_added(alloc: Global, pieces: &mut Items<Piece>, operand: &Expr) -> Result<bool, AllocError>
     ensures { IfOk result (λ fits. (if fits then Some pieces.new else None)
         ≡ join (Some pieces.old) (spell_added (term operand.now))) }
 {
