@@ -125,7 +125,7 @@ pub synthesis-form : (names : List (List ℕ)) (text : List ℕ) (b : Bool) → 
     → MatchBool b (HasForm names form.Synthesis (Some text)) (¬ HasForm names form.Synthesis (Some text))
 synthesis-form names text b tested = reads _ Synthesis (synthesis_of text) b tested (λ s e. v.synthesis e) (synthesis-back names text)
 
-bound-back : (names : List (List ℕ)) (text : List ℕ) → HasForm names form.Bound (Some text) → (n : ℕ) × (bound_of text ≡ Some n)
+pub bound-back : (names : List (List ℕ)) (text : List ℕ) → HasForm names form.Bound (Some text) → (n : ℕ) × (bound_of text ≡ Some n)
 bound-back names text (v.bound {n} e) = (n, e)
 
 pub bound-form : (names : List (List ℕ)) (text : List ℕ) (b : Bool) → b ≡ is_some (bound_of text)

@@ -63,7 +63,7 @@ values-more f ss s = filter_map-append (value_for f) ss (s ∷ []) ∙ ap (λ vs
 chunks-more : (ss : List Setting) (s : Setting) → filter_map chunk_of (values_of flag.Chunk (ss ++ s ∷ [])) ≡ filter_map chunk_of (values_of flag.Chunk ss) ++ filter_map chunk_of (option_to_list (value_for flag.Chunk s))
 chunks-more ss s = ap (filter_map chunk_of) (values-more flag.Chunk ss s) ∙ filter_map-append chunk_of (values_of flag.Chunk ss) (option_to_list (value_for flag.Chunk s))
 
-zip-append : {A B : Type 0} (R : A → B → Type 0) (ws vs : List A) (xs ys : List B) → AllZip R ws xs → AllZip R vs ys → AllZip R (ws ++ vs) (xs ++ ys)
+pub zip-append : {A B : Type 0} (R : A → B → Type 0) (ws vs : List A) (xs ys : List B) → AllZip R ws xs → AllZip R vs ys → AllZip R (ws ++ vs) (xs ++ ys)
 zip-append R [] vs [] ys first second = second
 zip-append R [] vs (x ∷ xs) ys first second = absurd first
 zip-append R (w ∷ ws) vs [] ys first second = absurd first

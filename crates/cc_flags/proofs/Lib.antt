@@ -13,3 +13,6 @@ pub mod FormFaults
 pub mod TogetherLaws
 pub mod LimitLaws
 pub mod StageLaws
+pub mod OneCut
+pub mod OutputLaws
+pub mod JobLaws

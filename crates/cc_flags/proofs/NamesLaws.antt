@@ -43,7 +43,7 @@ inserted keys k name = by_test (list_any (λ x. bytes_eq k.now x.now) keys) refl
   by_test false e = ap (list_any (bytes_eq name)) (map-append (λ k. k.now) keys (k ∷ []))
 
 -- one more setting gives its name, or none
-names-after : (items : List Item) (i : ℕ) (d : Item) → i < length items
+pub names-after : (items : List Item) (i : ℕ) (d : Item) → i < length items
     → chunk_names (settings_of (take (i + 1) items)) ≡ chunk_names (settings_of (take i items)) ++ map (before 58) (option_to_list (value_for flag.Chunk (setting_of (get_or items i d))))
 names-after items i d within =
     ap (map (before 58)) (filter_map-more (value_for flag.Chunk) items i d within)

@@ -11,3 +11,4 @@ pub mod Quoting
 pub mod Forming
 pub mod Giving
 pub mod Steps
+pub mod Wrapping

@@ -17,10 +17,15 @@ mod limit;
 mod missing;
 mod names;
 mod number;
+mod output;
+mod read;
 mod settings;
+#[cfg(test)]
+mod tests;
 mod text;
 mod together;
 mod usage;
 
 pub use job::{Define, DefineValue, Job, Output, ReplayJob, Synthesis, Wrapper};
+pub use read::{read_replay, read_words};
 pub use usage::{Usage, UsageKind};

@@ -16,7 +16,7 @@ const MOST_FILES: usize = 1024;
 
 const MOST_CHUNKS: usize = 256;
 
-const MOST_WORKERS: u64 = 64;
+pub(crate) const MOST_WORKERS: u64 = 64;
 
 impl Item<'_> {
     /// Whether it names a file that is read.
