@@ -30,10 +30,11 @@ use Rattle.cc_grammar.proofs.Deletions.{Nest, nest_told, Found, Looks, looks_tru
 use Rattle.cc_grammar.proofs.Nests.{nothing_deleted}
 use Rattle.cc_grammar.proofs.MovesDerived.{e_moves}
 use Rattle.cc_grammar.proofs.Steps.{kind_at}
-use Rattle.cc_grammar.proofs.Fails.{token, new_at, taken, again, same, Spot, here, anew, Begun, EE, no_e, e_due, Fails, fine, deleted, fails_after, fails_map, fails_fork, fails_here, expect_fails, names, may_raise, Raises, raises, deeper_fails, at_is, FailsInner}
+use Rattle.cc_grammar.proofs.Fails.{token, new_at, taken, again, same, Spot, here, anew, Begun, EE, no_e, e_due, Fails, fine, deleted, fails_after, fails_map, fails_fork, fails_here, expect_fails, may_raise, Raises, raises, deeper_fails, at_is, FailsInner}
 use Rattle.cc_grammar.proofs.Onward.{Mends, onward, mended, mends, delete_other, delete_variable}
 use Rattle.cc_grammar.proofs.FrontsPrimary.{whole_e, lower_begun, primary_fails, suffixes_fail}
 use Rattle.cc_grammar.proofs.OnSymbols as s
+use Rattle.cc_grammar.proofs.Firsts.{names}
 
 -- ---- tokens of operators make what they stand in higher
 
