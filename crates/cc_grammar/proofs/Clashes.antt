@@ -1,5 +1,5 @@
 -- Equations that can't be, and what follows of equal lists and causes.
-use Rattle.std.specs.Prelude.{◌≡◌, true, false, List, [], ◌∷◌, ◌++◌, Some, None}
+use Rattle.std.specs.Prelude.{◌≡◌, true, false, List, [], ◌∷◌, ◌++◌, Option, Some, None}
 use Rattle.cc_ast.specs.declared.reading.Construct.{Construct}
 use Rattle.cc_grammar.specs.Symbols.{Lexeme, Symbol, Symbols, real, inserted}
 use Rattle.cc_grammar.specs.Reading.{syntax, refused}
@@ -13,7 +13,7 @@ never e = absurd (cc)
 pub none_some : {A : Type 0} {x : Construct} → None ≡ Some x → A
 none_some e = absurd (cc)
 
-pub some_is : {x y : Construct} → Some x ≡ Some y → x ≡ y
+pub some_is : {A : Type 0} {x y : A} → ◌≡◌ {A = Option A} (Some x) (Some y) → x ≡ y
 some_is e = cc
 
 pub no_syntax : {A : Type 0} {x : Construct} → syntax ≡ refused x → A

@@ -14,7 +14,7 @@ use Rattle.cc_grammar.specs.Signs.{refused_name}
 use Rattle.cc_grammar.specs.Fronts.{IsFront, IsFrontWithin}
 use Rattle.cc_grammar.specs.Faults.{any}
 use Rattle.cc_grammar.specs.Reading.{Outcome, Sized, Fault, goes_on, refused, read_symbols}
-use Rattle.cc_grammar.proofs.Clashes.{clash, same_construct, head_is, tail_is, not_real}
+use Rattle.cc_grammar.proofs.Clashes.{clash, some_is, same_construct, head_is, tail_is, not_real}
 use Rattle.cc_grammar.proofs.Shrinks.{reals}
 use Rattle.cc_grammar.proofs.NoFront.{no_front}
 use Rattle.cc_grammar.proofs.Deletions.{Nest, bare, nested, Closers, closed_all, close_one}
@@ -76,12 +76,9 @@ no_later (inserted ∷ q) (real m ∷ r) t u us rest h d e = absurd (not_real m 
 -- no name is refused as such a variable, or as `get` or `set`
 pub other_name : (v : List ℕ) {x : Construct} → refused_name v ≡ Some x → (x ≡ construct.EvalName) ⊎ (x ≡ construct.ArgumentsName)
 other_name v {x} e = by (bytes_eq (codes "eval") v) (bytes_eq (codes "arguments") v) e where
-  some_is : (y : Construct) → Some y ≡ Some x → x ≡ y
-  some_is y q = cc
-
   by : (a b : Bool) → cond a (Some construct.EvalName) (cond b (Some construct.ArgumentsName) None) ≡ Some x → (x ≡ construct.EvalName) ⊎ (x ≡ construct.ArgumentsName)
-  by true b q = inl (some_is construct.EvalName q)
-  by false true q = inr (some_is construct.ArgumentsName q)
+  by true b q = inl (sym (some_is q))
+  by false true q = inr (sym (some_is q))
   by false false q = absurd (cc)
 
 pub no_deletion : {A : Type 0} (v : List ℕ) → refused_name v ≡ Some construct.DeleteName → A
