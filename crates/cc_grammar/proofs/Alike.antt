@@ -10,6 +10,7 @@ use Rattle.cc_grammar.specs.Symbols.{Lexeme, Symbol, Symbols, real, inserted, lo
 use Rattle.cc_grammar.specs.Fronts.{is_end}
 use Rattle.cc_grammar.specs.Reading.{Outcome, Fault, Cause, Due, and_then, fault, semicolon_symbol, syntax, depth, spent, refused}
 use Rattle.cc_grammar.specs.Reading as r
+use Rattle.cc_grammar.proofs.Clashes.{never}
 use Rattle.cc_grammar.proofs.OnSymbols as s
 
 pub record Suffix (ys xs : Symbols) : Type 0 where
@@ -100,14 +101,11 @@ stands_after xs (Err x) f h e = h
 pub stand_by : {A : Type 0} (xs : Symbols) {o r : Outcome Symbols A} → o ≡ r → Stands xs r → Stands xs o
 stand_by xs e h = let P : Outcome Symbols _ → Type 0 = λ x. Stands xs x in subst P (sym e) h
 
-err_by : {A : Type 0} {o r : Outcome Symbols A} → o ≡ r → IsErr r → IsErr o
+pub err_by : {A : Type 0} {o r : Outcome Symbols A} → o ≡ r → IsErr r → IsErr o
 err_by e h = let P : Outcome Symbols _ → Type 0 = λ x. IsErr x in subst P (sym e) h
 
-err_after : {A B : Type 0} {o : Outcome Symbols A} (f : A → s.Reader B) → IsErr o → IsErr (and_then o f)
+pub err_after : {A B : Type 0} {o : Outcome Symbols A} (f : A → s.Reader B) → IsErr o → IsErr (and_then o f)
 err_after f is_err = is_err
-
-never : false ≡ true → ⊥
-never e = cc
 
 -- a token of a kind
 abbrev tested : Bool → Lexeme → s.Reader (Unit {0})
@@ -210,10 +208,10 @@ module _ {bounds : Bounds} where
   pub alike_deeper : {A : Type 0} (b c : Bool) (p q : s.Reader A) → (b ≡ true → c ≡ true) → (bounds.is depth ≡ true) ⊎ (b ≡ c) → Alike bounds p q
       → Alike bounds (λ i. cond b (p i) (Err (record { cause = depth; place = (look i).place }, i))) (λ i. cond c (q i) (Err (record { cause = depth; place = (look i).place }, i)))
   alike_deeper true true p q h s l = l
-  alike_deeper true false p q h s l = let no : false ≡ true = h refl in absurd (never no)
+  alike_deeper true false p q h s l = let no : false ≡ true = h refl in never no
   alike_deeper false false p q h s l = alike_stops depth
   alike_deeper false true p q h (inl e) l = alike_limit depth q e
-  alike_deeper false true p q h (inr e) l = absurd (never e)
+  alike_deeper false true p q h (inr e) l = never e
 
   alike_expected : (f : Lexeme → Bool) → Alike bounds (λ i. tested (f (look i)) (look i) i) (λ i. tested (f (look i)) (look i) i)
   alike_expected f = alike_look (λ t. tested (f t) t) (λ t. tested (f t) t)
@@ -273,7 +271,7 @@ pub data Near {A : Type 0} (j : Symbols) : Outcome Symbols A → Type 0 where
   unread : {x : Fault × Symbols} → Near j (Err x)
   there : {o : Outcome Symbols A} → Stands j o → Near j o
 
-abbrev unless : {A : Type 0} → Place → Outcome Symbols Bool → Outcome Symbols A → Outcome Symbols A
+abbrev pub unless : {A : Type 0} → Place → Outcome Symbols Bool → Outcome Symbols A → Outcome Symbols A
 unless place o u = r.unless_deleted Symbols look rest semicolon_symbol o place u
 
 abbrev guarded : {A : Type 0} → Place → s.Reader Bool → s.Reader A → s.Reader A

@@ -1,5 +1,5 @@
 -- What is derived is read: primary expressions, and what goes on with them by dots, brackets and calls.
-use Rattle.std.specs.Prelude.{◌≡◌, ℕ, zero, suc, ◌+◌, ◌<◌, ◌≤◌, max, Bool, true, false, nat_lt, List, [], Ok, Err, Option, Some, None}
+use Rattle.std.specs.Prelude.{◌≡◌, ℕ, zero, suc, ◌+◌, ◌<◌, ◌≤◌, max, Bool, true, false, nat_lt, List, [], Ok, Option, Some, None}
 use Rattle.std.proofs.Common.{refl, sym, ap, arith, ◌∙◌, ltb-true}
 use Rattle.cc_ast.specs.Syntax.{Prim, undefined}
 use Rattle.cc_lexer.specs.declared.token.Mark.TheVariants as mark
@@ -14,7 +14,7 @@ use Rattle.cc_grammar.specs.Grammar.{At, Sign, Reserved, Variable, OwnName, E, E
 use Rattle.cc_grammar.specs.Reading.{Outcome, Sized, Head, Suffix, and_then, head_of, head_by, variable_of, suffix_of}
 use Rattle.cc_grammar.specs.Reading as r
 use Rattle.cc_grammar.proofs.Marked.{In}
-use Rattle.cc_grammar.proofs.Meets.{Done, ok, err, after}
+use Rattle.cc_grammar.proofs.Meets.{Done, ok, err, after, any_done}
 use Rattle.cc_grammar.proofs.Views.{mark_true}
 use Rattle.cc_grammar.proofs.Mono.{bounded}
 use Rattle.cc_grammar.proofs.Shrinks.{reals, at_less, e_less, own_less}
@@ -75,10 +75,6 @@ same_after_done : {A B : Type 0} {P : A → Symbols → Type 0} (o : Outcome Sym
     → and_then o f ≡ and_then o h
 same_after_done o f h (ok {a} {i} p) e = e a i p
 same_after_done o f h err e = refl
-
-pub any_done : {A : Type 0} (o : Outcome Symbols A) → Done (λ _ _. Unit {0}) o
-any_done (Ok p) = ok tt
-any_done (Err x) = err
 
 module _ (d n : ℕ) (inner : In) (all : CompleteInner d n inner) where
   this_read : (b : Bool) {xs ys : Symbols} → Reserved word.This xs ys → s.primary d n inner b xs ≡ Ok ((raw.this (g.at xs), 0), ys)

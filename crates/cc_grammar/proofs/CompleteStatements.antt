@@ -13,10 +13,11 @@ use Rattle.cc_grammar.specs.Grammar.{Context, Labels, inside, in_loop, in_switch
 use Rattle.cc_grammar.specs.Reading.{Outcome, Sized, Start, and_then, start_of, semicolon_symbol, label_of, label_by, ends_return, is_ending, is_remedy, is_some_label, variable_of, allowed}
 use Rattle.cc_grammar.specs.Reading as r
 use Rattle.cc_grammar.specs.Fronts.{is_end}
+use Rattle.cc_grammar.proofs.Clashes.{clash}
 use Rattle.cc_grammar.proofs.Marked.{In}
 use Rattle.cc_grammar.proofs.Shrinks.{reals, at_less, e_less, t_less, catch_less, variable_less}
 use Rattle.cc_grammar.proofs.Steps.{step, opened, chosen_at, skipped_at, kind_at, rest_at, mark_at, word_at, table_at, taken, taken_word, taken_variable, ends_at}
-use Rattle.cc_grammar.proofs.Firsts.{clash, opens, begins, no_label, Starts, plainly, with_name, starts}
+use Rattle.cc_grammar.proofs.Firsts.{opens, begins, no_label, Starts, plainly, with_name, starts}
 use Rattle.cc_grammar.proofs.Quiet.{at_end, end_colon}
 use Rattle.cc_grammar.proofs.CompleteLists.{Reads, CompleteInner, body_read, function_read}
 use Rattle.cc_grammar.proofs.CompleteOperands.{variable_head}
@@ -58,10 +59,10 @@ end_returns (g.written {xs} c) = ap (returning (look xs).after_line) (kind_at c)
 end_returns g.added = refl
 
 opening_returns : (x : Kind) → opens x ≡ true → returning false x ≡ false
-opening_returns (k.mark mark.Semicolon) e = absurd (clash (sym e))
-opening_returns (k.mark mark.CloseBrace) e = absurd (clash (sym e))
-opening_returns (k.due k.ending) e = absurd (clash (sym e))
-opening_returns k.end e = absurd (clash (sym e))
+opening_returns (k.mark mark.Semicolon) e = clash (sym e)
+opening_returns (k.mark mark.CloseBrace) e = clash (sym e)
+opening_returns (k.due k.ending) e = clash (sym e)
+opening_returns k.end e = clash (sym e)
 opening_returns _ e = refl
 
 value_goes_on : (xs : Symbols) → (look xs).after_line ≡ false → opens (look xs).kind ≡ true → ends_return (look xs) ≡ false
@@ -80,7 +81,7 @@ block_height : {c : Context} {h : ℕ} {xs ys : Symbols} {b : List RawStmt} → 
 block_height (g.block lt o x p) e = omega arith
 block_height (g.vars o x z) e = absurd (no_brace o refl e)
 block_height (g.empty o) e = absurd (no_brace o refl e)
-block_height (g.simple b x z) e = absurd (clash (sym (ap opens_no_expression e) ∙ b))
+block_height (g.simple b x z) e = clash (sym (ap opens_no_expression e) ∙ b)
 block_height (g.if_else lt lu lv o p x q y u z) e = omega arith
 block_height (g.if_only lt lu o p x q y u) e = omega arith
 block_height (g.do_while lt lu o x p q y u z) e = omega arith

@@ -1,5 +1,5 @@
 -- What is derived within the depth, with justified insertions, is read.
-use Rattle.std.specs.Prelude.{◌≡◌, ℕ, ◌<◌, ◌≤◌, true, false, List, [], ◌∷◌, ◌++◌, map, length, Ok}
+use Rattle.std.specs.Prelude.{◌≡◌, ℕ, ◌<◌, ◌≤◌, false, List, [], ◌∷◌, ◌++◌, map, length, Ok}
 use Rattle.std.proofs.Common.{refl, sym, ap, ◌∙◌, subst, arith, append-nil, length-append, inr}
 use Rattle.cc_grammar.specs.Symbols.{Lexeme, Symbols, real, inserted, lexemes_of}
 use Rattle.cc_grammar.specs.Symbols as k
@@ -8,22 +8,19 @@ use Rattle.cc_grammar.specs.Grammar.{At, at_token}
 use Rattle.cc_grammar.specs.Fronts.{Derives, Justified, ReadsWithin}
 use Rattle.cc_grammar.specs.Laws.{IsText, last, before, IsComplete, is_inner}
 use Rattle.cc_grammar.specs.Reading.{Outcome, Sized, read_symbols, read_tokens}
-use Rattle.cc_grammar.proofs.Meets.{Done, ok, err}
+use Rattle.cc_grammar.proofs.Clashes.{clash, same_head, same_tail, nothing_some, no_insertion}
 use Rattle.cc_grammar.proofs.Mono.{higher_body}
 use Rattle.cc_grammar.proofs.Complete.{program_read}
 use Rattle.cc_grammar.proofs.OneReading.{one_from}
 use Rattle.cc_grammar.proofs.MovesDerived.{body_moves}
-use Rattle.cc_grammar.proofs.Sound.{Ended, symbols_sound}
+use Rattle.cc_grammar.proofs.Sound.{Ended, symbols_sound, ended_at}
 use Rattle.cc_grammar.proofs.Paired.{end_ready, body_ready}
 use Rattle.cc_grammar.proofs.Copies.{L, Copy, put, put_lexemes, lexemes_real, Just, Copies, read, Quiet}
 use Rattle.cc_grammar.proofs.Copies as copy
 use Rattle.cc_grammar.proofs.CopyPrograms.{program_copy}
 use Rattle.cc_grammar.proofs.SoundTokens.{justified}
-use Rattle.cc_grammar.proofs.TokenFronts.{same_head, same_tail, nothing_some, lexemes_append, part_front_within}
+use Rattle.cc_grammar.proofs.TokenFronts.{lexemes_append, part_front_within}
 use Rattle.cc_grammar.proofs.Halts.{Halt, halt}
-
-clash : true ≡ false → ⊥
-clash e = cc
 
 -- nothing stands behind the end
 alone : (ls : L) (t : Lexeme) (us : L) (u : Lexeme) → u ∷ [] ≡ ls ++ t ∷ us → us ≡ []
@@ -33,21 +30,11 @@ alone (m ∷ ls) t us u q = absurd (omega (arith, ap length q, length-append ls 
 text_end : (ts ls : L) (t : Lexeme) (us : L) → ls ++ t ∷ us ≡ ts → t.kind ≡ k.end → IsText ts → us ≡ []
 text_end ts ls t us q e (last {t = u} l) = alone ls t us u (sym q)
 text_end ts [] t us q e (before {t = u} {ts = vs} i h) =
-    let equal : t ≡ u = same_head t u us vs q in absurd (clash (sym i ∙ ap (λ (z : Lexeme). is_inner z.kind) (sym equal) ∙ ap is_inner e))
+    let equal : t ≡ u = same_head t u us vs q in clash (sym i ∙ ap (λ (z : Lexeme). is_inner z.kind) (sym equal) ∙ ap is_inner e)
 text_end ts (m ∷ ls) t us q e (before {t = u} {ts = vs} i h) = text_end vs ls t us (same_tail m u (ls ++ t ∷ us) vs q) e h
 
 end_token : {xs ys : Symbols} → At k.end xs ys → (t : Lexeme) × (t.kind ≡ k.end) × (xs ≡ real t ∷ ys)
 end_token (at_token t e) = (t, e, refl)
-
-ended_at : (d : ℕ) (xs : Symbols) (b : Sized (List RawStmt)) (ys : Symbols) (o : Outcome Symbols (Sized (List RawStmt))) → Done (λ b ys. Ended d xs b ys) o → o ≡ Ok (b, ys) → Ended d xs b ys
-ended_at d xs b ys o (ok {a} {i} p) e =
-    let pairs : ◌≡◌ {A = Sized (List RawStmt) × Symbols} (a, i) (b, ys) = cc in
-    subst (λ (q : Sized (List RawStmt) × Symbols). Ended d xs q.0 q.1) pairs p
-ended_at d xs b ys o err e = absurd (cc)
-
-never : (b a : Symbols) → [] ≡ b ++ (inserted ∷ a) → ⊥
-never [] a e = cc
-never (m ∷ b) a e = cc
 
 -- the text is read to its end
 whole_text : (d : ℕ) {ts : L} (xs : Symbols) (a : Sized (List RawStmt)) (us : L) → IsText ts → lexemes_of xs ≡ ts → Ended d xs a (map real us) → us ≡ []
@@ -78,7 +65,7 @@ taking {turns} {d} {h} {ts} {b} text lt p le q (read {a} {us} w e j k z) =
           record {
             copy = w;
             just = j;
-            same = one_from [] p.symbols ys (p.tokens ∙ sym (put_lexemes w [] refl)) p.justified (justified turns d w [] never refl j (body_ready x.body (end_ready x.ends)).paired)
+            same = one_from [] p.symbols ys (p.tokens ∙ sym (put_lexemes w [] refl)) p.justified (justified turns d w [] no_insertion refl j (body_ready x.body (end_ready x.ends)).paired)
                 (record { height = h; tree = b; derives = p.derives }) (record { height = a.1; tree = a.0; derives = record { last = x.last; body = x.body; ends = x.ends } });
             tree = a;
             reads = e [] refl;

@@ -1,7 +1,6 @@
 -- The look ahead behind `delete` answers of symbols as it answers of tokens, though semicolons are inserted.
 use Rattle.std.specs.Prelude.{◌≡◌, ℕ, zero, suc, ◌+◌, ◌<◌, ◌≤◌, max, Bool, true, false, not, cond, nat_lt, List, [], ◌∷◌, map, Ok, Err, Option, Some, None, is_some, ◌⊎◌}
 use Rattle.std.proofs.Common.{refl, sym, ap, arith, ◌∙◌, subst, inl, inr}
-use Rattle.cc_ast.specs.declared.operator.UnOp.TheVariants as u
 use Rattle.cc_ast.specs.declared.place.Place.{Place}
 use Rattle.cc_lexer.specs.declared.token.Mark.TheVariants as mark
 use Rattle.cc_grammar.specs.Symbols.{Kind, Lexeme, Symbols, real, inserted, look, rest, lexemes_of, is_mark}
@@ -9,7 +8,6 @@ use Rattle.cc_grammar.specs.Symbols as k
 use Rattle.cc_grammar.specs.RawTree.{RawExpr}
 use Rattle.cc_grammar.specs.Signs.{Prefix, is_variable, prefix_tree}
 use Rattle.cc_grammar.specs.Signs as sign
-use Rattle.cc_grammar.specs.RawTree as raw
 use Rattle.cc_grammar.specs.Grammar.{E}
 use Rattle.cc_grammar.specs.Reading.{Outcome, Fault, Sized, look_token, variable_of, goes_on, is_delete, is_remedy}
 use Rattle.cc_grammar.specs.Reading as r
@@ -21,6 +19,7 @@ use Rattle.cc_grammar.proofs.Shrinks.{reals}
 use Rattle.cc_grammar.proofs.Alike.{is_limit}
 use Rattle.cc_grammar.proofs.Ahead.{Spared, spared, remedied}
 use Rattle.cc_grammar.proofs.SoundParts.{SoundInner}
+use Rattle.cc_grammar.proofs.CompleteOperators.{deletes_no_variable}
 use Rattle.cc_grammar.proofs.Copies.{L, Copy, end, take, insert, put, Each, each_map, Late, look_real}
 use Rattle.cc_grammar.proofs.OnSymbols as s
 use Rattle.cc_grammar.proofs.OnTokens as t
@@ -225,10 +224,6 @@ opened_looks (suc m) count (w ∷ us) = looks_on w (looks_split (is_mark mark.Op
 
 -- ---- `delete`
 
-delete_tree : (o : Prefix) (p : Place) (e f : RawExpr) → is_delete o ≡ true → prefix_tree o p e ≡ Some f → is_variable e ≡ true → ⊥
-delete_tree (sign.unary u.Delete) p e f d q v = let none : ◌≡◌ {A = Option RawExpr} None (Some f) = ap (λ b. cond b None (Some (raw.unary p u.Delete e))) (sym v) ∙ q in (cc)
-delete_tree _ p e f d q v = absurd (cc)
-
 -- No variable is read as the operand.
 pub delete_spares : (d turns : ℕ) (inner : In) (sound : SoundInner d inner) (n : Bool) (o : Prefix) (w : Lexeme) (xs : Symbols) → is_delete o ≡ true
     → Done (λ _ _. (m : ℕ) → reals xs < m → Spared m xs) (s.prefix_expr d turns inner n o (real w ∷ xs))
@@ -239,5 +234,5 @@ delete_spares d turns inner sound n o w xs e = after (sound.expr n 13 xs (omega 
   refused (sign.unary o) p ys = err
 
   by : (a : Sized RawExpr) (ys : Symbols) → E a.1 n 13 xs a.0 ys → (f : Option RawExpr) → prefix_tree o w.place a.0 ≡ f → Done (λ _ _. (m : ℕ) → reals xs < m → Spared m xs) (s.prefix_by d turns inner o w.place a f ys)
-  by a ys x (Some f) q = ok (λ m lt. spared m lt x (λ v. absurd (delete_tree o w.place a.0 f e q v)))
+  by a ys x (Some f) q = ok (λ m lt. spared m lt x (λ v. absurd (deletes_no_variable o w.place a.0 f e q v)))
   by a ys x None q = meets.fork (is_remedy (look ys).kind) _ _ (λ z. ok (λ m lt. spared m lt x (λ _. remedied (consumed ys (k.due k.remedy) refl (remedy_true _ z))))) (λ _. refused o w.place ys)

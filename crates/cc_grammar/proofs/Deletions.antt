@@ -16,6 +16,7 @@ use Rattle.cc_grammar.specs.Grammar as g
 use Rattle.cc_grammar.specs.Grammar.{Sign, Variable, E}
 use Rattle.cc_grammar.specs.Reading.{Outcome, is_delete, goes_on, variable_of}
 use Rattle.cc_grammar.specs.Reading as r
+use Rattle.cc_grammar.proofs.Clashes.{never}
 use Rattle.cc_grammar.proofs.Marked.{marked, seen_variable}
 use Rattle.cc_grammar.proofs.Mono.{prefix_no_target, infix_no_target}
 use Rattle.cc_grammar.proofs.Shrinks.{reals, at_less}
@@ -148,9 +149,6 @@ uncast t e f = by t.noted f where
   by : (b : Bool) → is_variable (cond b (raw.cast t.place e) e) ≡ true → is_variable e ≡ true
   by true f = f
   by false f = f
-
-never : {A : Type 0} → false ≡ true → A
-never e = absurd (cc)
 
 -- an expression that is a variable
 pub variable_nest : {h l : ℕ} {b : Bool} {xs ys : Symbols} {e : RawExpr} → E h b l xs e ys → is_variable e ≡ true → Nest 0 xs ys

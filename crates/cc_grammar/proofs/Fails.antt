@@ -18,6 +18,7 @@ use Rattle.cc_grammar.specs.Grammar.{Context, At, Variable, E, T, is_tail, opens
 use Rattle.cc_grammar.specs.Faults.{any}
 use Rattle.cc_grammar.specs.Reading.{Outcome, Fault, Cause, Due, and_then, fault, either, refused_there, depth, refused, syntax, variable_of, goes_on}
 use Rattle.cc_grammar.specs.Reading as r
+use Rattle.cc_grammar.proofs.Clashes.{never}
 use Rattle.cc_grammar.proofs.Marked.{In}
 use Rattle.cc_grammar.proofs.Meets.{Done, ok, err}
 use Rattle.cc_grammar.proofs.Shrinks.{reals}
@@ -27,6 +28,7 @@ use Rattle.cc_grammar.proofs.Moves.{Front, stays}
 use Rattle.cc_grammar.proofs.Deletions.{Nest, nest_told}
 use Rattle.cc_grammar.proofs.Nests.{Spares}
 use Rattle.cc_grammar.proofs.OnSymbols as s
+use Rattle.cc_grammar.proofs.Firsts.{names}
 
 -- ---- tokens that complete what has begun
 
@@ -143,10 +145,6 @@ why_map f m (by_key e a q s j p) = by_key e a q s (f j) (m j _ p)
 
 -- ---- tokens that make what they begin or go on with higher
 
-abbrev pub names : Kind → Bool
-names (k.name n) = true
-names _ = false
-
 -- Such a token is no name, and no `delete` before a variable that is its whole operand.
 pub record Raises (x : Kind) (ys : Symbols) : Type 0 where
   pub unnamed : names x ≡ false
@@ -156,9 +154,6 @@ abbrev pub may_raise : Kind → Bool
 may_raise (k.name n) = false
 may_raise (k.word word.Delete) = false
 may_raise _ = true
-
-never : {A : Type 0} → false ≡ true → A
-never e = absurd (cc)
 
 no_name : (x : Kind) → may_raise x ≡ true → names x ≡ false
 no_name (k.name n) e = never e
@@ -240,7 +235,3 @@ pub record FailsInner (d n : ℕ) (inner : In) : Type 0 where
   pub callee : 0 < d → (b : Bool) (xs : Symbols) → reals xs < n → Fails d (λ j i. Begun (EE j b 17) xs i) (inner.expr b 17 xs)
   pub stmt : 0 < d → (c : Context) (xs : Symbols) → reals xs < n → Fails d (λ j i. Begun (TT c j) xs i) (inner.stmt c xs)
   pub block : 1 < d → (c : Context) (xs : Symbols) → reals xs < n → (look xs).kind ≡ k.mark mark.OpenBrace → Fails d (λ j i. Begun (XX c j) xs i) (inner.stmt c xs)
-
-pub any_done : {A : Type 0} (o : Outcome Symbols A) → Done (λ _ _. Unit {0}) o
-any_done (Ok p) = ok tt
-any_done (Err x) = err

@@ -7,9 +7,10 @@ use Rattle.cc_grammar.specs.Fronts.{Justified}
 use Rattle.cc_grammar.specs.Faults.{TokensFront, TokensFrontWithin, Splits, WrongAt, TooDeepAt, FaultAt, rank}
 use Rattle.cc_grammar.specs.Laws.{IsText, Fails, IsFirstFault}
 use Rattle.cc_grammar.specs.Reading.{Fault, Cause, syntax, depth, spent, refused}
+use Rattle.cc_grammar.proofs.Clashes.{clash, same_head, same_tail}
 use Rattle.cc_grammar.proofs.Alike.{is_limit, is_spent}
 use Rattle.cc_grammar.proofs.Copies.{L}
-use Rattle.cc_grammar.proofs.TokenFronts.{same_head, same_tail, lexemes_append, part_front, part_front_within}
+use Rattle.cc_grammar.proofs.TokenFronts.{lexemes_append, part_front, part_front_within}
 use Rattle.cc_grammar.proofs.Halts.{Halt, halt, is_deletion, is_plain}
 use Rattle.cc_grammar.proofs.Refusals.{refused_at, where_refused}
 use Rattle.cc_grammar.proofs.PlainFaults.{none_begins}
@@ -29,14 +30,11 @@ begins (u ∷ p) r (t ∷ x) y e le =
     let b = begins p r x y (same_tail u t (p ++ r) (x ++ y) e) (omega arith) in
     record { others = b.others; is = ap (λ (w : Lexeme). w ∷ p) (same_head u t (p ++ r) (x ++ y) e) ∙ ap (λ (l : L). t ∷ l) b.is }
 
-clash : true ≡ false → ⊥
-clash e = cc
-
 plain_whole : (c : Cause) → is_plain c ≡ true → is_deletion c ≡ false
 plain_whole syntax e = refl
 plain_whole depth e = refl
 plain_whole spent e = refl
-plain_whole (refused x) e = absurd (clash (sym e))
+plain_whole (refused x) e = clash (sym e)
 
 -- ---- where reading stops
 
@@ -110,7 +108,7 @@ module _ (n d : ℕ) (ts : L) (c : Fault) (s : Halt n d ts c) where
   fault_there syntax e m = wrong (ap is_limit e)
   fault_there depth e m = too_deep (ap is_limit e) (ap is_deletion e)
   fault_there spent e m = clash (sym (ap is_spent e) ∙ s.stopped_there.unspent)
-  fault_there (refused x) e m = absurd (clash (sym m))
+  fault_there (refused x) e m = clash (sym m)
 
   -- ---- at the same token
 
@@ -141,8 +139,8 @@ module _ (n d : ℕ) (ts : L) (c : Fault) (s : Halt n d ts c) where
   placed : (x : Cause) → c.cause ≡ x → is_plain x ≡ true → c.place ≡ s.token.place
   placed syntax e m = s.stopped_there.placed e
   placed depth e m = s.stopped_there.placed_deep (ap is_limit e)
-  placed spent e m = absurd (clash (sym (ap is_spent e) ∙ s.stopped_there.unspent))
-  placed (refused x) e m = absurd (clash (sym m))
+  placed spent e m = clash (sym (ap is_spent e) ∙ s.stopped_there.unspent)
+  placed (refused x) e m = clash (sym m)
 
 -- Where it stops, but not at a refused construct.
 plain_fault : (n d : ℕ) (ts : L) (f : Fault) → IsText ts → length ts < n → Halt n d ts f → is_plain f.cause ≡ true → Fails d ts f

@@ -1,5 +1,5 @@
 -- Where reading stops at a refused construct, where it begins, and that no refused construct begins earlier.
-use Rattle.std.specs.Prelude.{◌≡◌, ℕ, suc, ◌+◌, ◌<◌, not, Bool, true, false, is_some, Ok, Err, List, [], ◌∷◌, ◌++◌, map, length, ◌⊎◌, Some, None}
+use Rattle.std.specs.Prelude.{◌≡◌, ℕ, suc, ◌+◌, ◌<◌, not, Bool, true, false, is_some, Ok, Err, List, [], ◌∷◌, ◌++◌, map, length, ◌⊎◌, Some}
 use Rattle.std.proofs.Common.{refl, sym, ap, ◌∙◌, subst, arith, append_assoc, append-nil, length-append, inl, inr}
 use Rattle.cc_ast.specs.declared.reading.Construct.{Construct}
 use Rattle.cc_ast.specs.declared.reading.Construct.TheVariants as construct
@@ -15,6 +15,7 @@ use Rattle.cc_grammar.specs.Fronts.{IsFront, IsFrontWithin}
 use Rattle.cc_grammar.specs.Faults.{any, Begins, name, delete, RefusedAt}
 use Rattle.cc_grammar.specs.Laws.{IsText}
 use Rattle.cc_grammar.specs.Reading.{Outcome, Sized, Fault, Cause, goes_on, is_remedy, syntax, depth, spent, refused, read_symbols}
+use Rattle.cc_grammar.proofs.Clashes.{clash, never, none_some, some_is, same_construct}
 use Rattle.cc_grammar.proofs.Shrinks.{reals}
 use Rattle.cc_grammar.proofs.Alike.{is_limit}
 use Rattle.cc_grammar.proofs.NoFront.{no_front}
@@ -38,21 +39,6 @@ use Rattle.cc_grammar.proofs.OnSymbols as symbols
 
 abbrev Read : Type 0
 Read = Outcome Symbols (Sized (List RawStmt))
-
-clash : {A : Type 0} → true ≡ false → A
-clash e = absurd (cc)
-
-never : {A : Type 0} → false ≡ true → A
-never e = absurd (cc)
-
-none_some : {A : Type 0} {x : Construct} → None ≡ Some x → A
-none_some e = absurd (cc)
-
-some_is : {x y : Construct} → Some x ≡ Some y → x ≡ y
-some_is e = cc
-
-same_construct : {x y : Construct} → refused x ≡ refused y → x ≡ y
-same_construct e = cc
 
 -- ---- constructs that begin before the token at which they are refused
 

@@ -15,11 +15,9 @@ use Rattle.cc_grammar.specs.Grammar as g
 use Rattle.cc_grammar.specs.Grammar.{Context, At, Variable, E, T, opens_no_expression}
 use Rattle.cc_grammar.specs.Reading.{is_element, ends_list, start_of, variable_of}
 use Rattle.cc_grammar.specs.Reading as r
+use Rattle.cc_grammar.proofs.Clashes.{clash}
 use Rattle.cc_grammar.proofs.Views.{mark_true, word_true}
 use Rattle.cc_grammar.proofs.Steps.{kind_at, variable_rest}
-
-pub clash : true ≡ false → ⊥
-clash e = cc
 
 -- An expression may begin with it.
 abbrev pub opens : Kind → Bool
@@ -100,23 +98,23 @@ pub no_mark : (m : Mark) (x : Kind) → opens (k.mark m) ≡ false → opens x �
 no_mark m x f t = by (is_mark m x) refl where
   by : (b : Bool) → is_mark m x ≡ b → is_mark m x ≡ false
   by false e = e
-  by true e = absurd (clash (sym t ∙ ap opens (mark_true m x e) ∙ f))
+  by true e = clash (sym t ∙ ap opens (mark_true m x e) ∙ f)
 
 pub no_word : (w : Word) (x : Kind) → opens (k.word w) ≡ false → opens x ≡ true → is_word w x ≡ false
 no_word w x f t = by (is_word w x) refl where
   by : (b : Bool) → is_word w x ≡ b → is_word w x ≡ false
   by false e = e
-  by true e = absurd (clash (sym t ∙ ap opens (word_true w x e) ∙ f))
+  by true e = clash (sym t ∙ ap opens (word_true w x e) ∙ f)
 
 pub no_element : (x : Kind) → opens x ≡ true → is_element x ≡ false
-no_element (k.due k.element) e = absurd (clash (sym e))
+no_element (k.due k.element) e = clash (sym e)
 no_element _ e = refl
 
 pub no_list_end : (x : Kind) → opens x ≡ true → ends_list x ≡ false
-no_list_end (k.mark mark.CloseBrace) e = absurd (clash (sym e))
-no_list_end (k.word word.Case) e = absurd (clash (sym e))
-no_list_end (k.word word.Default) e = absurd (clash (sym e))
-no_list_end k.end e = absurd (clash (sym e))
+no_list_end (k.mark mark.CloseBrace) e = clash (sym e)
+no_list_end (k.word word.Case) e = clash (sym e)
+no_list_end (k.word word.Default) e = clash (sym e)
+no_list_end k.end e = clash (sym e)
 no_list_end _ e = refl
 
 -- what it is, where a statement begins with it
@@ -126,25 +124,25 @@ pub data Starts : Kind → Type 0 where
 
 not_refused : (c : Option Construct) → is_none c ≡ true → c ≡ None
 not_refused None e = refl
-not_refused (Some c) e = absurd (clash (sym e))
+not_refused (Some c) e = clash (sym e)
 
 pub starts : (x : Kind) → opens x ≡ true → opens_no_expression x ≡ false → Starts x
 starts (k.name n) e f = with_name (not_refused (refused_name n) e)
-starts (k.mark mark.OpenBrace) e f = absurd (clash f)
-starts (k.mark mark.Semicolon) e f = absurd (clash (sym e))
-starts (k.word word.Function) e f = absurd (clash f)
-starts (k.word word.Var) e f = absurd (clash (sym e))
-starts (k.word word.If) e f = absurd (clash (sym e))
-starts (k.word word.Do) e f = absurd (clash (sym e))
-starts (k.word word.While) e f = absurd (clash (sym e))
-starts (k.word word.For) e f = absurd (clash (sym e))
-starts (k.word word.Continue) e f = absurd (clash (sym e))
-starts (k.word word.Break) e f = absurd (clash (sym e))
-starts (k.word word.Return) e f = absurd (clash (sym e))
-starts (k.word word.Switch) e f = absurd (clash (sym e))
-starts (k.word word.Throw) e f = absurd (clash (sym e))
-starts (k.word word.Try) e f = absurd (clash (sym e))
-starts (k.due k.statement) e f = absurd (clash (sym e))
+starts (k.mark mark.OpenBrace) e f = clash f
+starts (k.mark mark.Semicolon) e f = clash (sym e)
+starts (k.word word.Function) e f = clash f
+starts (k.word word.Var) e f = clash (sym e)
+starts (k.word word.If) e f = clash (sym e)
+starts (k.word word.Do) e f = clash (sym e)
+starts (k.word word.While) e f = clash (sym e)
+starts (k.word word.For) e f = clash (sym e)
+starts (k.word word.Continue) e f = clash (sym e)
+starts (k.word word.Break) e f = clash (sym e)
+starts (k.word word.Return) e f = clash (sym e)
+starts (k.word word.Switch) e f = clash (sym e)
+starts (k.word word.Throw) e f = clash (sym e)
+starts (k.word word.Try) e f = clash (sym e)
+starts (k.due k.statement) e f = clash (sym e)
 starts _ e f = plainly refl
 
 -- ---- an expression that begins with a name is no label
@@ -159,18 +157,18 @@ not_in_table f m x a n e = by (is_mark m x) refl where
   by false q = q
   by true q = let no : None ≡ Some a = sym n ∙ ap f (sym (mark_true m x q)) ∙ e in (cc)
 
-abbrev is_a_name : Kind → Bool
-is_a_name (k.name n) = true
-is_a_name _ = false
+abbrev pub names : Kind → Bool
+names (k.name n) = true
+names _ = false
 
-not_a_name : {x : Kind} {v : List ℕ} {xs ys : Symbols} → At x xs ys → is_a_name x ≡ false → (look xs).kind ≡ k.name v → ⊥
-not_a_name c f s = clash (sym (ap is_a_name (sym (kind_at c) ∙ s)) ∙ f)
+not_a_name : {x : Kind} {v : List ℕ} {xs ys : Symbols} → At x xs ys → names x ≡ false → (look xs).kind ≡ k.name v → ⊥
+not_a_name c f s = clash (sym (ap names (sym (kind_at c) ∙ s)) ∙ f)
 
-literal_no_name : (x : Kind) (p : Prim) → literal_of x ≡ Some p → is_a_name x ≡ false
+literal_no_name : (x : Kind) (p : Prim) → literal_of x ≡ Some p → names x ≡ false
 literal_no_name (k.name n) p e = cc
 literal_no_name _ p e = refl
 
-prefix_no_name : (x : Kind) (o : Prefix) → prefix_of x ≡ Some o → is_a_name x ≡ false
+prefix_no_name : (x : Kind) (o : Prefix) → prefix_of x ≡ Some o → names x ≡ false
 prefix_no_name (k.name n) o e = cc
 prefix_no_name _ o e = refl
 

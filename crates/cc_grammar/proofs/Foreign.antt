@@ -14,7 +14,8 @@ use Rattle.cc_grammar.specs.Signs.{refused_name}
 use Rattle.cc_grammar.specs.Fronts.{IsFront, IsFrontWithin}
 use Rattle.cc_grammar.specs.Faults.{any}
 use Rattle.cc_grammar.specs.Laws.{is_last}
-use Rattle.cc_grammar.specs.Reading.{Outcome, Sized, Fault, goes_on, syntax, refused, read_symbols}
+use Rattle.cc_grammar.specs.Reading.{Outcome, Sized, Fault, goes_on, refused, read_symbols}
+use Rattle.cc_grammar.proofs.Clashes.{clash, no_syntax, head_is, tail_is}
 use Rattle.cc_grammar.proofs.Shrinks.{reals}
 use Rattle.cc_grammar.proofs.Alike.{is_limit}
 use Rattle.cc_grammar.proofs.NoFront.{no_front}
@@ -23,7 +24,7 @@ use Rattle.cc_grammar.proofs.Fails.{Fails, fine, stop, deleted, deep, here, due,
 use Rattle.cc_grammar.proofs.Fails as why
 use Rattle.cc_grammar.proofs.FrontsProgram.{Open, FrontAt, FrontOf, program_fails}
 use Rattle.cc_grammar.proofs.Copies.{L}
-use Rattle.cc_grammar.proofs.TokenFronts.{head_is, tail_is, first_token, higher_within}
+use Rattle.cc_grammar.proofs.TokenFronts.{first_token, higher_within}
 use Rattle.cc_grammar.proofs.Halts.{Reason, at_next, behind, stopped}
 
 abbrev Read : Type 0
@@ -32,12 +33,6 @@ Read = Outcome Symbols (Sized (List RawStmt))
 -- in place of a token one that nothing takes
 abbrev pub foreign : Lexeme → Lexeme
 foreign t = record t { kind = k.stop None }
-
-clash : {A : Type 0} → true ≡ false → A
-clash e = absurd (cc)
-
-no_syntax : {A : Type 0} {x : Construct} → syntax ≡ refused x → A
-no_syntax e = absurd (cc)
 
 -- where a list that ends with the token z is cut
 data CutAt (p before i : Symbols) (z : Lexeme) : Type 0 where

@@ -1,6 +1,6 @@
 -- Where reading stops, what came before is a front: the parts of statements.
-use Rattle.std.specs.Prelude.{◌≡◌, ℕ, zero, suc, ◌+◌, ◌<◌, ◌≤◌, max, Bool, true, false, cond, List, [], ◌∷◌, ◌++◌, Ok, Err, Option, Some, None}
-use Rattle.std.proofs.Common.{refl, inl, inr, sym, ap, arith, ◌∙◌, subst}
+use Rattle.std.specs.Prelude.{◌≡◌, ℕ, zero, suc, ◌<◌, ◌≤◌, max, Bool, true, false, List, [], ◌∷◌, ◌++◌}
+use Rattle.std.proofs.Common.{refl, sym, ap, arith, ◌∙◌}
 use Rattle.cc_ast.specs.Syntax.{undefined}
 use Rattle.cc_lexer.specs.declared.token.Mark.{Mark}
 use Rattle.cc_lexer.specs.declared.token.Mark.TheVariants as mark
@@ -9,25 +9,23 @@ use Rattle.cc_grammar.specs.Symbols.{Kind, Lexeme, Symbols, real, inserted, look
 use Rattle.cc_grammar.specs.Symbols as k
 use Rattle.cc_grammar.specs.RawTree.{RawExpr, RawTarget, RawForTarget, RawStmt, RawDeclarator, RawCase, RawInit, RawCatch, RawFinally, MaybeExpr, stmts}
 use Rattle.cc_grammar.specs.RawTree as raw
-use Rattle.cc_grammar.specs.Signs.{target_of}
 use Rattle.cc_grammar.specs.Grammar as g
 use Rattle.cc_grammar.specs.Grammar.{Context, in_loop, inside, At, Sign, Reserved, Variable, Ends, E, Declarator, Declarators, Init, Optional, Cases, Catch, Finally, T, Body, is_tail}
 use Rattle.cc_grammar.specs.Reading.{Outcome, Sized, Clause, and_then, clause_of, ends_list, semicolon_symbol, fault}
 use Rattle.cc_grammar.specs.Reading as r
-use Rattle.cc_grammar.proofs.Marked.{In, consumed, marked, worded, expected, ended, read_variable}
-use Rattle.cc_grammar.proofs.Meets.{Done, ok, err}
+use Rattle.cc_grammar.proofs.Marked.{In, consumed, marked, worded, expected, read_variable}
 use Rattle.cc_grammar.proofs.Views.{mark_true, IsClause, clause_is}
 use Rattle.cc_grammar.proofs.Views as view
-use Rattle.cc_grammar.proofs.Mono.{higher, higher_declarator, higher_declarators, higher_optional, higher_init, higher_body, higher_cases, higher_t}
-use Rattle.cc_grammar.proofs.Shrinks.{reals, at_less, variable_less, e_less, declarator_less, init_less, optional_less, body_less, t_less}
+use Rattle.cc_grammar.proofs.Mono.{higher, higher_declarator, higher_declarators, higher_body, higher_cases}
+use Rattle.cc_grammar.proofs.Shrinks.{reals, at_less, variable_less, e_less, declarator_less, body_less}
 use Rattle.cc_grammar.proofs.SoundParts.{SoundInner, whole_list}
 use Rattle.cc_grammar.proofs.SoundLists.{list_sound}
-use Rattle.cc_grammar.proofs.SoundStatements.{SoundExpr, declarator_sound, InParens, head_sound, optional_sound}
-use Rattle.cc_grammar.proofs.SoundJumps.{Blocked, block_in_sound}
+use Rattle.cc_grammar.proofs.SoundStatements.{SoundExpr, declarator_sound, InParens}
+use Rattle.cc_grammar.proofs.SoundJumps.{block_in_sound}
 use Rattle.cc_grammar.proofs.Moves.{Front, stays, joined, Fits, free, look_kept, kept_fits}
 use Rattle.cc_grammar.proofs.Moves as moves
-use Rattle.cc_grammar.proofs.MovesDerived.{e_moves, declarator_moves, body_moves, t_moves}
-use Rattle.cc_grammar.proofs.Fails.{token, new_at, taken, again, variable_taken, variable_again, First, same, fresh, Spot, here, due, left, put, Begun, EE, TT, no_e, no_t, Fails, fine, stop, fails_after, fails_map, fails_fork, fails_choice, fails_here, expect_fails, variable_fails, Block, XX, FailsInner}
+use Rattle.cc_grammar.proofs.MovesDerived.{e_moves, declarator_moves, body_moves}
+use Rattle.cc_grammar.proofs.Fails.{token, new_at, taken, again, variable_taken, variable_again, First, same, fresh, Spot, here, due, Begun, EE, Fails, fine, fails_after, fails_map, fails_fork, fails_choice, fails_here, expect_fails, variable_fails, XX, FailsInner}
 use Rattle.cc_grammar.proofs.FrontsLists.{BB, statements_fail}
 use Rattle.cc_grammar.proofs.OnSymbols as s
 

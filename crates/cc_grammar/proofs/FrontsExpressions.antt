@@ -18,6 +18,7 @@ use Rattle.cc_grammar.specs.Grammar as g
 use Rattle.cc_grammar.specs.Grammar.{At, Sign, Variable, E}
 use Rattle.cc_grammar.specs.Reading.{Outcome, Sized, and_then, is_delete, is_remedy, goes_on, variable_of}
 use Rattle.cc_grammar.specs.Reading as r
+use Rattle.cc_grammar.proofs.Clashes.{some_is}
 use Rattle.cc_grammar.proofs.Marked.{In, marked, found, expected}
 use Rattle.cc_grammar.proofs.Meets.{Done, ok, fork, weaken}
 use Rattle.cc_grammar.proofs.Mono.{bounded, above, settable, lower}
@@ -30,10 +31,11 @@ use Rattle.cc_grammar.proofs.Deletions.{Nest, nest_told, Found, Looks, looks_tru
 use Rattle.cc_grammar.proofs.Nests.{nothing_deleted}
 use Rattle.cc_grammar.proofs.MovesDerived.{e_moves}
 use Rattle.cc_grammar.proofs.Steps.{kind_at}
-use Rattle.cc_grammar.proofs.Fails.{token, new_at, taken, again, same, Spot, here, anew, Begun, EE, no_e, e_due, Fails, fine, deleted, fails_after, fails_map, fails_fork, fails_here, expect_fails, names, may_raise, Raises, raises, deeper_fails, at_is, FailsInner}
+use Rattle.cc_grammar.proofs.Fails.{token, new_at, taken, again, same, Spot, here, anew, Begun, EE, no_e, e_due, Fails, fine, deleted, fails_after, fails_map, fails_fork, fails_here, expect_fails, may_raise, Raises, raises, deeper_fails, at_is, FailsInner}
 use Rattle.cc_grammar.proofs.Onward.{Mends, onward, mended, mends, delete_other, delete_variable}
 use Rattle.cc_grammar.proofs.FrontsPrimary.{whole_e, lower_begun, primary_fails, suffixes_fail}
 use Rattle.cc_grammar.proofs.OnSymbols as s
+use Rattle.cc_grammar.proofs.Firsts.{names}
 
 -- ---- tokens of operators make what they stand in higher
 
@@ -57,12 +59,9 @@ infix_raises true (k.word word.Delete) o e = absurd (absent refl e)
 infix_raises false (k.word word.Delete) o e = absurd (absent refl e)
 infix_raises n _ o e = refl
 
-some_is : {A : Type 0} (x y : A) → ◌≡◌ {A = Option A} (Some x) (Some y) → x ≡ y
-some_is x y e = cc
-
 prefix_raises : (x : Kind) (o : Prefix) → prefix_of x ≡ Some o → is_delete o ≡ false → may_raise x ≡ true
 prefix_raises (k.name n) o e f = absurd (absent refl e)
-prefix_raises (k.word word.Delete) o e f = sym f ∙ ap is_delete (sym (some_is (sign.unary op.Delete) o e))
+prefix_raises (k.word word.Delete) o e f = sym f ∙ ap is_delete (sym (some_is e))
 prefix_raises _ o e f = refl
 
 delete_member : (o : Prefix) (p : Place) (q : Place) (e : RawExpr) (u : Place) (v : List ℕ) → is_delete o ≡ true → prefix_tree o p (raw.member q e u v) ≡ Some (raw.unary p op.Delete (raw.member q e u v))

@@ -1,6 +1,6 @@
 -- Where reading stops, what came before is a front: `for`.
-use Rattle.std.specs.Prelude.{◌≡◌, ℕ, zero, suc, ◌+◌, ◌<◌, ◌≤◌, max, Bool, true, false, cond, List, [], ◌∷◌, ◌++◌, Ok, Err, Option, Some, None}
-use Rattle.std.proofs.Common.{refl, sym, ap, arith, ◌∙◌, subst}
+use Rattle.std.specs.Prelude.{◌≡◌, ℕ, suc, ◌<◌, max, Bool, true, false, cond, List, [], ◌∷◌, Option, Some, None}
+use Rattle.std.proofs.Common.{refl, arith}
 use Rattle.cc_ast.specs.Syntax.{undefined}
 use Rattle.cc_lexer.specs.declared.token.Mark.TheVariants as mark
 use Rattle.cc_grammar.specs.declared.word.Word.TheVariants as word
@@ -13,16 +13,15 @@ use Rattle.cc_grammar.specs.Grammar as g
 use Rattle.cc_grammar.specs.Grammar.{Context, in_loop, At, Sign, Reserved, E, Declarator, Declarators, Init, Optional, T, is_tail}
 use Rattle.cc_grammar.specs.Reading.{Outcome, Sized, and_then}
 use Rattle.cc_grammar.specs.Reading as r
-use Rattle.cc_grammar.proofs.Marked.{In, marked, worded, expected}
-use Rattle.cc_grammar.proofs.Meets.{Done, ok, err}
-use Rattle.cc_grammar.proofs.Mono.{higher, higher_declarator, higher_declarators, higher_optional, higher_init, settable}
-use Rattle.cc_grammar.proofs.Shrinks.{reals, at_less, e_less, declarator_less, declarators_less, init_less, optional_less}
+use Rattle.cc_grammar.proofs.Marked.{In, worded, expected}
+use Rattle.cc_grammar.proofs.Mono.{higher, higher_declarator, higher_optional, higher_init, settable}
+use Rattle.cc_grammar.proofs.Shrinks.{reals, at_less, e_less, declarator_less, init_less, optional_less}
 use Rattle.cc_grammar.proofs.SoundParts.{SoundInner, whole_list}
-use Rattle.cc_grammar.proofs.SoundStatements.{declarators_sound, inner_expr, optional_sound}
-use Rattle.cc_grammar.proofs.Moves.{Front, stays, joined, look_kept}
-use Rattle.cc_grammar.proofs.MovesDerived.{e_moves, declarator_moves, declarators_move, init_moves, optional_moves}
-use Rattle.cc_grammar.proofs.Fails.{token, new_at, taken, again, First, same, fresh, Spot, here, due, left, put, Begun, EE, TT, no_e, no_t, Fails, fine, stop, fails_after, fails_map, fails_fork, fails_choice, fails_here, expect_fails, FailsInner}
-use Rattle.cc_grammar.proofs.FrontsClauses.{DS, no_declarators, declarators_fail, OO, optional_fails}
+use Rattle.cc_grammar.proofs.SoundStatements.{declarators_sound, inner_expr, optional_sound, one_at_least, one_of}
+use Rattle.cc_grammar.proofs.Moves.{Front, stays, joined}
+use Rattle.cc_grammar.proofs.MovesDerived.{e_moves, declarator_moves, init_moves, optional_moves}
+use Rattle.cc_grammar.proofs.Fails.{token, new_at, taken, again, same, fresh, Spot, here, Begun, EE, TT, Fails, fine, fails_after, fails_map, fails_fork, expect_fails, FailsInner}
+use Rattle.cc_grammar.proofs.FrontsClauses.{declarators_fail, OO, optional_fails}
 use Rattle.cc_grammar.proofs.OnSymbols as s
 
 -- a `for` of its parts
@@ -52,14 +51,6 @@ aim_moves (at_variable w v) = let m = declarator_moves v in record { front = joi
 aim_less : {h : ℕ} {t : RawForTarget} {xs ys : Symbols} → Aim h t xs ys → reals ys < reals xs
 aim_less (at_target x e) = e_less x
 aim_less (at_variable w v) = omega (arith, at_less w, declarator_less v)
-
-some_declarator : {h : ℕ} {n : Bool} {xs ys : Symbols} (vs : List RawDeclarator) → vs ≡ [] → Declarators h n xs vs ys → ⊥
-some_declarator vs e (g.last_declarator x) = cc
-some_declarator vs e (g.more_declarators x c m) = cc
-
-one_of : {h : ℕ} {n : Bool} {xs ys : Symbols} (vs : List RawDeclarator) (v : RawDeclarator) → vs ≡ v ∷ [] → Declarators h n xs vs ys → Declarator h n xs v ys
-one_of {h} {n} {xs} {ys} vs v e (g.last_declarator {v = w} x) = let equal : w ≡ v = cc in subst (λ u. Declarator h n xs u ys) equal x
-one_of vs v e (g.more_declarators {vs = us} x c m) = let none : us ≡ [] = cc in absurd (some_declarator us none m)
 
 module _ (d n : ℕ) (inner : In) (sound : SoundInner d inner) (all : FailsInner d n inner) where
   -- The parenthesis behind the word has come.
@@ -189,7 +180,7 @@ module _ (d n : ℕ) (inner : In) (sound : SoundInner d inner) (all : FailsInner
     for_vars_fails : (us ws : Symbols) (vs : List RawDeclarator) (h : ℕ) (b : Bool) → Reserved word.Var zs us → Declarators h false us vs ws → is_word word.In (look ws).kind ≡ b → h < d → Fails (suc d) FT (s.for_vars_by d n inner c (look xs).place vs h b ws)
     for_vars_fails us ws (v ∷ []) h true w m e lh = for_in_fails ws (raw.in_declared v.variable v.value) h (at_variable w (one_of _ v refl m)) e lh
     for_vars_fails us ws (v ∷ []) h false w m e lh = for_rest_fails ws (raw.init_vars (raw.declarators (v ∷ [])), h) (g.init_vars w m) lh
-    for_vars_fails us ws [] h b w m e lh = absurd (some_declarator [] refl m)
+    for_vars_fails us ws [] h b w m e lh = absurd (one_at_least [] refl m)
     for_vars_fails us ws (u ∷ v ∷ vs) h b w m e lh = for_rest_fails ws (raw.init_vars (raw.declarators (u ∷ v ∷ vs)), h) (g.init_vars w m) lh
 
     for_value_fails : (x : Sized RawExpr) (us : Symbols) → E x.1 false 0 zs x.0 us → x.1 < d → (t : Option RawTarget) (b : Bool) → target_of x.0 ≡ t → is_word word.In (look us).kind ≡ b → Fails (suc d) FT (s.for_value_by d n inner c (look xs).place x t b us)

@@ -19,7 +19,7 @@ use Rattle.cc_grammar.proofs.Shrinks.{reals, at_less, t_less, catch_less}
 use Rattle.cc_grammar.proofs.SoundParts.{SoundInner}
 use Rattle.cc_grammar.proofs.SoundPrimary.{free}
 use Rattle.cc_grammar.proofs.SoundExpressions.{after_head_sound, expr_sound}
-use Rattle.cc_grammar.proofs.SoundJumps.{Blocked, block_in_sound, catch_sound, finally_sound}
+use Rattle.cc_grammar.proofs.SoundJumps.{Blocked, block_in_sound, catch_sound, finally_sound, same_line}
 use Rattle.cc_grammar.proofs.Moves.{Front, stays, joined, Fits, look_kept, kept_fits}
 use Rattle.cc_grammar.proofs.Moves as moves
 use Rattle.cc_grammar.proofs.MovesDerived.{t_moves, catch_moves}
@@ -29,10 +29,6 @@ use Rattle.cc_grammar.proofs.FrontsExpressions.{expr_fails, after_head_fails}
 use Rattle.cc_grammar.proofs.FrontsClauses.{semicolon_fails, end_now, fits_first, no_block, block_in_fails, GG, finally_fails, CA, catch_fails}
 use Rattle.cc_grammar.proofs.FrontsStatements.{simple_begun, OnLine, on_line, no_finally, first_label, simple_fails}
 use Rattle.cc_grammar.proofs.OnSymbols as s
-
-same_line : (a b c d e : Bool) → (a || b || c || d || e) ≡ false → a ≡ false
-same_line false b c d e q = refl
-same_line true b c d e q = absurd (let no : true ≡ false = q in (cc))
 
 some_of : (a b : Bool) → (a || b) ≡ true → a ≡ false → b ≡ true
 some_of false b e f = e

@@ -19,7 +19,7 @@ use Rattle.cc_grammar.proofs.Views as view
 use Rattle.cc_grammar.proofs.Mono.{lower}
 use Rattle.cc_grammar.proofs.Shrinks.{reals, at_less, e_less, own_less}
 use Rattle.cc_grammar.proofs.SoundParts.{SoundInner, own_name_sound}
-use Rattle.cc_grammar.proofs.SoundPrimary.{chains, stands, Chained, primary_sound, dotted_sound, bracketed_sound, called_sound}
+use Rattle.cc_grammar.proofs.SoundPrimary.{chains, stands, Chained, primary_sound, dotted_sound, bracketed_sound, called_sound, below, some_call}
 use Rattle.cc_grammar.proofs.Moves.{stays, joined, look_kept}
 use Rattle.cc_grammar.proofs.MovesDerived.{e_moves, own_moves}
 use Rattle.cc_grammar.proofs.Fails.{token, new_at, taken, again, same, fresh, Spot, here, due, Begun, EE, no_e, e_due, name_due, Fails, fine, variable_missing, operand_missing, fails_after, fails_map, fails_fork, fails_here, expect_fails, raises, deeper_fails, FailsInner}
@@ -30,15 +30,8 @@ goes_on_by : (calls : Bool) → g.Chain (chains calls)
 goes_on_by true = g.chain
 goes_on_by false = g.member_chain
 
-low_enough : (calls : Bool) → stands calls ≤ chains calls
-low_enough true = omega arith
-low_enough false = omega arith
-
 has_suffix : (x : Kind) (s : Suffix) → suffix_of true x ≡ s → ¬ (s ≡ r.no_suffix) → ¬ (suffix_of true x ≡ r.no_suffix)
 has_suffix x s e f q = f (sym e ∙ q)
-
-a_call : (x : Kind) → is_mark mark.OpenParen x ≡ true → ¬ (suffix_of true x ≡ r.no_suffix)
-a_call x e = has_suffix x r.by_call (ap (suffix_of true) (mark_true mark.OpenParen x e)) (λ q. cc)
 
 own_name_fails : {b : ℕ} {P : ℕ → Spot → Type 0} (xs : Symbols) (j : ℕ) → j < b → P j (here xs) → P j (due k.variable xs) → Fails b P (s.own_name xs)
 unfolding r.own_name
@@ -126,7 +119,7 @@ module _ (d n : ℕ) (inner : In) (sound : SoundInner d inner) (all : FailsInner
   unfolding r.new_expr
   new_expr_fails b xs c lt ln = fails_after (sound.callee b (rest xs)) (fails_map suc (λ j l. omega arith) (λ j i w. new_begun b j c w) (all.callee lt b (rest xs) (omega (arith, at_less c)))) (λ f ys p.
       fails_fork (is_mark mark.OpenParen (look ys).kind) _ _
-      (λ e. let o = marked mark.OpenParen ys e in let t = p.0.member (a_call (look ys).kind e) in let m = e_moves t in
+      (λ e. let o = marked mark.OpenParen ys e in let t = p.0.member (some_call (look ys).kind e) in let m = e_moves t in
       fails_after (Rattle.cc_grammar.proofs.SoundLists.arguments_of_sound d n inner sound (rest ys) lt)
       (fails_map (λ j. suc (max f.1 j)) (λ j l. omega (arith, p.1)) (λ j i w. record {
         front = joined (taken c) (joined m.front (joined (taken o) w.front));
@@ -188,7 +181,7 @@ module _ (d n : ℕ) (inner : In) (sound : SoundInner d inner) (all : FailsInner
     front = joined m.front (taken c);
     more = λ zs. real (token (k.name [])) ∷ zs;
     tree = raw.member (look ys).place e nowhere [];
-    holds = λ zs. g.dotted (goes_on_by calls) (low_enough calls) (omega arith) (m.holds _) (again c _) (new_at (k.name [])) refl;
+    holds = λ zs. g.dotted (goes_on_by calls) (below calls) (omega arith) (m.holds _) (again c _) (new_at (k.name [])) refl;
     first = λ zs. same (look_kept m.front (e_less t) _);
   }
 
@@ -204,7 +197,7 @@ module _ (d n : ℕ) (inner : In) (sound : SoundInner d inner) (all : FailsInner
     front = joined m.front (joined (taken c) w.front);
     more = λ zs. w.more (real (token (k.mark mark.CloseBracket)) ∷ zs);
     tree = raw.index (look ys).place e w.tree;
-    holds = λ zs. g.bracketed (goes_on_by calls) (low_enough calls) (omega arith) (omega arith) (m.holds _) (again c _) (w.holds _) (new_at (k.mark mark.CloseBracket));
+    holds = λ zs. g.bracketed (goes_on_by calls) (below calls) (omega arith) (omega arith) (m.holds _) (again c _) (w.holds _) (new_at (k.mark mark.CloseBracket));
     first = λ zs. same (look_kept m.front (e_less t) _);
   }
 

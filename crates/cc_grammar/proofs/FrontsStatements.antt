@@ -15,7 +15,7 @@ use Rattle.cc_grammar.specs.Grammar.{Context, Labels, inside, in_loop, in_switch
 use Rattle.cc_grammar.specs.Reading.{Outcome, Sized, Start, and_then, semicolon_symbol, start_of, label_of, ends_return, is_some_label, is_remedy}
 use Rattle.cc_grammar.specs.Reading as r
 use Rattle.cc_grammar.proofs.Marked.{In, consumed, worded, expected, expected_word, ended, read_variable}
-use Rattle.cc_grammar.proofs.Meets.{weaken}
+use Rattle.cc_grammar.proofs.Meets.{weaken, any_done}
 use Rattle.cc_grammar.proofs.Shrinks.{reals, at_less, variable_less, t_less}
 use Rattle.cc_grammar.proofs.SoundParts.{SoundInner, whole_list}
 use Rattle.cc_grammar.proofs.SoundLists.{body_sound, function_sound}
@@ -24,7 +24,7 @@ use Rattle.cc_grammar.proofs.SoundStatements.{InParens, head_sound, declarators_
 use Rattle.cc_grammar.proofs.Moves.{Front, stays, joined, Fits, look_kept, kept_fits, no_tail}
 use Rattle.cc_grammar.proofs.Moves as moves
 use Rattle.cc_grammar.proofs.MovesDerived.{t_moves, declarators_move}
-use Rattle.cc_grammar.proofs.Fails.{token, new_at, taken, again, variable_taken, variable_again, First, same, fresh, Spot, here, due, anew, left, put, Begun, EE, TT, no_e, no_t, Fails, fine, stop, at_is, fails_after, fails_map, fails_fork, fails_choice, fails_here, expect_fails, expect_word_fails, variable_fails, deeper_fails, FailsInner}
+use Rattle.cc_grammar.proofs.Fails.{token, new_at, taken, again, variable_taken, variable_again, same, fresh, Spot, here, due, anew, put, Begun, EE, TT, Fails, fine, fails_after, fails_map, fails_fork, expect_fails, expect_word_fails, variable_fails, FailsInner}
 use Rattle.cc_grammar.proofs.FrontsLists.{CC, body_fails, UU, function_fails}
 use Rattle.cc_grammar.proofs.FrontsPrimary.{whole_e}
 use Rattle.cc_grammar.proofs.FrontsExpressions.{expr_fails}
@@ -337,5 +337,5 @@ module _ (d n : ℕ) (inner : In) (sound : SoundInner d inner) (all : FailsInner
   unfolding r.switch
   switch_fails c xs o lt ln = fails_after (head_sound d n inner sound (rest xs)) (fails_map (λ j. suc (max j 0)) (λ j l. omega arith) (λ j i w. switch_begun c j o w) (head_fails d n inner sound all (rest xs) lt (omega (arith, at_less o)))) (λ x ys p.
       fails_after (expected mark.OpenBrace ys) (expect_fails mark.OpenBrace ys _ (omega arith) (subject_begun c o p)) (λ _ zs q.
-      fails_after (Rattle.cc_grammar.proofs.Fails.any_done (s.clauses d n inner (in_switch c) n false [] 0 zs)) (fails_map (λ j. suc (max x.1 j)) (λ j l. omega (arith, p.low)) (λ j i w. cases_begun c j o p q w)
+      fails_after (any_done (s.clauses d n inner (in_switch c) n false [] 0 zs)) (fails_map (λ j. suc (max x.1 j)) (λ j l. omega (arith, p.low)) (λ j i w. cases_begun c j o p q w)
       (all_clauses_fail d n inner sound all (in_switch c) zs lt (omega (arith, at_less o, head_less d n inner sound all p, at_less q)))) (λ cs ws s. fine)))

@@ -14,12 +14,13 @@ use Rattle.cc_grammar.specs.Signs.{refused_name}
 use Rattle.cc_grammar.specs.Fronts.{IsFront, IsFrontWithin}
 use Rattle.cc_grammar.specs.Faults.{any}
 use Rattle.cc_grammar.specs.Reading.{Outcome, Sized, Fault, goes_on, refused, read_symbols}
+use Rattle.cc_grammar.proofs.Clashes.{clash, some_is, same_construct, head_is, tail_is, not_real}
 use Rattle.cc_grammar.proofs.Shrinks.{reals}
 use Rattle.cc_grammar.proofs.NoFront.{no_front}
 use Rattle.cc_grammar.proofs.Deletions.{Nest, bare, nested, Closers, closed_all, close_one}
 use Rattle.cc_grammar.proofs.Nests.{nest_opened}
 use Rattle.cc_grammar.proofs.Copies.{L, lexemes_real}
-use Rattle.cc_grammar.proofs.TokenFronts.{head_is, tail_is, not_real, lexemes_append, first_token, shorter_within}
+use Rattle.cc_grammar.proofs.TokenFronts.{lexemes_append, first_token, shorter_within}
 use Rattle.cc_grammar.proofs.Swap.{Pair, IsRefused, is_refused, Falls, falls_there, token}
 use Rattle.cc_grammar.proofs.Swap as swap
 use Rattle.cc_grammar.proofs.SwapSites.{change}
@@ -57,9 +58,6 @@ same_tokens us vs e = sym (lexemes_real us) ∙ ap lexemes_of e ∙ lexemes_real
 pub bare_nest : (us : L) → ((ws : Symbols) → Nest 0 (map real us ++ ws) ws) → Bare us
 bare_nest us nest = let w = nest_plain (nest []) in subst (λ z. Bare z) (same_tokens w.tokens us (append_cancel_right (map real w.tokens) (map real us) [] (sym w.is))) w.none
 
-clash : {A : Type 0} → true ≡ false → A
-clash e = absurd (cc)
-
 not_among : (us : L) (q rest : Symbols) (u : Lexeme) → Bare us → map real us ≡ q ++ real u ∷ rest → u.kind ≡ k.word word.Delete → ⊥
 not_among [] [] rest u h e d = absurd (cc)
 not_among [] (m ∷ q) rest u h e d = absurd (cc)
@@ -78,12 +76,9 @@ no_later (inserted ∷ q) (real m ∷ r) t u us rest h d e = absurd (not_real m 
 -- no name is refused as such a variable, or as `get` or `set`
 pub other_name : (v : List ℕ) {x : Construct} → refused_name v ≡ Some x → (x ≡ construct.EvalName) ⊎ (x ≡ construct.ArgumentsName)
 other_name v {x} e = by (bytes_eq (codes "eval") v) (bytes_eq (codes "arguments") v) e where
-  some_is : (y : Construct) → Some y ≡ Some x → x ≡ y
-  some_is y q = cc
-
   by : (a b : Bool) → cond a (Some construct.EvalName) (cond b (Some construct.ArgumentsName) None) ≡ Some x → (x ≡ construct.EvalName) ⊎ (x ≡ construct.ArgumentsName)
-  by true b q = inl (some_is construct.EvalName q)
-  by false true q = inr (some_is construct.ArgumentsName q)
+  by true b q = inl (sym (some_is q))
+  by false true q = inr (sym (some_is q))
   by false false q = absurd (cc)
 
 pub no_deletion : {A : Type 0} (v : List ℕ) → refused_name v ≡ Some construct.DeleteName → A
@@ -93,9 +88,6 @@ no_deletion {A} v e = by (other_name v e) where
   by (inr q) = absurd (cc)
 
 -- ---- the token that follows
-
-same_construct : {x y : Construct} → refused x ≡ refused y → x ≡ y
-same_construct e = cc
 
 pub pair_delete : (t : Lexeme) → t.kind ≡ k.word word.Delete → Pair k.operand t.kind false construct.DeleteName swap.deleted
 pair_delete t e = subst (λ z. Pair k.operand z false construct.DeleteName swap.deleted) (sym e) swap.delete

@@ -13,6 +13,7 @@ use Rattle.cc_grammar.specs.Fronts.{Derives, IsFront, IsFrontWithin, Offends, of
 use Rattle.cc_grammar.specs.Laws.{IsText, last, before, is_last}
 use Rattle.cc_grammar.specs.Reading.{Outcome, Sized, Fault, Cause, fault, look_token, goes_on, syntax, depth, spent, refused, read_symbols, read_tokens}
 use Rattle.cc_grammar.specs.Reading as r
+use Rattle.cc_grammar.proofs.Clashes.{clash, same_head, same_tail, nothing_some, head_is, tail_is, no_insertion}
 use Rattle.cc_grammar.proofs.Views.{mark_true}
 use Rattle.cc_grammar.proofs.Shrinks.{reals}
 use Rattle.cc_grammar.proofs.Complete.{program_read}
@@ -27,7 +28,7 @@ use Rattle.cc_grammar.proofs.Copies.{L, Copy, end, take, insert, put, put_lexeme
 use Rattle.cc_grammar.proofs.Copies as copies
 use Rattle.cc_grammar.proofs.CopyPrograms.{program_copy}
 use Rattle.cc_grammar.proofs.SoundTokens.{at_insertion, begun_behind, no_limit}
-use Rattle.cc_grammar.proofs.TokenFronts.{tail_is, head_is, real_is, same_head, same_tail, nothing_some, lexemes_append, put_front, first_token, higher_within, justified_before}
+use Rattle.cc_grammar.proofs.TokenFronts.{real_is, lexemes_append, put_front, first_token, higher_within, justified_before}
 
 -- ---- what is known of the symbols before a stop
 
@@ -60,13 +61,10 @@ pub record Stopped (d : ℕ) (c : Fault) (p : Symbols) (us : L) : Type 0 where
   pub raised : is_limit c.cause ≡ true → (t : Lexeme) (vs : L) → us ≡ t ∷ vs → Raises t.kind (map real vs)
   pub why : is_limit c.cause ≡ false → Reason d c p (p ++ map real us) (map real us)
 
-clash : true ≡ false → ⊥
-clash e = cc
-
 not_spent : (c : Cause) → is_limit c ≡ false → is_spent c ≡ false
 not_spent syntax e = refl
 not_spent depth e = refl
-not_spent spent e = absurd (clash e)
+not_spent spent e = clash e
 not_spent (refused x) e = refl
 
 -- the front has the symbols before
@@ -116,7 +114,7 @@ stopped {d} {c} {xs} p us e (deleted {c = a} {i} r o n j lt h g u w) q =
     let pairs : ◌≡◌ {A = Fault × Symbols} (a, i) (c, map real us) = cc in
     let refusing = ap (λ (z : Fault). z.cause) r in
     sharply p us e pairs (ap is_limit refusing) (λ m. let no : syntax ≡ refused construct.DeleteName = sym m ∙ refusing in absurd (cc)) w
-    (λ m. absurd (clash (sym (ap (λ (z : Fault × Symbols). is_deletion z.0.cause) (sym pairs) ∙ ap is_deletion refusing) ∙ m))) (behind r o n j (omega arith) h g)
+    (λ m. clash (sym (ap (λ (z : Fault × Symbols). is_deletion z.0.cause) (sym pairs) ∙ ap is_deletion refusing) ∙ m)) (behind r o n j (omega arith) h g)
 stopped {d} {c} {xs} p us e (deep {c = a} {i} {ys} m o j lt h t s r u w) q =
     let pairs : ◌≡◌ {A = Fault × Symbols} (a, i) (c, map real us) = cc in
     let same : a ≡ c = ap (λ (z : Fault × Symbols). z.0) pairs in
@@ -136,7 +134,7 @@ stopped {d} {c} {xs} p us e (deep {c = a} {i} {ys} m o j lt h t s r u w) q =
       raised = λ _ v vs f. let both : real t ∷ ys ≡ real v ∷ map real vs = s ∙ place ∙ ap (λ (l : L). map real l) f in
           let token : t ≡ v = real_is t v (head_is (real t) (real v) ys (map real vs) both) in
           let y = subst (λ (z : Lexeme). Raises z.kind ys) token r in subst (λ z. Raises v.kind z) (tail_is (real t) (real v) ys (map real vs) both) y;
-      why = λ f. absurd (clash (ap is_limit (sym m) ∙ ap (λ (z : Fault). is_limit z.cause) same ∙ f));
+      why = λ f. clash (ap is_limit (sym m) ∙ ap (λ (z : Fault). is_limit z.cause) same ∙ f);
     }
 
 -- ---- a text goes on there
@@ -232,16 +230,13 @@ pub record Inserts (n d : ℕ) (ts : L) (a : Symbols) : Type 0 where
 -- the insertions of the reader of tokens
 pub inserts : (n d : ℕ) {ts us : L} (w : Copy ts us) → Just (read_symbols n d) w → (a b : Symbols) → put w [] ≡ a ++ (inserted ∷ b) → Inserts n d ts a
 inserts n d {us} w j a b e =
-    let i = at_insertion (StopsAt (read_symbols n d)) w [] never j a b e in
+    let i = at_insertion (StopsAt (read_symbols n d)) w [] no_insertion j a b e in
     record {
       tokens = i.tokens;
       all = sym (put_lexemes w (map real us) (lexemes_real us)) ∙ ap lexemes_of (put_front w (map real us) ∙ ap (λ z. z ++ map real us) e ∙ append_assoc a (inserted ∷ b) (map real us)) ∙ lexemes_append a (inserted ∷ (b ++ map real us))
           ∙ ap (λ l. lexemes_of a ++ l) (ap (λ z. lexemes_of (z ++ map real us)) i.is ∙ ap lexemes_of (sym (put_front i.copy (map real us))) ∙ put_lexemes i.copy (map real us) (lexemes_real us));
       holds = i.holds;
-    } where
-      never : (b a : Symbols) → [] ≡ b ++ (inserted ∷ a) → ⊥
-      never [] a e = cc
-      never (m ∷ b) a e = cc
+    }
 
 -- Where reading a text stops, but the turns were enough.
 pub record Halt (n d : ℕ) (ts : L) (c : Fault) : Type 0 where

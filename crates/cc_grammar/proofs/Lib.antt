@@ -6,6 +6,7 @@ mod TreeRows
 mod DepthRows
 mod FrontRows
 mod ProgramRows
+pub mod Clashes
 pub mod Meets
 pub mod Views
 pub mod Marked

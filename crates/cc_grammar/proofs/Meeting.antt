@@ -3,8 +3,9 @@ use Rattle.std.specs.Prelude.{◌≡◌, ◌≤◌, [], ◌∷◌, ◌++◌, len
 use Rattle.std.proofs.Common.{refl, sym, ap, ◌∙◌, subst, arith, append_assoc, append-nil}
 use Rattle.cc_grammar.specs.Symbols.{Lexeme, Symbol, Symbols, real, inserted, lexemes_of}
 use Rattle.cc_grammar.specs.Fronts.{IsFront, Offends, offending, Justified}
+use Rattle.cc_grammar.proofs.Clashes.{same_head, same_tail}
 use Rattle.cc_grammar.proofs.Copies.{L}
-use Rattle.cc_grammar.proofs.TokenFronts.{same_head, same_tail, lexemes_append, first_token}
+use Rattle.cc_grammar.proofs.TokenFronts.{lexemes_append, first_token}
 
 -- of the front Q before the token t, and P
 pub data Met (Q P : Symbols) (t : Lexeme) : Type 0 where

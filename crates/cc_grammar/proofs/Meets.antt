@@ -26,3 +26,8 @@ fork false x y h k = k refl
 pub weaken : {S A : Type 0} {P Q : A → S → Type 0} {r : Outcome S A} → Done P r → ((a : A) (i : S) → P a i → Q a i) → Done Q r
 weaken (ok {a} {i} h) k = ok (k a i h)
 weaken err k = err
+
+-- whatever it reads
+pub any_done : {S A : Type 0} (o : Outcome S A) → Done (λ _ _. Unit {0}) o
+any_done (Ok p) = ok tt
+any_done (Err x) = err

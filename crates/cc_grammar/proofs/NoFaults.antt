@@ -1,5 +1,5 @@
 -- What is derived within the depth has no fault.
-use Rattle.std.specs.Prelude.{◌≡◌, ℕ, suc, ◌+◌, ◌≤◌, true, false, is_some, List, [], ◌∷◌, ◌++◌, map, length}
+use Rattle.std.specs.Prelude.{◌≡◌, ℕ, suc, ◌+◌, ◌≤◌, true, is_some, List, [], ◌∷◌, ◌++◌, map, length}
 use Rattle.std.proofs.Common.{sym, ap, ◌∙◌, subst, arith, append_assoc, append-nil, length-append}
 use Rattle.cc_ast.specs.declared.reading.Construct.{Construct}
 use Rattle.cc_grammar.specs.Symbols.{Lexeme, real, inserted, lexemes_of}
@@ -9,15 +9,13 @@ use Rattle.cc_grammar.specs.Fronts.{Derives, IsFrontWithin, Justified, ReadsWith
 use Rattle.cc_grammar.specs.Faults.{next_is, RefusedAt}
 use Rattle.cc_grammar.specs.Laws.{IsText, last, before, is_last, HasNoFault}
 use Rattle.cc_grammar.specs.Reading.{syntax, depth, spent, refused}
+use Rattle.cc_grammar.proofs.Clashes.{clash, same_head, same_tail}
 use Rattle.cc_grammar.proofs.Mono.{higher_body}
 use Rattle.cc_grammar.proofs.Copies.{L, lexemes_real}
-use Rattle.cc_grammar.proofs.TokenFronts.{same_head, same_tail, lexemes_append, part_front, part_front_within}
+use Rattle.cc_grammar.proofs.TokenFronts.{lexemes_append, part_front, part_front_within}
 use Rattle.cc_grammar.proofs.Halts.{inserts}
 use Rattle.cc_grammar.proofs.CompleteTokens.{Taken, taken}
 use Rattle.cc_grammar.proofs.Refutations.{Course, Rest, at_last, one_more_last, one_less_last, name_last, key_last, delete_last, delete_within, examined}
-
-clash : {A : Type 0} → true ≡ false → A
-clash e = absurd (cc)
 
 nothing_else : (a : L) (t : Lexeme) → [] ≡ a ++ t ∷ [] → ⊥
 nothing_else [] t e = cc

@@ -1,10 +1,11 @@
 -- Where reading stops at a symbol, but not at a limit, the symbols up to it are no front, of any height.
-use Rattle.std.specs.Prelude.{◌≡◌, ℕ, suc, ◌≤◌, max, true, false, Ok, Err, List, [], ◌∷◌, ◌++◌, length}
+use Rattle.std.specs.Prelude.{◌≡◌, ℕ, suc, ◌≤◌, max, false, Ok, Err, List, [], ◌∷◌, ◌++◌, length}
 use Rattle.std.proofs.Common.{refl, sym, ap, ◌∙◌, subst, arith, append_assoc, length-append}
 use Rattle.cc_grammar.specs.Symbols.{Symbol, Symbols}
 use Rattle.cc_grammar.specs.RawTree.{RawStmt}
 use Rattle.cc_grammar.specs.Fronts.{Derives, IsFront}
 use Rattle.cc_grammar.specs.Reading.{Outcome, Sized, Fault, read_symbols}
+use Rattle.cc_grammar.proofs.Clashes.{clash}
 use Rattle.cc_grammar.proofs.Shrinks.{reals}
 use Rattle.cc_grammar.proofs.Complete.{program_read}
 use Rattle.cc_grammar.proofs.Alike.{Bounds, limits, turns_alone, is_spent, Deeper, bounded, equal, Suffix, Stands, is_limit, IsErr, is_err, Held, limit, beyond, Decides, stops, barred, passes, limited}
@@ -24,9 +25,6 @@ no_err (is_err {x = y}) e = differ e refl
 
 no_stand : {t : Symbol} {xs : Symbols} {f : Fault} {o : Read} → o ≡ Err (f, t ∷ xs) → Stands xs o → ⊥
 no_stand {xs} e h = let P : Read → Type 0 = λ x. Stands xs x in too_long (subst P e h)
-
-clash : true ≡ false → ⊥
-clash e = cc
 
 held_there : {bounds : Bounds} {t : Symbol} {xs : Symbols} {f : Fault} {o : Read} → bounds.is f.cause ≡ false → o ≡ Err (f, t ∷ xs) → Held bounds xs o → ⊥
 held_there {bounds} {t} {xs} {f} l e (limit {x} h) =

@@ -5,6 +5,7 @@ use Rattle.cc_grammar.specs.Symbols.{Lexeme, Symbol, Symbols, real, inserted, le
 use Rattle.cc_grammar.specs.RawTree.{RawStmt}
 use Rattle.cc_grammar.specs.Fronts.{Derives, IsFront, Offends, offending, Justified, ReadsWithin}
 use Rattle.cc_grammar.specs.Laws.{IsOne}
+use Rattle.cc_grammar.proofs.Clashes.{same_head, same_tail, nothing_some}
 use Rattle.cc_grammar.proofs.Complete.{one_tree}
 
 -- it derives a program
@@ -16,15 +17,6 @@ pub record Is (xs : Symbols) : Type 0 where
 -- the front of what derives
 pub front_of : (b : Symbols) (x : Symbol) (xs : Symbols) → Is (b ++ x ∷ xs) → IsFront (b ++ x ∷ [])
 front_of b x xs p = record { height = p.height; within = record { more = xs; tree = p.tree; derives = subst (λ ys. Derives p.height ys p.tree) (sym (append_assoc b (x ∷ []) xs)) p.derives } }
-
-same_head : (t u : Lexeme) (ts us : List Lexeme) → t ∷ ts ≡ u ∷ us → t ≡ u
-same_head t u ts us e = cc
-
-same_tail : (t u : Lexeme) (ts us : List Lexeme) → t ∷ ts ≡ u ∷ us → ts ≡ us
-same_tail t u ts us e = cc
-
-nothing_some : (t : Lexeme) (ts : List Lexeme) → [] ≡ t ∷ ts → ⊥
-nothing_some t ts e = cc
 
 -- a token follows an insertion, and it doesn't go on with a front
 pub no_token : {b xs : Symbols} → Offends b xs → [] ≡ lexemes_of xs → ⊥

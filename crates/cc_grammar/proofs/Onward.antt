@@ -14,13 +14,11 @@ use Rattle.cc_grammar.specs.Signs as sign
 use Rattle.cc_grammar.specs.Grammar as g
 use Rattle.cc_grammar.specs.Grammar.{E}
 use Rattle.cc_grammar.specs.Reading.{goes_on, is_delete, is_remedy}
-use Rattle.cc_grammar.proofs.Views.{mark_true}
+use Rattle.cc_grammar.proofs.Clashes.{never}
+use Rattle.cc_grammar.proofs.Views.{mark_true, remedy_true}
 use Rattle.cc_grammar.proofs.Mono.{lower}
 use Rattle.cc_grammar.proofs.Deletions.{no_variable}
 use Rattle.cc_grammar.proofs.Fails.{token, new_at}
-
-never : {A : Type 0} → false ≡ true → A
-never e = absurd (cc)
 
 -- the tokens that go on with an operand
 data Going (t : Lexeme) : Type 0 where
@@ -30,10 +28,6 @@ data Going (t : Lexeme) : Type 0 where
   by_step : (up : Bool) → step_of t.kind ≡ Some up → t.after_line ≡ false → Going t
   by_remedy : t.kind ≡ k.due k.remedy → Going t
 
-remedy_is : (x : Kind) → is_remedy x ≡ true → x ≡ k.due k.remedy
-remedy_is (k.due k.remedy) e = refl
-remedy_is _ e = never e
-
 going : (t : Lexeme) → goes_on t ≡ true → Going t
 going t e = by (is_mark mark.Dot t.kind) (is_mark mark.OpenBracket t.kind) (is_mark mark.OpenParen t.kind) (step_of t.kind) t.after_line (is_remedy t.kind) refl refl refl refl refl refl e where
   by : (a b c : Bool) (o : Option Bool) (l r : Bool) → is_mark mark.Dot t.kind ≡ a → is_mark mark.OpenBracket t.kind ≡ b → is_mark mark.OpenParen t.kind ≡ c → step_of t.kind ≡ o → t.after_line ≡ l → is_remedy t.kind ≡ r
@@ -42,9 +36,9 @@ going t e = by (is_mark mark.Dot t.kind) (is_mark mark.OpenBracket t.kind) (is_m
   by false true c o l r p q u v w x e = by_bracket (mark_true mark.OpenBracket t.kind q)
   by false false true o l r p q u v w x e = by_call (mark_true mark.OpenParen t.kind u)
   by false false false (Some up) false r p q u v w x e = by_step up v w
-  by false false false (Some up) true true p q u v w x e = by_remedy (remedy_is t.kind x)
+  by false false false (Some up) true true p q u v w x e = by_remedy (remedy_true t.kind x)
   by false false false (Some up) true false p q u v w x e = never e
-  by false false false None l true p q u v w x e = by_remedy (remedy_is t.kind x)
+  by false false false None l true p q u v w x e = by_remedy (remedy_true t.kind x)
   by false false false None l false p q u v w x e = never e
 
 -- with the token, and what completes it, the operand is no variable

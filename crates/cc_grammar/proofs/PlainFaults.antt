@@ -12,16 +12,17 @@ use Rattle.cc_grammar.specs.Faults.{any, next_is, Begins, itself, regexp, hole, 
 use Rattle.cc_grammar.specs.Laws.{IsText}
 use Rattle.cc_grammar.specs.Reading.{Fault, fault, either, is_remedy, refused, read_symbols}
 use Rattle.cc_grammar.specs.Reading as r
+use Rattle.cc_grammar.proofs.Clashes.{clash, never, same_head, same_tail}
 use Rattle.cc_grammar.proofs.Alike.{is_limit}
 use Rattle.cc_grammar.proofs.NoFront.{no_front, too_long}
 use Rattle.cc_grammar.proofs.Deletions.{Nest}
 use Rattle.cc_grammar.proofs.Paired.{Paired, end_ready, body_ready}
-use Rattle.cc_grammar.proofs.Fails.{Why, names}
+use Rattle.cc_grammar.proofs.Fails.{Why}
 use Rattle.cc_grammar.proofs.Fails as why
 use Rattle.cc_grammar.proofs.FrontsProgram.{FrontOf}
 use Rattle.cc_grammar.proofs.Copies.{L}
 use Rattle.cc_grammar.proofs.SoundTokens.{begun_behind}
-use Rattle.cc_grammar.proofs.TokenFronts.{same_head, same_tail, lexemes_append, first_token}
+use Rattle.cc_grammar.proofs.TokenFronts.{lexemes_append, first_token}
 use Rattle.cc_grammar.proofs.Halts.{Halt, Reason, at_next, behind, is_plain}
 use Rattle.cc_grammar.proofs.Swap.{Next, Pair, Fitting, anything}
 use Rattle.cc_grammar.proofs.Swap as swap
@@ -30,12 +31,7 @@ use Rattle.cc_grammar.proofs.Verdicts.{Said, said_refused, said_limited, said_pa
 use Rattle.cc_grammar.proofs.GoesOn.{pair_delete}
 use Rattle.cc_grammar.proofs.Refutations.{Deleting, deleting, not_fresh, slash_pair, key_pair, comma_pair, function_pair, label_pair, name_pair, next_look, no_remedy}
 use Rattle.cc_grammar.proofs.Settled.{Answered, by_name, by_key, by_delete, Settled, answered, same_end, firm_end, settled, deleted_fits, operand_ends, accessor_names}
-
-clash : {A : Type 0} → true ≡ false → A
-clash e = absurd (cc)
-
-never : {A : Type 0} → false ≡ true → A
-never e = absurd (cc)
+use Rattle.cc_grammar.proofs.Firsts.{names}
 
 -- the construct begins behind these symbols, at this token
 pub begins_by : {p q : Symbols} {t u : Lexeme} {ts us : L} {x : Construct} → q ≡ p → t ≡ u → ts ≡ us → Begins q t ts x → Begins p u us x

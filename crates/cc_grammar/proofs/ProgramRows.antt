@@ -1,6 +1,6 @@
 -- Two programs and a fault of each kind, computed: a program with semicolons that are inserted, another cut off behind each of its tokens
 -- and within its string, and a great depth. Above each row stands its text, in which `@` is a line end.
-use Rattle.std.specs.Prelude.{◌≡◌, ℕ, List, [], ◌∷◌, Ok, Err, Option, Some, None, Bool, true, replicate, length, map, ◌++◌}
+use Rattle.std.specs.Prelude.{◌≡◌, ℕ, List, [], ◌∷◌, Option, Some, None, true, replicate, map, ◌++◌}
 use Rattle.std.proofs.Common.{refl}
 use Rattle.cc_ast.specs.declared.reading.Construct.TheVariants as construct
 use Rattle.cc_lexer.specs.declared.token.Mark.TheVariants as m

@@ -15,6 +15,7 @@ use Rattle.cc_grammar.specs.Fronts.{IsFront, IsFrontWithin, Justified}
 use Rattle.cc_grammar.specs.Faults.{any, Begins, itself, regexp, hole, function, name, accessor, delete, RefusedAt}
 use Rattle.cc_grammar.specs.Reading.{Fault, fault, either, syntax, refused}
 use Rattle.cc_grammar.specs.Reading as r
+use Rattle.cc_grammar.proofs.Clashes.{clash, none_some, some_is, no_syntax, same_construct}
 use Rattle.cc_grammar.proofs.Fails.{due, Why, by_token, by_variable, by_operand, by_element, by_statement, by_name, by_key}
 use Rattle.cc_grammar.proofs.Deletions.{Nest, nest_told, nest_found, all_closed}
 use Rattle.cc_grammar.proofs.FrontsProgram.{FrontOf}
@@ -62,21 +63,6 @@ pub data Where (d : ℕ) (ts : L) (f : Fault) (c : Construct) (p : Symbols) (t :
   at_key : (q : Symbols) (u : Lexeme) → p ≡ q ++ real u ∷ [] → c ≡ construct.Accessor → Refusal d ts f c q u (t ∷ vs) → Where d ts f c p t vs
   at_delete : (q : Symbols) (u : Lexeme) (us : L) → p ≡ q ++ real u ∷ map real us → u.kind ≡ k.word word.Delete → c ≡ construct.DeleteName → Refusal d ts f c q u (us ++ t ∷ vs) → Where d ts f c p t vs
 
-clash : {A : Type 0} → true ≡ false → A
-clash e = absurd (cc)
-
-none_some : {A : Type 0} {x : Construct} → None ≡ Some x → A
-none_some e = absurd (cc)
-
-no_syntax : {A : Type 0} {x : Construct} → syntax ≡ refused x → A
-no_syntax e = absurd (cc)
-
-same_construct : (x y : Construct) → refused x ≡ refused y → x ≡ y
-same_construct x y e = cc
-
-some_is : (x y : Construct) → Some x ≡ Some y → x ≡ y
-some_is x y e = cc
-
 filled_end : (a : Symbols) (t : Lexeme) → Filled (a ++ real t ∷ [])
 filled_end [] t = tt
 filled_end (m ∷ a) t = tt
@@ -88,8 +74,8 @@ closed_end (inserted ∷ a) t = (filled_end a t, closed_end a t)
 
 -- a fault at a token that is refused
 by_cause : (a b : Option Construct) (c : Construct) → either a b ≡ refused c → (a ≡ Some c) ⊎ (b ≡ Some c)
-by_cause (Some x) b c e = inl (ap (λ y. Some y) (same_construct x c e))
-by_cause None (Some x) c e = inr (ap (λ y. Some y) (same_construct x c e))
+by_cause (Some x) b c e = inl (ap (λ y. Some y) (same_construct e))
+by_cause None (Some x) c e = inr (ap (λ y. Some y) (same_construct e))
 by_cause None None c e = no_syntax e
 
 -- a name where a variable is due
@@ -110,8 +96,8 @@ no_variable _ c e = none_some e
 
 no_operand : (x : Kind) (c : Construct) → r.refused_there r.an_operand x ≡ Some c → NameOf x c ⊎ ((is_slash x ≡ true) × (construct.RegExp ≡ c))
 no_operand (k.name n) c e = inl (record { name = n; kind = refl; is = e })
-no_operand (k.mark mark.Slash) c e = inr (refl, some_is construct.RegExp c e)
-no_operand (k.mark mark.SlashEqual) c e = inr (refl, some_is construct.RegExp c e)
+no_operand (k.mark mark.Slash) c e = inr (refl, some_is e)
+no_operand (k.mark mark.SlashEqual) c e = inr (refl, some_is e)
 no_operand _ c e = none_some e
 
 module _ (d : ℕ) (ts : L) (f : Fault) (p : Symbols) (t : Lexeme) (vs : L) (tokens : ts ≡ lexemes_of p ++ t ∷ vs) (justified : Justified (p ++ real t ∷ [])) (front : IsFront p) (sharp : ¬ (IsFront (p ++ real t ∷ []))) where
@@ -178,20 +164,20 @@ module _ (d : ℕ) (ts : L) (f : Fault) (p : Symbols) (t : Lexeme) (vs : L) (tok
     by (inl h) = firmly c low place h k.operand refl (due_there k.operand w)
     by (inr h) = there (no_operand t.kind c h)
   by_why c q low (by_element e m j w) =
-      let same = same_construct construct.Hole c (sym (ap (λ (x : Fault). x.cause) e) ∙ q) in
+      let same = same_construct (sym (ap (λ (x : Fault). x.cause) e) ∙ q) in
       now (part_due k.element refl (due_there k.element w) (inr (λ o. let no : construct.Hole ≡ construct.Accessor = same ∙ o in (cc))))
       (begins_at c low (ap (λ (x : Fault). x.place) e) (subst (λ x. Begins p t vs x) same (hole m (due_there k.element w) sharp)))
   by_why c q low (by_statement e m j w) =
-      let same = same_construct construct.BlockFunction c (sym (ap (λ (x : Fault). x.cause) e) ∙ q) in
+      let same = same_construct (sym (ap (λ (x : Fault). x.cause) e) ∙ q) in
       now (part_due k.statement refl (due_there k.statement w) (inr (λ o. let no : construct.BlockFunction ≡ construct.Accessor = same ∙ o in (cc))))
       (begins_at c low (ap (λ (x : Fault). x.place) e) (subst (λ x. Begins p t vs x) same (function m (due_there k.statement w) sharp)))
   by_why c q low (by_name {n = v} {x} e (g.at_token u m) n o j w) =
-      let same = same_construct x c (sym (ap (λ (x : Fault). x.cause) e) ∙ q) in
+      let same = same_construct (sym (ap (λ (x : Fault). x.cause) e) ∙ q) in
       let is = before_is w.before u [] _ refl w.is in
       at_name w.before u v is (n ∙ ap (λ (y : Construct). Some y) same) (earlier w.before u [] c is (low_part w.before u low is) (ap (λ (x : Fault). x.place) e)
       (subst (λ y. Begins w.before u (t ∷ vs) y) same (name m n (due_front k.variable u w) (λ (h : is_mark mark.Colon t.kind ≡ true). clash (sym h ∙ o)))))
   by_why c q low (by_key e (g.at_token u m) n o j w) =
-      let same = same_construct construct.Accessor c (sym (ap (λ (x : Fault). x.cause) e) ∙ q) in
+      let same = same_construct (sym (ap (λ (x : Fault). x.cause) e) ∙ q) in
       let is = before_is w.before u [] _ refl w.is in
       at_key w.before u is (sym same) (earlier w.before u [] c is (low_part w.before u low is) (ap (λ (x : Fault). x.place) e)
       (subst (λ y. Begins w.before u (t ∷ vs) y) same (accessor (ap is_accessor m ∙ n) (due_front k.key u w) o)))
@@ -200,7 +186,7 @@ module _ (d : ℕ) (ts : L) (f : Fault) (p : Symbols) (t : Lexeme) (vs : L) (tok
   deletion c q e (g.at_token u m) nest le w =
       let h = nest_told nest in
       let x = nest_found false 13 (h.moved []) in
-      let same = same_construct construct.DeleteName c (sym (ap (λ (x : Fault). x.cause) e) ∙ q) in
+      let same = same_construct (sym (ap (λ (x : Fault). x.cause) e) ∙ q) in
       let is = before_is w.before u h.tokens _ (ap (λ l. real u ∷ l) h.is) w.is in
       at_delete w.before u h.tokens is m (sym same) (earlier w.before u h.tokens c is (higher_within le (shorter_within w.before (any k.operand u ∷ []) w.front)) (ap (λ (x : Fault). x.place) e)
       (subst (λ y. Begins w.before u (h.tokens ++ t ∷ vs) y) same

@@ -17,6 +17,7 @@ use Rattle.cc_grammar.specs.Laws.{IsText, is_inner, is_last}
 use Rattle.cc_grammar.specs.Laws as text
 use Rattle.cc_grammar.specs.Reading.{Fault, fault, either, goes_on, is_remedy, syntax, refused, read_symbols}
 use Rattle.cc_grammar.specs.Reading as r
+use Rattle.cc_grammar.proofs.Clashes.{clash, never, none_some, no_syntax, same_construct, same_head, same_tail}
 use Rattle.cc_grammar.proofs.Shrinks.{reals}
 use Rattle.cc_grammar.proofs.NoFront.{no_front, too_long}
 use Rattle.cc_grammar.proofs.Deletions.{Nest, nest_told, variable_nest}
@@ -24,7 +25,7 @@ use Rattle.cc_grammar.proofs.Nests.{nest_opened}
 use Rattle.cc_grammar.proofs.Paired.{is_fresh, Begun, Paired, end_ready, body_ready}
 use Rattle.cc_grammar.proofs.Copies.{L, StopsAt, lexemes_real}
 use Rattle.cc_grammar.proofs.SoundTokens.{begun_behind, no_limit}
-use Rattle.cc_grammar.proofs.TokenFronts.{same_head, same_tail, lexemes_append, shorter, first_token}
+use Rattle.cc_grammar.proofs.TokenFronts.{lexemes_append, shorter, first_token}
 use Rattle.cc_grammar.proofs.Halts.{Inserts}
 use Rattle.cc_grammar.proofs.Swap.{Next, Pair, Fitting, anything, no_colon, a_key}
 use Rattle.cc_grammar.proofs.Swap as swap
@@ -65,21 +66,6 @@ pub data Rest (P : Symbols) (us : L) (q : Symbols) (t : Lexeme) (after : L) (c :
   delete_within : (w : Deleting q t after) (m : Lexeme) (some more others : L) → P ≡ q ++ real t ∷ map real some → w.operand ≡ some ++ m ∷ more → us ≡ m ∷ others → c ≡ construct.DeleteName → Rest P us q t after c
 
 -- ---- what is known of tokens
-
-clash : {A : Type 0} → true ≡ false → A
-clash e = absurd (cc)
-
-never : {A : Type 0} → false ≡ true → A
-never e = absurd (cc)
-
-no_syntax : {A : Type 0} {x : Construct} → syntax ≡ refused x → A
-no_syntax e = absurd (cc)
-
-none_some : {A : Type 0} {x : Construct} → None ≡ Some x → A
-none_some e = absurd (cc)
-
-same_construct : {x y : Construct} → refused x ≡ refused y → x ≡ y
-same_construct e = cc
 
 -- a token that refuses itself stands behind no insertion
 pub not_fresh : (y : Kind) (x : Construct) → refused_kind y ≡ Some x → is_fresh y ≡ false

@@ -12,13 +12,13 @@ use Rattle.cc_grammar.specs.Fronts.{IsFront, IsFrontWithin, Offends, offending, 
 use Rattle.cc_grammar.specs.Faults.{any, next_is, Begins, itself, regexp, hole, function, name, accessor, delete}
 use Rattle.cc_grammar.specs.Laws.{IsText}
 use Rattle.cc_grammar.specs.Reading.{Fault, Cause, goes_on, is_remedy, syntax, depth, spent, refused, read_symbols}
+use Rattle.cc_grammar.proofs.Clashes.{clash, never, same_head, same_tail}
 use Rattle.cc_grammar.proofs.Shrinks.{reals}
 use Rattle.cc_grammar.proofs.Alike.{is_limit}
 use Rattle.cc_grammar.proofs.NoFront.{no_front}
 use Rattle.cc_grammar.proofs.Nests.{nest_opened}
-use Rattle.cc_grammar.proofs.Fails.{names}
 use Rattle.cc_grammar.proofs.Copies.{L, Shut, lexemes_real}
-use Rattle.cc_grammar.proofs.TokenFronts.{same_head, same_tail, lexemes_append, shorter, shorter_within}
+use Rattle.cc_grammar.proofs.TokenFronts.{lexemes_append, shorter, shorter_within}
 use Rattle.cc_grammar.proofs.Halts.{Halt, is_deletion}
 use Rattle.cc_grammar.proofs.Swap.{Change, Next, Pair, Fitting, IsLimit, anything, no_colon, a_key, token}
 use Rattle.cc_grammar.proofs.Swap as swap
@@ -27,12 +27,7 @@ use Rattle.cc_grammar.proofs.Verdicts.{Said, said_refused, said_limited, said_pa
 use Rattle.cc_grammar.proofs.GoesOn.{pair_delete, goes_on_front}
 use Rattle.cc_grammar.proofs.Refutations.{Course, Deleting, Rest, at_last, one_more_last, one_less_last, name_last, key_last, delete_last, delete_within, key_pair, name_pair, next_look, no_remedy, denied, examined}
 use Rattle.cc_grammar.proofs.OnSymbols as symbols
-
-clash : {A : Type 0} → true ≡ false → A
-clash e = absurd (cc)
-
-never : {A : Type 0} → false ≡ true → A
-never e = absurd (cc)
+use Rattle.cc_grammar.proofs.Firsts.{names}
 
 -- no limit deletes
 kept : (c : Cause) → is_limit c ≡ true → is_deletion c ≡ false

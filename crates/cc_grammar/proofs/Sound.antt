@@ -1,6 +1,6 @@
 -- What is read of a list of symbols is derived, at every depth.
-use Rattle.std.specs.Prelude.{◌≡◌, ℕ, zero, suc, ◌≤◌, Bool, true, false, nat_lt, List, []}
-use Rattle.std.proofs.Common.{refl, ap, ◌∙◌, arith, ltb-true}
+use Rattle.std.specs.Prelude.{◌≡◌, ℕ, zero, suc, ◌≤◌, Bool, true, false, nat_lt, List, [], Ok}
+use Rattle.std.proofs.Common.{refl, ap, subst, ◌∙◌, arith, ltb-true}
 use Rattle.cc_grammar.specs.Symbols.{Kind, Symbols, look, rest}
 use Rattle.cc_grammar.specs.Symbols as k
 use Rattle.cc_grammar.specs.RawTree.{RawExpr, RawStmt}
@@ -75,3 +75,9 @@ pub symbols_sound : (turns d : ℕ) (xs : Symbols) → Done (λ b ys. Ended d xs
 unfolding read_symbols r.program
 symbols_sound turns d xs = after (list_sound (suc d) turns (r.reader Symbols look rest semicolon_symbol turns d) (reader_sound turns d) of_program turns [] 0 xs (omega arith)) (λ b ys p.
     after (expected_end ys) (λ _ zs q. ok (record { last = ys; body = whole_list p.0; ends = q; low = omega (arith, p.0.low) })))
+
+pub ended_at : (d : ℕ) (xs : Symbols) (b : Sized (List RawStmt)) (ys : Symbols) (o : Outcome Symbols (Sized (List RawStmt))) → Done (λ b ys. Ended d xs b ys) o → o ≡ Ok (b, ys) → Ended d xs b ys
+ended_at d xs b ys o (ok {a} {i} p) e =
+    let pairs : ◌≡◌ {A = Sized (List RawStmt) × Symbols} (a, i) (b, ys) = cc in
+    subst (λ (q : Sized (List RawStmt) × Symbols). Ended d xs q.0 q.1) pairs p
+ended_at d xs b ys o err e = absurd (cc)

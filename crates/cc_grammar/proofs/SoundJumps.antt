@@ -34,7 +34,7 @@ label_line x false n e = refl
 label_line (k.name u) true n e = absurd (cc)
 label_line _ true n e = absurd (cc)
 
-same_line : (a b c d e : Bool) → (a || b || c || d || e) ≡ false → a ≡ false
+pub same_line : (a b c d e : Bool) → (a || b || c || d || e) ≡ false → a ≡ false
 same_line false b c d e q = refl
 same_line true b c d e q = absurd (cc)
 

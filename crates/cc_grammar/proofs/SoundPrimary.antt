@@ -33,7 +33,7 @@ chain_of : (calls : Bool) → Chain (chains calls)
 chain_of true = chain
 chain_of false = member_chain
 
-below : (calls : Bool) → stands calls ≤ chains calls
+pub below : (calls : Bool) → stands calls ≤ chains calls
 below true = omega arith
 below false = omega arith
 
@@ -56,7 +56,7 @@ no_call (k.mark mark.Dot) e f = f
 no_call (k.mark mark.OpenBracket) e f = f
 no_call _ e f = refl
 
-some_call : (x : Kind) → is_mark mark.OpenParen x ≡ true → ¬ (suffix_of true x ≡ r.no_suffix)
+pub some_call : (x : Kind) → is_mark mark.OpenParen x ≡ true → ¬ (suffix_of true x ≡ r.no_suffix)
 some_call x e q = let s : suffix_of true x ≡ r.by_call = ap (suffix_of true) (mark_true mark.OpenParen x e) in let no : r.by_call ≡ r.no_suffix = sym s ∙ q in (cc)
 
 module _ (d turns : ℕ) (inner : In) (sound : SoundInner d inner) where

@@ -44,14 +44,14 @@ declarators_sound b expr sound d turns inner n (suc m) before h xs lt = after (d
     }))
     (λ _. ok (record { more = x.0 ∷ []; tree = g.last_declarator (higher_declarator (max h x.1) (omega arith) p.0); is = refl; above = omega arith; low = omega (arith, p.1) })))
 
-some_declarator : {h : ℕ} {n : Bool} {xs ys : Symbols} (vs : List RawDeclarator) → vs ≡ [] → Declarators h n xs vs ys → ⊥
-some_declarator vs e (g.last_declarator x) = cc
-some_declarator vs e (g.more_declarators x c m) = cc
+pub one_at_least : {h : ℕ} {n : Bool} {xs ys : Symbols} (vs : List RawDeclarator) → vs ≡ [] → Declarators h n xs vs ys → ⊥
+one_at_least vs e (g.last_declarator x) = cc
+one_at_least vs e (g.more_declarators x c m) = cc
 
 -- a list of one
-one_of : {h : ℕ} {n : Bool} {xs ys : Symbols} (vs : List RawDeclarator) (v : RawDeclarator) → vs ≡ v ∷ [] → Declarators h n xs vs ys → Declarator h n xs v ys
+pub one_of : {h : ℕ} {n : Bool} {xs ys : Symbols} (vs : List RawDeclarator) (v : RawDeclarator) → vs ≡ v ∷ [] → Declarators h n xs vs ys → Declarator h n xs v ys
 one_of {h} {n} {xs} {ys} vs v e (g.last_declarator {v = w} x) = let same : w ≡ v = cc in subst (λ u. Declarator h n xs u ys) same x
-one_of vs v e (g.more_declarators {vs = us} x c m) = let none : us ≡ [] = cc in absurd (some_declarator us none m)
+one_of vs v e (g.more_declarators {vs = us} x c m) = let none : us ≡ [] = cc in absurd (one_at_least us none m)
 
 module _ (d turns : ℕ) (inner : In) (sound : SoundInner d inner) where
   pub inner_expr : SoundExpr d inner.expr

@@ -1,33 +1,24 @@
 -- What is read of a list of tokens is derived from exactly the tokens, with justified insertions, within the depth.
-use Rattle.std.specs.Prelude.{◌≡◌, ℕ, ◌≤◌, Bool, true, false, List, [], ◌∷◌, ◌++◌, map, Ok, Err, Option, Some, None}
+use Rattle.std.specs.Prelude.{◌≡◌, ℕ, ◌≤◌, true, false, List, [], ◌∷◌, ◌++◌, map, Ok, Option, Some, None}
 use Rattle.std.proofs.Common.{refl, sym, ap, ◌∙◌, subst}
-use Rattle.cc_grammar.specs.Symbols.{Lexeme, Symbol, Symbols, real, inserted, look, lexemes_of}
+use Rattle.cc_grammar.specs.Symbols.{Lexeme, Symbol, Symbols, real, inserted, look}
 use Rattle.cc_ast.specs.declared.reading.Construct.{Construct}
 use Rattle.cc_grammar.specs.RawTree.{RawStmt}
 use Rattle.cc_grammar.specs.Signs.{refused_kind}
-use Rattle.cc_grammar.specs.Fronts.{Derives, IsFront, offends, Offends, offending, Justified, ReadsWithin}
+use Rattle.cc_grammar.specs.Fronts.{IsFront, offends, Offends, offending, Justified, ReadsWithin}
 use Rattle.cc_grammar.specs.Laws.{IsSound}
 use Rattle.cc_grammar.specs.Reading.{Outcome, Sized, Fault, fault, look_token, read_symbols, read_tokens}
 use Rattle.cc_grammar.specs.Reading as r
-use Rattle.cc_grammar.proofs.Meets.{Done, ok, err}
+use Rattle.cc_grammar.proofs.Clashes.{head_is, tail_is, not_real, no_insertion}
 use Rattle.cc_grammar.proofs.Alike.{is_limit}
 use Rattle.cc_grammar.proofs.NoFront.{no_front}
-use Rattle.cc_grammar.proofs.Sound.{Ended, symbols_sound}
+use Rattle.cc_grammar.proofs.Sound.{symbols_sound, ended_at}
 use Rattle.cc_grammar.proofs.Paired.{Begun, Paired, end_ready, body_ready}
-use Rattle.cc_grammar.proofs.Copies.{L, Copy, end, take, insert, put, put_lexemes, Each, StopsAt, Just, Copies, read, stop, Quiet}
+use Rattle.cc_grammar.proofs.Copies.{L, Copy, end, take, insert, put, put_lexemes, Each, StopsAt, Just, Copies, read, Quiet}
 use Rattle.cc_grammar.proofs.CopyPrograms.{program_copy}
-
-head_is : (x y : Symbol) (xs ys : Symbols) → x ∷ xs ≡ y ∷ ys → x ≡ y
-head_is x y xs ys e = cc
-
-tail_is : (x y : Symbol) (xs ys : Symbols) → x ∷ xs ≡ y ∷ ys → xs ≡ ys
-tail_is x y xs ys e = cc
 
 no_list : (x : Symbol) (xs : Symbols) → [] ≡ x ∷ xs → ⊥
 no_list x xs e = cc
-
-not_real : (t : Lexeme) → real t ≡ inserted → ⊥
-not_real t e = cc
 
 -- An insertion in a list of symbols that goes on as xs: the tokens behind it, and what holds there.
 pub record Inserted (P : L → Symbols → Type 0) (before after : Symbols) (us : L) (xs : Symbols) : Type 0 where
@@ -98,21 +89,11 @@ pub justified : (turns d : ℕ) {ts us : L} (w : Copy ts us) (xs : Symbols) → 
 justified turns d w xs n l j p = justified_by turns d w xs n l j (λ b a q. led a (begun_behind b a (subst (λ v. Paired v) q p)))
 
 -- the whole list
-ended_at : (d : ℕ) (xs : Symbols) (b : Sized (List RawStmt)) (ys : Symbols) (o : Outcome Symbols (Sized (List RawStmt))) → Done (λ b ys. Ended d xs b ys) o → o ≡ Ok (b, ys) → Ended d xs b ys
-ended_at d xs b ys o (ok {a} {i} p) e =
-    let pairs : ◌≡◌ {A = Sized (List RawStmt) × Symbols} (a, i) (b, ys) = cc in
-    subst (λ (q : Sized (List RawStmt) × Symbols). Ended d xs q.0 q.1) pairs p
-ended_at d xs b ys o err e = absurd (cc)
-
-never : (b a : Symbols) → [] ≡ b ++ (inserted ∷ a) → ⊥
-never [] a e = cc
-never (m ∷ b) a e = cc
-
 read_by : (turns d : ℕ) (ts : L) (b : List RawStmt) (h : ℕ) → Copies false Quiet (read_symbols turns d) ts (Ok ((b, h), [])) → ReadsWithin h ts b × (h ≤ d)
 read_by turns d ts b h (read w e j k _) =
     let xs = put w [] in
     let x = ended_at d xs (b, h) [] (read_symbols turns d xs) (symbols_sound turns d xs) (e [] refl) in
-    (record { symbols = xs; tokens = put_lexemes w [] refl; justified = justified turns d w [] never refl j (body_ready x.body (end_ready x.ends)).paired; derives = record { last = x.last; body = x.body; ends = x.ends } }, x.low)
+    (record { symbols = xs; tokens = put_lexemes w [] refl; justified = justified turns d w [] no_insertion refl j (body_ready x.body (end_ready x.ends)).paired; derives = record { last = x.last; body = x.body; ends = x.ends } }, x.low)
 
 pub sound : IsSound
 sound turns d h ts b e = read_by turns d ts b h (subst (λ o. Copies false Quiet (read_symbols turns d) ts o) e (program_copy turns d ts))

@@ -16,7 +16,7 @@ use Rattle.cc_grammar.specs.Fronts.{is_end}
 use Rattle.cc_grammar.specs.Faults.{any}
 use Rattle.cc_grammar.specs.Reading.{Outcome, Fault, Cause, Due, and_then, fault, semicolon_symbol, is_remedy, depth, spent, refused}
 use Rattle.cc_grammar.specs.Reading as r
-use Rattle.cc_grammar.proofs.Alike.{Stands, whole, tail_of, is_limit, IsErr, is_err, stands_after, stand_by, semicolon_walks}
+use Rattle.cc_grammar.proofs.Alike.{Stands, whole, tail_of, is_limit, IsErr, is_err, stands_after, stand_by, semicolon_walks, err_by, err_after}
 use Rattle.cc_grammar.proofs.OnSymbols as s
 
 -- what is asked of the symbols behind the token
@@ -120,9 +120,6 @@ module _ (x : Change) where
 
   -- ---- one after the other
 
-  pub err_by : {A : Type 0} {o u : Outcome Symbols A} → o ≡ u → IsErr u → IsErr o
-  err_by e h = let P : Outcome Symbols _ → Type 0 = λ y. IsErr y in subst P (sym e) h
-
   pub limit_by : {A : Type 0} {o u : Outcome Symbols A} → o ≡ u → IsLimit u → IsLimit o
   limit_by e h = let P : Outcome Symbols _ → Type 0 = λ y. IsLimit y in subst P (sym e) h
 
@@ -131,9 +128,6 @@ module _ (x : Change) where
 
   pub falls_by : {A : Type 0} {xs : Symbols} {o u : Outcome Symbols A} → o ≡ u → Falls xs u → Falls xs o
   falls_by {xs} e h = let P : Outcome Symbols _ → Type 0 = λ y. Falls xs y in subst P (sym e) h
-
-  pub err_after : {A B : Type 0} {o : Outcome Symbols A} (f : A → s.Reader B) → IsErr o → IsErr (and_then o f)
-  err_after f is_err = is_err
 
   pub limit_after : {A B : Type 0} {o : Outcome Symbols A} (f : A → s.Reader B) → IsLimit o → IsLimit (and_then o f)
   limit_after f (held e) = held e

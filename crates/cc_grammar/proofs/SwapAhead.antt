@@ -8,8 +8,8 @@ use Rattle.cc_grammar.specs.Symbols.{Kind, Lexeme, Symbol, Symbols, real, insert
 use Rattle.cc_grammar.specs.Symbols as k
 use Rattle.cc_grammar.specs.Reading.{Outcome, Fault, and_then, goes_on, allowed, variable_of, semicolon_symbol, refused, depth}
 use Rattle.cc_grammar.specs.Reading as r
-use Rattle.cc_grammar.proofs.Alike.{IsErr, is_err, Stands, stand_by}
-use Rattle.cc_grammar.proofs.Swap.{Next, Change, Pair, slash, slash_equal, comma, function, label, name, accessor, delete, IsPair, IsLimit, held, IsRefused, Swaps, stops, barred, passes, limited, refuses, falls, Later, part, token, Fits, err_by, limit_by, refused_by, falls_by, err_after, limit_after, refused_after}
+use Rattle.cc_grammar.proofs.Alike.{IsErr, is_err, Stands, stand_by, err_by, err_after, unless}
+use Rattle.cc_grammar.proofs.Swap.{Next, Change, Pair, slash, slash_equal, comma, function, label, name, accessor, delete, IsPair, IsLimit, held, IsRefused, Swaps, stops, barred, passes, limited, refuses, falls, Later, part, token, Fits, limit_by, refused_by, falls_by, limit_after, refused_after}
 use Rattle.cc_grammar.proofs.SwapSites.{change}
 use Rattle.cc_grammar.proofs.OnSymbols as s
 
@@ -115,7 +115,7 @@ module _ (x : Change) (w : IsPair x) where
       → ((xs : Symbols) → lb (m ∷ (before ++ part x ∷ xs)) ≡ ld (before ++ part x ∷ xs)) → Looked x lc ld before → Looked x la lb (m ∷ before)
   looked_behind m e u v (agreed b mid f g) = agreed b mid (λ xs. u xs ∙ f xs) (λ xs. v xs ∙ g xs)
   looked_behind m e u v (la_spent f) = la_spent (λ xs. limit_by x (u xs) (f xs))
-  looked_behind m e u v (lost g) = lost (λ xs. err_by x (v xs) (g xs))
+  looked_behind m e u v (lost g) = lost (λ xs. err_by (v xs) (g xs))
   looked_behind m e u v (at_name q h f) = at_name q (opens_behind m e h) (λ xs. u xs ∙ f xs)
   looked_behind m e u v (at_key q h) = at_key q (opens_behind m e h)
 
@@ -137,9 +137,6 @@ module _ (x : Change) (w : IsPair x) where
 
 -- ---- behind the look ahead
 
-abbrev unless : {A : Type 0} → Place → Outcome Symbols Bool → Outcome Symbols A → Outcome Symbols A
-unless place o u = r.unless_deleted Symbols look rest semicolon_symbol o place u
-
 module _ (x : Change) where
   -- at a name that no variable has, or before it
   pub data Settled {A : Type 0} (p q : s.Reader A) (before : Symbols) : Type 0 where
@@ -150,12 +147,12 @@ module _ (x : Change) where
   pub settled_after : {A B : Type 0} {p q : s.Reader A} {before : Symbols} (f g : A → s.Reader B) → Settled p q before → Settled (λ i. and_then (p i) f) (λ i. and_then (q i) g) before
   settled_after f g (settled_refuses u) = settled_refuses (λ xs h. refused_after x f (u xs h))
   settled_after f g (settled_limited u) = settled_limited (λ xs. limit_after x f (u xs))
-  settled_after f g (settled_barred v) = settled_barred (λ xs. err_after x g (v xs))
+  settled_after f g (settled_barred v) = settled_barred (λ xs. err_after g (v xs))
 
   pub settled_by : {A : Type 0} {p q u v : s.Reader A} {before after : Symbols} → ((xs : Symbols) → p (before ++ token x ∷ xs) ≡ u (after ++ token x ∷ xs)) → ((xs : Symbols) → q (before ++ part x ∷ xs) ≡ v (after ++ part x ∷ xs)) → Settled u v after → Settled p q before
   settled_by f g (settled_refuses h) = settled_refuses (λ xs l. refused_by x (f xs) (h xs l))
   settled_by f g (settled_limited h) = settled_limited (λ xs. limit_by x (f xs) (h xs))
-  settled_by f g (settled_barred h) = settled_barred (λ xs. err_by x (g xs) (h xs))
+  settled_by f g (settled_barred h) = settled_barred (λ xs. err_by (g xs) (h xs))
 
   pub settled_fork : {A : Type 0} {before : Symbols} (b : Bool) (p q u v : s.Reader A) → Settled p u before → Settled q v before → Settled (cond b p q) (cond b u v) before
   settled_fork true p q u v h l = h
@@ -203,7 +200,7 @@ module _ (x : Change) where
 
     guards : (m : Symbol) (before : Symbols) → Swaps x p q (m ∷ before) → (x.part ≡ k.variable → Opens before → Settled p q (m ∷ before)) → (x.part ≡ k.key → Opens before → (xs : Symbols) → IsErr (q (m ∷ (before ++ part x ∷ xs))))
         → Looked x (s.opened n 0) (s.opened o 0) before → Swaps x (guarded n p) (guarded o q) (m ∷ before)
-    guards m before h v u (agreed true mid f g) = barred (λ xs. err_by x (ap (λ y. unless place y (q (m ∷ (before ++ part x ∷ xs)))) (g xs)) is_err)
+    guards m before h v u (agreed true mid f g) = barred (λ xs. err_by (ap (λ y. unless place y (q (m ∷ (before ++ part x ∷ xs)))) (g xs)) is_err)
     guards m before h v u (agreed false mid f g) = unhindered m before mid f g h
     guards m before h v u (la_spent f) = limited (λ xs. spent_unless (p (m ∷ (before ++ token x ∷ xs))) (f xs))
     guards m before h v u (lost g) = barred (λ xs. err_unless (q (m ∷ (before ++ part x ∷ xs))) (g xs))

@@ -13,6 +13,7 @@ use Rattle.cc_grammar.specs.Signs.{refused_name}
 use Rattle.cc_grammar.specs.Grammar.{Context, Labels, inside, in_switch, labelled, is_among}
 use Rattle.cc_grammar.specs.Reading.{Sized, Clause, and_then, semicolon_symbol, is_remedy, label_by, label_of, is_some_label, ends_return, clause_of, spent}
 use Rattle.cc_grammar.specs.Reading as r
+use Rattle.cc_grammar.proofs.Clashes.{never}
 use Rattle.cc_grammar.proofs.Marked.{In}
 use Rattle.cc_grammar.proofs.Alike.{is_err}
 use Rattle.cc_grammar.proofs.Swap.{Change, IsPair, Swaps, barred, Later, Swap, Taking, Look, swap_after, taking_after, swap_pure, swap_look, take_then, behind, later_fork, swap_fail, swap_refuse, swap_limit, steady, alike_listed, like_test, test, swap_expect, swap_semicolon, swap_end}
@@ -22,9 +23,6 @@ use Rattle.cc_grammar.proofs.SwapLists.{list_swap, function_swap}
 use Rattle.cc_grammar.proofs.SwapOperators.{after_head_swap}
 use Rattle.cc_grammar.proofs.SwapStatements.{own_expr, simple_swap, head_swap}
 use Rattle.cc_grammar.proofs.OnSymbols as s
-
-clash : false ≡ true → ⊥
-clash e = cc
 
 module _ (x : Change) (w : IsPair x) (d e n o : ℕ) (inner outer : In) (same : x.turns ≡ n) (le : d ≤ e) (lo : n ≤ o) (all : SwapInner x inner outer) where
   expr_at : (b : Bool) (l : ℕ) → Swap x (s.expr_of d n inner b l) (s.expr_of e o outer b l)
@@ -107,7 +105,7 @@ module _ (x : Change) (w : IsPair x) (d e n o : ℕ) (inner outer : In) (same : 
 
   unlabelled_swap : (c : Context) (p : Place) (v : List ℕ) (y : Option Construct) → Swap x (s.name_by d n inner c p v y false) (s.name_by e o outer c p v y false)
   unlabelled_swap c p v None = swap_after x (after_head_swap x w d e n o inner outer le lo all true 0 (raw.var p v, 0)) (λ z. simple_swap x w d e n o inner outer same le lo all p z)
-  unlabelled_swap c p v (Some y) = swap_look x (test x (λ t. is_remedy t.kind) (no_remedy w) (λ q. absurd (clash (sym (remedy_free w) ∙ q))) (λ _. behind x (swap_pure x ([], 0))) (steady x (swap_refuse x y p)))
+  unlabelled_swap c p v (Some y) = swap_look x (test x (λ t. is_remedy t.kind) (no_remedy w) (λ q. never (sym (remedy_free w) ∙ q)) (λ _. behind x (swap_pure x ([], 0))) (steady x (swap_refuse x y p)))
 
   name_later : (c : Context) (p : Place) (v : List ℕ) (y : Option Construct) (b : Bool) → Later x (s.name_by d n inner c p v y b) (s.name_by e o outer c p v y b)
   name_later c p v y true = later_fork x (is_among v c.labels) _ _ _ _ (swap_fail x r.a_token).later (deeper x d e 0 _ _ (label_swap c p v)).later

@@ -12,8 +12,8 @@ use Rattle.cc_grammar.specs.Reading as r
 use Rattle.cc_grammar.specs.Faults.{any}
 use Rattle.cc_grammar.proofs.Marked.{In}
 use Rattle.cc_grammar.proofs.Views.{mark_true}
-use Rattle.cc_grammar.proofs.Alike.{IsErr, is_err}
-use Rattle.cc_grammar.proofs.Swap.{Next, Change, Pair, slash, slash_equal, comma, function, label, name, accessor, delete, IsPair, Swaps, Later, Swap, part, token, err_by, refused_by, err_after, swap_after, swap_look, swap_fork, later_after}
+use Rattle.cc_grammar.proofs.Alike.{IsErr, is_err, err_by, err_after}
+use Rattle.cc_grammar.proofs.Swap.{Next, Change, Pair, slash, slash_equal, comma, function, label, name, accessor, delete, IsPair, Swaps, Later, Swap, part, token, refused_by, swap_after, swap_look, swap_fork, later_after}
 use Rattle.cc_grammar.proofs.SwapSites.{change, name_fault, no_head, prefix_first}
 use Rattle.cc_grammar.proofs.SwapAhead.{Opens, none, paren, Settled, settled_refuses, settled_after, settled_by, settled_fork, settled_deeper}
 use Rattle.cc_grammar.proofs.SwapParts.{SwapInner}
@@ -88,8 +88,8 @@ module _ (x : Change) (e o : ℕ) (outer : In) where
   unfolding r.expr_of
   primary_keyed b l before f h xs = by (l == 17) where
     by : (c : Bool) → IsErr (cond {A = s.Reader (Sized RawExpr)} c (λ i. and_then (s.primary e o outer b i) (s.suffixes e o outer false (suc e))) (λ i. s.expr_by e o outer b l (prefix_of (look i).kind) i) (before ++ part x ∷ xs))
-    by true = err_after x (s.suffixes e o outer false (suc e)) (h xs)
-    by false = err_by x (ap (λ y. s.expr_by e o outer b l y (before ++ part x ∷ xs)) (f xs)) (err_after x (s.after_head e o outer b l) (h xs))
+    by true = err_after (s.suffixes e o outer false (suc e)) (h xs)
+    by false = err_by (ap (λ y. s.expr_by e o outer b l y (before ++ part x ∷ xs)) (f xs)) (err_after (s.after_head e o outer b l) (h xs))
 
   key_keyed : (b : Bool) → x.part ≡ k.key → (xs : Symbols) → IsErr (s.primary e o outer b (part x ∷ xs))
   unfolding r.primary head_of
@@ -100,7 +100,7 @@ module _ (x : Change) (e o : ℕ) (outer : In) where
   paren_keyed b t before h xs = by (nat_lt 0 e) where
     by : (c : Bool) → IsErr (cond c (s.parentheses e o outer (real (record t { kind = k.mark mark.OpenParen }) ∷ (before ++ part x ∷ xs))) (Err (record { cause = depth; place = t.place }, real (record t { kind = k.mark mark.OpenParen }) ∷ (before ++ part x ∷ xs))))
     by false = is_err
-    by true = err_after x (λ y i. and_then (s.expect mark.CloseParen i) (λ _ j. Ok ((parenthesised t y.0, y.1 + 1), j))) (h xs)
+    by true = err_after (λ y i. and_then (s.expect mark.CloseParen i) (λ _ j. Ok ((parenthesised t y.0, y.1 + 1), j))) (h xs)
 
   pub expr_keyed : x.part ≡ k.key → ((b : Bool) (l : ℕ) (before : Symbols) → Opens before → (xs : Symbols) → IsErr (outer.expr b l (before ++ part x ∷ xs)))
       → (b : Bool) (l : ℕ) (before : Symbols) → Opens before → (xs : Symbols) → IsErr (s.expr_of e o outer b l (before ++ part x ∷ xs))

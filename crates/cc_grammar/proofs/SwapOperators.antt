@@ -15,18 +15,16 @@ use Rattle.cc_grammar.specs.Signs.{Prefix, unary, Infix, target_of, prefix_tree,
 use Rattle.cc_grammar.specs.Signs as sign
 use Rattle.cc_grammar.specs.Reading.{Outcome, Sized, and_then, semicolon_symbol, is_remedy, is_delete, depth, spent}
 use Rattle.cc_grammar.specs.Reading as r
+use Rattle.cc_grammar.proofs.Clashes.{never}
 use Rattle.cc_grammar.proofs.Marked.{In}
-use Rattle.cc_grammar.proofs.Alike.{IsErr, is_err, limits, alike_behind}
+use Rattle.cc_grammar.proofs.Alike.{IsErr, is_err, limits, alike_behind, err_after}
 use Rattle.cc_grammar.proofs.AlikeExpressions.{opened_alike}
-use Rattle.cc_grammar.proofs.Swap.{Next, Change, Pair, slash, slash_equal, comma, function, label, name, accessor, delete, IsPair, Swaps, Later, Swap, Taking, Look, part, first_taken, err_after, swap_after, swap_pure, swap_look, later_look, take_then, behind, swap_fork, later_fork, swap_fail, swap_stops, swap_refuse, swap_limit, steady, test, listed, mark_free, mark_test, swap_expect}
+use Rattle.cc_grammar.proofs.Swap.{Next, Change, Pair, slash, slash_equal, comma, function, label, name, accessor, delete, IsPair, Swaps, Later, Swap, Taking, Look, part, first_taken, swap_after, swap_pure, swap_look, later_look, take_then, behind, swap_fork, later_fork, swap_fail, swap_stops, swap_refuse, swap_limit, steady, test, listed, mark_free, mark_test, swap_expect}
 use Rattle.cc_grammar.proofs.SwapSites.{no_remedy, remedy_free}
 use Rattle.cc_grammar.proofs.SwapAhead.{Opens, Settled, settled_after, settled_by, settled_deeper, later_guarded}
 use Rattle.cc_grammar.proofs.SwapParts.{SwapInner, deeper}
 use Rattle.cc_grammar.proofs.SwapPrimary.{suffixes_swap, postfix_swap}
 use Rattle.cc_grammar.proofs.OnSymbols as s
-
-clash : false ≡ true → ⊥
-clash e = cc
 
 -- an operator that a token is, is one that it may be
 infix_free : (n : Bool) (o : Infix) {p : k.Part} {y : Kind} {b : Bool} {c : Construct} {z : Next} → Pair p y b c z → infix_of n y ≡ Some o → b ≡ true
@@ -58,7 +56,7 @@ module _ (x : Change) (w : IsPair x) (d e n o : ℕ) (inner outer : In) (le : d 
 
   prefix_swap : (y : Prefix) (p : Place) (a : Sized RawExpr) (f : Option RawExpr) → Swap x (s.prefix_by d n inner y p a f) (s.prefix_by e o outer y p a f)
   prefix_swap y p a (Some f) = swap_pure x (f, a.1 + 1)
-  prefix_swap y p a None = swap_look x (test x (λ l. is_remedy l.kind) (no_remedy w) (λ q. absurd (clash (sym (remedy_free w) ∙ q))) (λ _. behind x (swap_pure x (raw.lit p undefined, a.1 + 1))) (steady x (wrong_swap y p)))
+  prefix_swap y p a None = swap_look x (test x (λ l. is_remedy l.kind) (no_remedy w) (λ q. never (sym (remedy_free w) ∙ q)) (λ _. behind x (swap_pure x (raw.lit p undefined, a.1 + 1))) (steady x (wrong_swap y p)))
 
   prefix_expr_swap : (b : Bool) (y : Prefix) → Taking x (s.prefix_expr d n inner b y) (s.prefix_expr e o outer b y)
   unfolding r.prefix_expr
@@ -79,7 +77,7 @@ module _ (x : Change) (w : IsPair x) (d e n o : ℕ) (inner outer : In) (le : d 
   prefix_keyed b y m before q u xs = by (nat_lt 0 e) where
     by : (c : Bool) → IsErr (cond c (s.prefix_expr e o outer b y (m ∷ (before ++ part x ∷ xs))) (Err (record { cause = depth; place = (lexeme_of m).place }, m ∷ (before ++ part x ∷ xs))))
     by false = is_err
-    by true = err_after x (λ a. s.prefix_by e o outer y (lexeme_of m).place a (prefix_tree y (lexeme_of m).place a.0)) (all.keyed q b 13 before u xs)
+    by true = err_after (λ a. s.prefix_by e o outer y (lexeme_of m).place a (prefix_tree y (lexeme_of m).place a.0)) (all.keyed q b 13 before u xs)
 
   pub prefixed_later : (b : Bool) (y : Prefix) → Later x (s.prefixed d n inner b y) (s.prefixed e o outer b y)
   unfolding r.prefixed

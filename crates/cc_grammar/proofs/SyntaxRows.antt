@@ -1,13 +1,12 @@
 -- Lists that aren't read, computed: where no semicolon may be inserted, and where a rule on targets, labels or jumps is broken. Above
 -- each row stands its text, in which `@` is a line end and `#` a place where no token begins.
-use Rattle.std.specs.Prelude.{◌≡◌, ℕ, List, [], ◌∷◌, Ok, Err, Option, Some, None, Bool, true, replicate, length, map}
+use Rattle.std.specs.Prelude.{◌≡◌, ℕ, List, [], ◌∷◌, Option, Some, map}
 use Rattle.std.proofs.Common.{refl}
-use Rattle.cc_ast.specs.declared.reading.Construct.TheVariants as construct
 use Rattle.cc_lexer.specs.declared.token.Mark.TheVariants as m
 use Rattle.cc_grammar.specs.declared.word.Word.TheVariants as w
 use Rattle.cc_grammar.specs.Reading.{Outcome, Sized, Cause, syntax, depth, refused}
 use Rattle.cc_grammar.specs.Reading as r
-use Rattle.cc_grammar.proofs.Pieces.{Piece, name, word, mark, number, text, end, stopped, line, placed, placeless, failure, tree, is_whole}
+use Rattle.cc_grammar.proofs.Pieces.{Piece, name, word, mark, number, end, stopped, line, placed, failure}
 
 -- the cause, and how many tokens stand before the place
 abbrev faults : List (List Piece × Option (Cause × ℕ))

@@ -1,41 +1,23 @@
 -- Fronts of lists of tokens.
-use Rattle.std.specs.Prelude.{◌≡◌, ℕ, ◌≤◌, Bool, true, false, List, [], ◌∷◌, ◌++◌, map, length, None}
-use Rattle.std.proofs.Common.{refl, sym, ap, ◌∙◌, subst, arith, append_assoc, append-nil, length-append}
+use Rattle.std.specs.Prelude.{◌≡◌, ℕ, ◌≤◌, true, [], ◌∷◌, ◌++◌, map, None}
+use Rattle.std.proofs.Common.{refl, sym, ap, ◌∙◌, subst, append_assoc, append-nil}
 use Rattle.cc_grammar.specs.Symbols.{Lexeme, Symbol, Symbols, real, inserted, lexemes_of}
-use Rattle.cc_grammar.specs.RawTree.{RawStmt}
 use Rattle.cc_grammar.specs.Fronts.{Derives, IsFront, IsFrontWithin, Offends, offending, Justified, offends}
 use Rattle.cc_grammar.specs.Faults.{TokensFront, TokensFrontWithin}
 use Rattle.cc_grammar.specs.Reading.{fault, look_token, read_symbols}
 use Rattle.cc_grammar.specs.Reading as r
 use Rattle.cc_grammar.specs.Signs.{refused_kind}
+use Rattle.cc_grammar.proofs.Clashes.{same_head, same_tail, nothing_some, head_is, not_real}
 use Rattle.cc_grammar.proofs.Mono.{higher_body}
 use Rattle.cc_grammar.proofs.NoFront.{no_front}
-use Rattle.cc_grammar.proofs.Paired.{Begun, Paired}
+use Rattle.cc_grammar.proofs.Paired.{Paired}
 use Rattle.cc_grammar.proofs.Copies.{L, Copy, end, take, insert, put, StopsAt, Just}
 use Rattle.cc_grammar.proofs.SoundTokens.{Inserted, at_insertion, no_limit}
 
 -- ---- lists
 
-pub tail_is : (x y : Symbol) (xs ys : Symbols) → x ∷ xs ≡ y ∷ ys → xs ≡ ys
-tail_is x y xs ys e = cc
-
-pub head_is : (x y : Symbol) (xs ys : Symbols) → x ∷ xs ≡ y ∷ ys → x ≡ y
-head_is x y xs ys e = cc
-
-pub same_head : (t u : Lexeme) (ts us : L) → t ∷ ts ≡ u ∷ us → t ≡ u
-same_head t u ts us e = cc
-
-pub same_tail : (t u : Lexeme) (ts us : L) → t ∷ ts ≡ u ∷ us → ts ≡ us
-same_tail t u ts us e = cc
-
-pub nothing_some : (t : Lexeme) (ts : L) → [] ≡ t ∷ ts → ⊥
-nothing_some t ts e = cc
-
 pub real_is : (t u : Lexeme) → real t ≡ real u → t ≡ u
 real_is t u e = cc
-
-pub not_real : (t : Lexeme) → real t ≡ inserted → ⊥
-not_real t e = cc
 
 pub lexemes_append : (xs ys : Symbols) → lexemes_of (xs ++ ys) ≡ lexemes_of xs ++ lexemes_of ys
 lexemes_append [] ys = refl

@@ -1,12 +1,11 @@
 -- Trees, computed. Above each row stand two texts that are read alike.
-use Rattle.std.specs.Prelude.{◌≡◌, ℕ, List, [], ◌∷◌, Ok, Err, Option, Some, None, Bool, true, replicate, length, map}
+use Rattle.std.specs.Prelude.{◌≡◌, List, [], ◌∷◌, true, replicate, map}
 use Rattle.std.proofs.Common.{refl}
-use Rattle.cc_ast.specs.declared.reading.Construct.TheVariants as construct
 use Rattle.cc_lexer.specs.declared.token.Mark.TheVariants as m
 use Rattle.cc_grammar.specs.declared.word.Word.TheVariants as w
 use Rattle.cc_grammar.specs.Reading.{Outcome, Sized, Cause, syntax, depth, refused}
 use Rattle.cc_grammar.specs.Reading as r
-use Rattle.cc_grammar.proofs.Pieces.{Piece, name, word, mark, number, text, end, stopped, line, placed, placeless, failure, tree, is_whole}
+use Rattle.cc_grammar.proofs.Pieces.{Piece, name, word, mark, number, end, line, placeless, tree, is_whole}
 
 -- grouping, and what may stand
 abbrev groups : List (List Piece × List Piece)

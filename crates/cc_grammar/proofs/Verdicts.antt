@@ -8,6 +8,7 @@ use Rattle.cc_grammar.specs.RawTree.{RawStmt}
 use Rattle.cc_grammar.specs.Fronts.{Derives, IsFront, IsFrontWithin}
 use Rattle.cc_grammar.specs.Faults.{any}
 use Rattle.cc_grammar.specs.Reading.{Outcome, Sized, Fault, refused, read_symbols}
+use Rattle.cc_grammar.proofs.Clashes.{clash}
 use Rattle.cc_grammar.proofs.Shrinks.{reals}
 use Rattle.cc_grammar.proofs.Complete.{program_read}
 use Rattle.cc_grammar.proofs.Alike.{Suffix, Stands, is_limit, is_spent, IsErr, is_err}
@@ -24,9 +25,6 @@ abbrev Read : Type 0
 Read = Outcome Symbols (Sized (List RawStmt))
 
 -- ---- answers
-
-clash : {A : Type 0} → true ≡ false → A
-clash e = absurd (cc)
 
 ok_err : {A B C : Type 0} {a : A} {b : B} → ◌≡◌ {A = Result A B} (Ok a) (Err b) → C
 ok_err e = absurd (cc)

@@ -1,13 +1,12 @@
 -- Where a list of tokens isn't read, and why.
-use Rattle.std.specs.Prelude.{◌≡◌, ℕ, ◌<◌, List, [], ◌∷◌, ◌++◌, map, length, Bool, true, false, is_some, Option, Some, None}
-use Rattle.cc_ast.specs.declared.place.Place.{Place}
+use Rattle.std.specs.Prelude.{◌≡◌, ℕ, ◌<◌, List, [], ◌∷◌, ◌++◌, map, length, Bool, true, false, is_some, Some}
 use Rattle.cc_ast.specs.declared.reading.Construct.{Construct}
 use Rattle.cc_ast.specs.declared.reading.Construct.TheVariants as construct
 use Rattle.cc_lexer.specs.declared.token.Mark.TheVariants as mark
 use Rattle.cc_grammar.specs.declared.word.Word.TheVariants as word
 use Rattle.cc_grammar.specs.Symbols.{Kind, Lexeme, Symbol, Symbols, real, inserted, lexemes_of, is_mark}
 use Rattle.cc_grammar.specs.Symbols as k
-use Rattle.cc_grammar.specs.RawTree.{RawExpr, RawStmt}
+use Rattle.cc_grammar.specs.RawTree.{RawExpr}
 use Rattle.cc_grammar.specs.Signs.{refused_kind, refused_name, is_slash, is_accessor, is_variable, key_of}
 use Rattle.cc_grammar.specs.Grammar.{E}
 use Rattle.cc_grammar.specs.Fronts.{IsFront, IsFrontWithin, Justified}

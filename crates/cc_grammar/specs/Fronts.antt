@@ -1,5 +1,5 @@
 -- Fronts of programs, and where a semicolon may be inserted (ECMA-262 5.1, 7.9.1).
-use Rattle.std.specs.Prelude.{◌≡◌, ℕ, List, [], ◌∷◌, ◌++◌, Bool, true, false, ◌||◌, IsTrue}
+use Rattle.std.specs.Prelude.{◌≡◌, ℕ, List, [], ◌∷◌, ◌++◌, Bool, true, false, ◌||◌}
 use Rattle.cc_lexer.specs.declared.token.Mark.TheVariants as mark
 use Rattle.cc_grammar.specs.Symbols.{Kind, Lexeme, Symbols, real, inserted, is_mark, lexemes_of}
 use Rattle.cc_grammar.specs.Symbols as k

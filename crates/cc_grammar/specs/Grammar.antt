@@ -8,7 +8,7 @@
 --
 -- The heights: a name, `this` or a literal has height 0. Every other expression, a pair of parentheses, a block, a
 -- statement with bodies and a function have 1 more than their highest part.
-use Rattle.std.specs.Prelude.{◌≡◌, ℕ, ◌+◌, ◌<◌, ◌≤◌, List, [], ◌∷◌, ◌++◌, Bool, true, false, ◌||◌, Option, Some, None, codes}
+use Rattle.std.specs.Prelude.{◌≡◌, ℕ, ◌+◌, ◌<◌, ◌≤◌, List, [], ◌∷◌, ◌++◌, Bool, true, false, Option, Some, None}
 use Rattle.std.specs.List.{list_any}
 use Rattle.std.specs.Str.{bytes_eq}
 use Rattle.cc_ast.specs.declared.operator.BinOp.{BinOp}

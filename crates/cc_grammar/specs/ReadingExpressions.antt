@@ -1,7 +1,6 @@
 -- Reading: expressions (ECMA-262 5.1, 11).
-use Rattle.std.specs.Prelude.{◌≡◌, ℕ, zero, suc, ◌+◌, max, Bool, true, false, not, ◌||◌, ◌&&◌, if◌then◌else◌, ◌==◌, nat_lt, List, [], ◌∷◌, ◌++◌, Result, Ok, Err, Option, Some, None, is_some}
+use Rattle.std.specs.Prelude.{ℕ, zero, suc, ◌+◌, max, Bool, true, false, ◌&&◌, if◌then◌else◌, ◌==◌, nat_lt, List, [], ◌∷◌, ◌++◌, Err, Option, Some, None, is_some}
 use Rattle.cc_ast.specs.declared.operator.BinOp.{BinOp}
-use Rattle.cc_ast.specs.declared.operator.UnOp.TheVariants as op
 use Rattle.cc_ast.specs.declared.place.Place.{Place}
 use Rattle.cc_ast.specs.declared.reading.Construct.{Construct}
 use Rattle.cc_ast.specs.declared.reading.Construct.TheVariants as construct
@@ -9,14 +8,11 @@ use Rattle.cc_ast.specs.Syntax.{Prim, undefined}
 use Rattle.cc_lexer.specs.declared.token.Mark.{Mark}
 use Rattle.cc_lexer.specs.declared.token.Mark.TheVariants as mark
 use Rattle.cc_grammar.specs.declared.word.Word.{Word}
-use Rattle.cc_grammar.specs.declared.word.Word.TheVariants as word
-use Rattle.cc_grammar.specs.Symbols.{Kind, Lexeme, Symbols, look, rest, nothing, is_mark, is_word}
-use Rattle.cc_grammar.specs.Symbols as k
+use Rattle.cc_grammar.specs.Symbols.{Lexeme, is_mark}
 use Rattle.cc_grammar.specs.RawTree.{RawExpr, RawTarget, RawStmt, RawKey, RawField, RawDeclarator, RawCase, RawInit, RawCatch, RawFinally, MaybeExpr, Named, exprs, fields, cases, stmts}
 use Rattle.cc_grammar.specs.RawTree as raw
-use Rattle.cc_grammar.specs.Signs.{Prefix, unary, step, Infix, literal_of, parenthesised, key_of, property_of, is_accessor, is_slash, refused_name, refused_kind, target_of, step_of, prefix_of, prefix_tree, infix_of, level, infix_tree, assign_of}
-use Rattle.cc_grammar.specs.Fronts.{offends, is_end}
-use Rattle.cc_grammar.specs.Grammar.{Context, Labels, of_program, of_function, inside, in_loop, in_switch, labelled, is_among}
+use Rattle.cc_grammar.specs.Signs.{Prefix, unary, step, Infix, parenthesised, key_of, property_of, is_accessor, target_of, step_of, prefix_of, prefix_tree, infix_of, level, infix_tree, assign_of}
+use Rattle.cc_grammar.specs.Grammar.{Context, of_function}
 use Rattle.cc_grammar.specs.ReadingParts.{Cause, Fault, Due, refused_there, either, fault, Sized, Outcome, and_then, ◌>>=◌, ◌>>◌, allowed, variable_of, Head, head_by, head_of, Suffix, suffix_of, is_ending, is_element, is_remedy, is_delete, goes_on, ends_return, label_by, label_of, is_some_label, Clause, clause_of, ends_list, Start, start_of, syntax, depth, spent, refused, a_token, a_variable, an_operand, no_head, is_this, is_operand, is_paren, is_array, is_object, is_function, is_new, is_literal, is_variable, no_suffix, by_dot, by_bracket, by_call, no_clause, is_case, is_default, is_close, is_block, is_vars, is_empty, is_if, is_do, is_while, is_for, is_continue, is_break, is_return, is_switch, is_throw, is_try, is_declaration, is_any, is_plain, is_name}
 use Rattle.cc_grammar.specs.ReadingParts as parts
 

@@ -1,22 +1,20 @@
 -- Reading: why it stops, what a token begins, and the parts that expressions and statements share.
-use Rattle.std.specs.Prelude.{◌≡◌, ℕ, zero, suc, ◌+◌, max, Bool, true, false, not, ◌||◌, ◌&&◌, if◌then◌else◌, ◌==◌, nat_lt, List, [], ◌∷◌, ◌++◌, Result, Ok, Err, Option, Some, None, is_some}
-use Rattle.cc_ast.specs.declared.operator.BinOp.{BinOp}
+use Rattle.std.specs.Prelude.{ℕ, zero, suc, Bool, true, false, not, ◌||◌, ◌&&◌, if◌then◌else◌, List, [], ◌∷◌, ◌++◌, Result, Ok, Err, Option, Some, None, is_some}
 use Rattle.cc_ast.specs.declared.operator.UnOp.TheVariants as op
 use Rattle.cc_ast.specs.declared.place.Place.{Place}
 use Rattle.cc_ast.specs.declared.reading.Construct.{Construct}
 use Rattle.cc_ast.specs.declared.reading.Construct.TheVariants as construct
-use Rattle.cc_ast.specs.Syntax.{Prim, undefined}
+use Rattle.cc_ast.specs.Syntax.{Prim}
 use Rattle.cc_lexer.specs.declared.token.Mark.{Mark}
 use Rattle.cc_lexer.specs.declared.token.Mark.TheVariants as mark
 use Rattle.cc_grammar.specs.declared.word.Word.{Word}
 use Rattle.cc_grammar.specs.declared.word.Word.TheVariants as word
 use Rattle.cc_grammar.specs.Symbols.{Kind, Lexeme, Symbols, look, rest, nothing, is_mark, is_word}
 use Rattle.cc_grammar.specs.Symbols as k
-use Rattle.cc_grammar.specs.RawTree.{RawExpr, RawTarget, RawStmt, RawKey, RawField, RawDeclarator, RawCase, RawInit, RawCatch, RawFinally, MaybeExpr, Named, exprs, fields, cases, stmts}
-use Rattle.cc_grammar.specs.RawTree as raw
-use Rattle.cc_grammar.specs.Signs.{Prefix, unary, step, Infix, literal_of, parenthesised, key_of, property_of, is_accessor, is_slash, refused_name, refused_kind, target_of, step_of, prefix_of, prefix_tree, infix_of, level, infix_tree, assign_of}
-use Rattle.cc_grammar.specs.Fronts.{offends, is_end}
-use Rattle.cc_grammar.specs.Grammar.{Context, Labels, of_program, of_function, inside, in_loop, in_switch, labelled, is_among}
+use Rattle.cc_grammar.specs.RawTree.{RawExpr, RawStmt, Named}
+use Rattle.cc_grammar.specs.Signs.{Prefix, unary, literal_of, is_slash, refused_name, refused_kind, step_of}
+use Rattle.cc_grammar.specs.Fronts.{is_end}
+use Rattle.cc_grammar.specs.Grammar.{Context, Labels}
 
 -- Why reading stops. `spent` says that the turns of a loop were too few for the list, and `depth` that the depth was.
 pub data Cause : Type 0 where

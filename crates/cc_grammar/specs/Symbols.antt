@@ -1,5 +1,5 @@
 -- What a program is a list of: its tokens, and the semicolons that are inserted.
-use Rattle.std.specs.Prelude.{◌≡◌, ℕ, ℤ, List, [], ◌∷◌, ◌++◌, Bool, true, false, if◌then◌else◌, Option, Some, None, is_none, codes}
+use Rattle.std.specs.Prelude.{ℕ, ℤ, List, [], ◌∷◌, ◌++◌, Bool, false, if◌then◌else◌, Option, Some, None, is_none, codes}
 use Rattle.std.specs.Str.{bytes_eq}
 use denote.Enum.Bare.{sameb}
 use Rattle.cc_ast.specs.declared.place.Place.{Place}
@@ -7,7 +7,6 @@ use Rattle.cc_ast.specs.declared.reading.Construct.{Construct}
 use Rattle.cc_ast.specs.declared.reading.Refusal.{Refusal}
 use Rattle.cc_ast.specs.declared.reading.Refusal.TheVariants as refusal
 use Rattle.cc_lexer.specs.declared.token.Mark.{Mark}
-use Rattle.cc_lexer.specs.declared.token.Mark.TheVariants as m
 use Rattle.cc_lexer.specs.declared.token.Token.{Token}
 use Rattle.cc_lexer.specs.declared.token.TokenKind.{TokenKind}
 use Rattle.cc_lexer.specs.declared.token.TokenKind.TheVariants as token
