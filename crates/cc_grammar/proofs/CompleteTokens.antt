@@ -37,7 +37,7 @@ end_token : {xs ys : Symbols} → At k.end xs ys → (t : Lexeme) × (t.kind ≡
 end_token (at_token t e) = (t, e, refl)
 
 -- the text is read to its end
-whole_text : (d : ℕ) {ts : L} (xs : Symbols) (a : Sized (List RawStmt)) (us : L) → IsText ts → lexemes_of xs ≡ ts → Ended d xs a (map real us) → us ≡ []
+pub whole_text : (d : ℕ) {ts : L} (xs : Symbols) (a : Sized (List RawStmt)) (us : L) → IsText ts → lexemes_of xs ≡ ts → Ended d xs a (map real us) → us ≡ []
 whole_text d {ts} xs a us text l x =
     let m = body_moves x.body in let t = end_token x.ends in
     text_end ts (lexemes_of m.front.before) t.0 us (ap (λ (v : L). lexemes_of m.front.before ++ t.0 ∷ v) (sym (lexemes_real us)) ∙ sym (lexemes_append m.front.before (real t.0 ∷ map real us))

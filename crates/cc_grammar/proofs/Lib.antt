@@ -90,3 +90,5 @@ pub mod PlainFaults
 pub mod FirstRefusals
 pub mod CompleteTokens
 pub mod NoFaults
+pub mod WholeTexts
+pub mod TextTokens

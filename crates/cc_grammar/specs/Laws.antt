@@ -1,6 +1,9 @@
 -- The laws of the reading function.
-use Rattle.std.specs.Prelude.{◌≡◌, ℕ, ◌<◌, ◌≤◌, ◌*◌, List, [], ◌∷◌, length, Bool, true, false, Ok, Err}
-use Rattle.cc_grammar.specs.Symbols.{Kind, Lexeme}
+use Rattle.std.specs.Prelude.{◌≡◌, ℕ, ◌<◌, ◌≤◌, ◌*◌, List, [], ◌∷◌, length, Bool, true, false, Option, Ok, Err}
+use Rattle.cc_ast.specs.declared.reading.Refusal.{Refusal}
+use Rattle.cc_lexer.specs.declared.token.Token.{Token}
+use Rattle.cc_lexer.specs.Lexes.{Lexed}
+use Rattle.cc_grammar.specs.Symbols.{Kind, Lexeme, lexemes}
 use Rattle.cc_grammar.specs.Symbols as k
 use Rattle.cc_grammar.specs.RawTree.{RawStmt, stmts}
 use Rattle.cc_grammar.specs.Sizes.{of_stmts}
@@ -63,3 +66,11 @@ HasNoFault = (d h n : ℕ) (ts : List Lexeme) (b : List RawStmt) (c : Cause) →
 -- A tree has at most four expressions, statements and declarators a token.
 abbrev pub IsSmall : Type 0
 IsSmall = (h : ℕ) (ts : List Lexeme) (b : List RawStmt) → ReadsWithin h ts b → of_stmts (stmts b) ≤ 4 * length ts
+
+-- Of the tokens of a text none is left.
+abbrev pub IsWhole : Type 0
+IsWhole = (turns d : ℕ) (ts us : List Lexeme) (x : List RawStmt × ℕ) → IsText ts → read_tokens turns d ts ≡ Ok (x, us) → us ≡ []
+
+-- The tokens that a text has, those that are no comments, and where none begins, are the tokens of a text.
+abbrev pub HasText : Type 0
+HasText = (text : List ℕ) (file : ℕ) (ts : List Token) (s : Option Refusal) → Lexed text file ts s → IsText (lexemes false ts s)

@@ -1,6 +1,6 @@
 //! The laws of the reading function. The functions here state them, and do nothing.
 
-ghost use Rattle.cc_grammar.specs.Laws.{IsSound, IsOne, IsComplete, IsSmall, IsFirstFault, HasNoFault};
+ghost use Rattle.cc_grammar.specs.Laws.{IsSound, IsOne, IsComplete, IsSmall, IsFirstFault, HasNoFault, IsWhole, HasText};
 
 /// With justified insertions a list of tokens derives one tree.
 pub fn one_tree()
@@ -33,4 +33,15 @@ pub fn faults_are_first()
 /// What is derived within the depth has no fault.
 pub fn derived_lists_have_no_fault()
     ensures { HasNoFault }
+{}
+
+/// Where the tokens of a text are read, none of them is left.
+pub fn reading_ends()
+    ensures { IsWhole }
+{}
+
+/// The tokens that a text has are the tokens of a text in the sense of these laws: the last of them,
+/// and no other, is the end or the place where no token begins.
+pub fn a_text_has_tokens()
+    ensures { HasText }
 {}
