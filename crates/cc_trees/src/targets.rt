@@ -1,0 +1,48 @@
+// What is written to.
+
+ghost use Rattle.std.specs.Prelude.{◌≡◌, IsTrue, Some, is_some};
+ghost use Rattle.cc_grammar.specs.Signs as signs;
+ghost use Rattle.cc_raw.specs.Bridge.{raw_expr, raw_target};
+
+use cc_raw::tree::{RawExpr, RawTarget};
+
+/// Whether an expression can be written to.
+#[tactic(auto, using(cc_raw::specs::Terms::raw_steps))]
+pub fn is_target(e: &RawExpr) -> bool
+    ensures { result ≡ is_some (signs.target_of (raw_expr e.now)) }
+{
+    match e {
+        RawExpr::Var(_, _) | RawExpr::Member(_, _, _, _) | RawExpr::Index(_, _, _) => true,
+        RawExpr::Cast(_, inner) => is_target(inner.get()),
+        _ => false,
+    }
+}
+
+/// Whether an expression is a variable.
+#[tactic(auto, using(cc_raw::specs::Terms::raw_steps))]
+pub fn is_variable(e: &RawExpr) -> bool
+    ensures { result ≡ signs.is_variable (raw_expr e.now) }
+{
+    match e {
+        RawExpr::Var(_, _) => true,
+        RawExpr::Cast(_, inner) => is_variable(inner.get()),
+        _ => false,
+    }
+}
+
+/// The target that an expression is.
+#[tactic(auto, using(cc_raw::specs::Terms::raw_steps))]
+pub fn into_target(e: RawExpr) -> RawTarget
+    requires { IsTrue (is_some (signs.target_of (raw_expr e))) }
+    ensures { signs.target_of (raw_expr e) ≡ Some (raw_target result) }
+{
+    match e {
+        RawExpr::Var(place, name) => RawTarget::Variable(place, name),
+        RawExpr::Member(place, e, name_place, name) => {
+            RawTarget::Dotted(place, e, name_place, name)
+        }
+        RawExpr::Index(place, e, key) => RawTarget::Bracketed(place, e, key),
+        RawExpr::Cast(_, inner) => into_target(inner.into_inner()),
+        _ => unreachable!(),
+    }
+}
