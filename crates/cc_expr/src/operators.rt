@@ -1,0 +1,197 @@
+// Binary operators, and what binds less (ECMA-262 5.1, 11.5 to 11.14).
+
+ghost use Rattle.std.specs.Prelude.{◌≡◌, ◌<◌, ◌≤◌, suc, IfOk};
+ghost use Rattle.cc_raw.specs.Bridge.{raw_expr};
+ghost use Rattle.cc_cursor.specs.Shown as shown;
+ghost use Rattle.cc_expr.specs.Expressions as spec;
+ghost use Rattle.cc_cursor.specs.Reads.{Reads};
+ghost use Rattle.cc_expr.specs.Nests.{NestsExpr, NestsStmt};
+
+use crate::grammar::Grammar;
+use cc_cursor::context::Context;
+use cc_cursor::cursor::Cursor;
+use cc_cursor::error::{Cause, ReadError};
+use cc_cursor::limits::Limits;
+use cc_cursor::signs::{assign_of, infix_of, level, prefix_of};
+use cc_lexer::token::Mark;
+use cc_raw::tree::{RawExpr, RawStmt};
+use cc_trees::targets::{into_target, is_target};
+use cc_trees::trees;
+use sqlite_items::Items;
+use std::alloc::Global;
+
+impl<
+    F: Fn(Global, &mut Cursor<'_>, Limits, bool, u8) -> Result<(RawExpr, usize), ReadError>,
+    G: Fn(
+        Global,
+        &mut Cursor<'_>,
+        Limits,
+        Context<'_>,
+    ) -> Result<(Items<RawStmt>, usize), ReadError>,
+> Grammar<F, G> {
+    fn climb(
+        &self,
+        cursor: &mut Cursor<'_>,
+        with_in: bool,
+        least: u8,
+        mut e: RawExpr,
+        mut height: usize,
+    ) -> Result<(RawExpr, usize), ReadError>
+        requires expr { NestsExpr self.now.limits (F.pre self.now.expr) (F.post self.now.expr) }
+        requires height { height ≤ self.now.limits.depth }
+        ensures reads { Reads shown.expr (spec.climb self.now.limits with_in least (suc self.now.limits.depth) (raw_expr e, height) cursor.old) result cursor.new }
+        ensures low { IfOk result (λ x. x.1 ≤ self.now.limits.depth) }
+    {
+        for _turn in 0..usize::from(self.limits.depth) + 1 {
+            let Some(sign) = infix_of(with_in, cursor.kind()) else {
+                return Ok((e, height));
+            };
+            if level(sign) < least {
+                return Ok((e, height));
+            }
+            if height >= usize::from(self.limits.depth) {
+                return Err(ReadError::Fault(cursor.stop(Cause::Depth)));
+            }
+            let place = cursor.take();
+            let (right, h) = self.inner_expr(cursor, with_in, level(sign) + 1)?;
+            e = trees::binary(self.alloc, sign, place, e, right)?;
+            height = height.max(h) + 1;
+        }
+        unreachable!()
+    }
+
+    #[tactic(auto, unfolding(cc_grammar::specs::ReadingExpressions::assign))]
+    fn assign(
+        &self,
+        cursor: &mut Cursor<'_>,
+        with_in: bool,
+        e: RawExpr,
+        height: usize,
+    ) -> Result<(RawExpr, usize), ReadError>
+        requires expr { NestsExpr self.now.limits (F.pre self.now.expr) (F.post self.now.expr) }
+        requires height { height ≤ self.now.limits.depth }
+        ensures reads { Reads shown.expr (spec.assign self.now.limits with_in (raw_expr e, height) cursor.old) result cursor.new }
+        ensures low { IfOk result (λ x. x.1 ≤ self.now.limits.depth) }
+    {
+        let Some(operator) = assign_of(cursor.kind()) else {
+            return Ok((e, height));
+        };
+        if !is_target(&e) {
+            return Ok((e, height));
+        }
+        if height >= usize::from(self.limits.depth) {
+            return Err(ReadError::Fault(cursor.stop(Cause::Depth)));
+        }
+        let place = cursor.take();
+        let (value, h) = self.inner_expr(cursor, with_in, 1)?;
+        let e = trees::assign(self.alloc, place, operator, into_target(e), value)?;
+        Ok((e, height.max(h) + 1))
+    }
+
+    fn commas(
+        &self,
+        cursor: &mut Cursor<'_>,
+        with_in: bool,
+        mut e: RawExpr,
+        mut height: usize,
+    ) -> Result<(RawExpr, usize), ReadError>
+        requires expr { NestsExpr self.now.limits (F.pre self.now.expr) (F.post self.now.expr) }
+        requires height { height ≤ self.now.limits.depth }
+        ensures reads { Reads shown.expr (spec.commas self.now.limits with_in (suc self.now.limits.depth) (raw_expr e, height) cursor.old) result cursor.new }
+        ensures low { IfOk result (λ x. x.1 ≤ self.now.limits.depth) }
+    {
+        for _turn in 0..usize::from(self.limits.depth) + 1 {
+            if !cursor.sees(Mark::Comma) {
+                return Ok((e, height));
+            }
+            if height >= usize::from(self.limits.depth) {
+                return Err(ReadError::Fault(cursor.stop(Cause::Depth)));
+            }
+            let place = cursor.take();
+            let (right, h) = self.inner_expr(cursor, with_in, 1)?;
+            e = trees::comma(self.alloc, place, e, right)?;
+            height = height.max(h) + 1;
+        }
+        unreachable!()
+    }
+
+    /// An expression of a level, by what it begins with, which is of level 13.
+    #[tactic(auto, unfolding(cc_grammar::specs::ReadingExpressions::after_unary))]
+    fn after_unary(
+        &self,
+        cursor: &mut Cursor<'_>,
+        with_in: bool,
+        level: u8,
+        e: RawExpr,
+        height: usize,
+    ) -> Result<(RawExpr, usize), ReadError>
+        requires expr { NestsExpr self.now.limits (F.pre self.now.expr) (F.post self.now.expr) }
+        requires height { height ≤ self.now.limits.depth }
+        ensures reads { Reads shown.expr (spec.after_unary self.now.limits with_in level (raw_expr e, height) cursor.old) result cursor.new }
+        ensures low { IfOk result (λ x. x.1 ≤ self.now.limits.depth) }
+    {
+        let (e, height) = self.climb(cursor, with_in, level, e, height)?;
+        if level >= 3 {
+            return Ok((e, height));
+        }
+        let (e, height) = self.conditional(cursor, with_in, e, height)?;
+        if level >= 2 {
+            return Ok((e, height));
+        }
+        let (e, height) = self.assign(cursor, with_in, e, height)?;
+        if level > 0 {
+            return Ok((e, height));
+        }
+        self.commas(cursor, with_in, e, height)
+    }
+
+    /// An expression of a level, by the primary expression that it begins with.
+    #[tactic(auto, unfolding(cc_grammar::specs::ReadingExpressions::after_head))]
+    pub(crate) fn after_head(
+        &self,
+        cursor: &mut Cursor<'_>,
+        with_in: bool,
+        level: u8,
+        e: RawExpr,
+        height: usize,
+    ) -> Result<(RawExpr, usize), ReadError>
+        requires expr { NestsExpr self.now.limits (F.pre self.now.expr) (F.post self.now.expr) }
+        requires height { height ≤ self.now.limits.depth }
+        ensures reads { Reads shown.expr (spec.after_head self.now.limits with_in level (raw_expr e, height) cursor.old) result cursor.new }
+        ensures low { IfOk result (λ x. x.1 ≤ self.now.limits.depth) }
+    {
+        let (e, height) = self.suffixes(cursor, true, e, height)?;
+        let (e, height) = self.postfix(cursor, e, height)?;
+        self.after_unary(cursor, with_in, level, e, height)
+    }
+
+    /// An expression of a level, which is that of the callee of `new`, or at most that of a unary
+    /// expression.
+    #[tactic(auto, unfolding(cc_grammar::specs::ReadingExpressions::expr_of))]
+    pub(crate) fn expr_of(
+        &self,
+        cursor: &mut Cursor<'_>,
+        with_in: bool,
+        level: u8,
+    ) -> Result<(RawExpr, usize), ReadError>
+        requires expr { NestsExpr self.now.limits (F.pre self.now.expr) (F.post self.now.expr) }
+        requires stmt { NestsStmt self.now.limits (G.pre self.now.stmt) (G.post self.now.stmt) }
+        ensures reads { Reads shown.expr (spec.expr_of self.now.limits with_in level cursor.old) result cursor.new }
+        ensures low { IfOk result (λ x. x.1 ≤ self.now.limits.depth) }
+    {
+        if level == 17 {
+            let (e, height) = self.primary(cursor, with_in)?;
+            return self.suffixes(cursor, false, e, height);
+        }
+        match prefix_of(cursor.kind()) {
+            None => {
+                let (e, height) = self.primary(cursor, with_in)?;
+                self.after_head(cursor, with_in, level, e, height)
+            }
+            Some(prefix) => {
+                let (e, height) = self.prefixed(cursor, with_in, prefix)?;
+                self.after_unary(cursor, with_in, level, e, height)
+            }
+        }
+    }
+}
