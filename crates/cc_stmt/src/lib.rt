@@ -1,0 +1,13 @@
+//! Files: the statements of a source file, its annotation comments, and its licence comments.
+#![tactic(auto)]
+
+mod file;
+mod note;
+mod source;
+#[cfg(test)]
+mod tests;
+mod tree;
+
+pub use crate::file::read_file;
+pub use crate::source::read_source;
+pub use crate::tree::{Note, Tree};

@@ -1,0 +1,90 @@
+// The annotation comments of a list of tokens.
+
+ghost use Rattle.std.specs.Prelude.{◌≡◌, IfOk};
+ghost use Rattle.cc_grammar.specs.Symbols.{nowhere};
+ghost use Rattle.cc_stmt.specs.Notes as spec;
+
+use crate::tree::Note;
+use cc_ast::copy::table::CopyOf;
+use cc_ast::place::Place;
+use cc_ast::units::Units;
+use cc_lexer::token::{Token, TokenKind};
+use std::alloc::{AllocError, Global};
+
+// Where no token follows, which no text has.
+const NOWHERE: Place = Place {
+    file: 0,
+    offset: 0,
+    line: 0,
+    column: 0,
+};
+
+/// The annotation comments, in order.
+pub(crate) fn notes_of(alloc: Global, tokens: &[Token]) -> Result<Vec<Note>, AllocError>
+    ensures { IfOk result (λ notes. notes.items ≡ spec.notes nowhere tokens.now) }
+{
+    let mut found = Vec::new(alloc);
+    let mut next = NOWHERE;
+    let mut rest = tokens;
+    while let Some((token, before)) = rest.split_last() {
+        rest = before;
+        match &token.kind {
+            TokenKind::Doc(text) => found.push(Note {
+                place: token.place,
+                next,
+                text: text.copy_of(alloc)?,
+            })?,
+            _ => next = token.place,
+        }
+    }
+    found.reverse();
+    Ok(found)
+}
+
+#[tactic(auto, using(crate::proofs::NoteLemmas::starts_with_none, std::proofs::lemmas::Grind::common_steps))]
+fn starts_with(units: &[u16], text: &[u8]) -> bool
+    ensures { result ≡ spec.starts_with text.now units.now }
+{
+    let mut rest = units;
+    for byte in text {
+        match rest.split_first() {
+            Some((unit, behind)) if *unit == u16::from(*byte) => rest = behind,
+            _ => return false,
+        }
+    }
+    true
+}
+
+#[tactic(auto, using(crate::proofs::NoteLemmas::contains_none, std::proofs::lemmas::Grind::common_steps))]
+fn contains(units: &[u16], text: &[u8]) -> bool
+    ensures { result ≡ spec.contains text.now units.now }
+{
+    let mut rest = units;
+    while let Some((_, behind)) = rest.split_first() {
+        if starts_with(rest, text) {
+            return true;
+        }
+        rest = behind;
+    }
+    text.is_empty()
+}
+
+fn is_licence(text: &Units) -> bool
+    ensures { result ≡ spec.is_licence text.now }
+{
+    let units = text.list.as_slice();
+    contains(units, b"@license") || contains(units, b"@preserve")
+}
+
+/// The whole texts of the licences among the annotation comments, in order.
+pub(crate) fn licences_of(alloc: Global, notes: &[Note]) -> Result<Vec<Units>, AllocError>
+    ensures { IfOk result (λ texts. texts.items ≡ spec.licences notes.now) }
+{
+    let mut found = Vec::new(alloc);
+    for note in notes {
+        if is_licence(&note.text) {
+            found.push(note.text.copy_of(alloc)?)?;
+        }
+    }
+    Ok(found)
+}
