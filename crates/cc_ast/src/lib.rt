@@ -12,7 +12,5 @@ pub mod place;
 pub mod program;
 pub mod reading;
 pub mod tables;
-#[cfg(test)]
-mod tests;
 pub mod tree;
 pub mod units;

@@ -2,7 +2,7 @@
 
 /// A binary operator (ECMA-262 5.1, 11.5 to 11.10). `Instance` is `instanceof`, `Has` is `in`,
 /// `Strict` is `===`.
-#[derive(Clone, Copy, Debug, PartialEq, Eq)]
+#[derive(Clone, Copy, PartialEq, Eq)]
 pub enum BinOp {
     Add,
     Sub,
@@ -28,7 +28,7 @@ pub enum BinOp {
 }
 
 /// A unary operator that leaves its operand where it is (ECMA-262 5.1, 11.4).
-#[derive(Clone, Copy, Debug, PartialEq, Eq)]
+#[derive(Clone, Copy)]
 pub enum UnOp {
     Minus,
     Plus,

@@ -5,7 +5,7 @@ use crate::units::Units;
 use thiserror::Error;
 
 /// What a limit counts.
-#[derive(Clone, Copy, Debug, PartialEq, Eq)]
+#[derive(Clone, Copy, Debug)]
 pub enum LimitKind {
     Workers,
     Files,
@@ -16,7 +16,7 @@ pub enum LimitKind {
 }
 
 /// A construct of ECMA-262 5.1, or of a later edition, that the language leaves out.
-#[derive(Clone, Copy, Debug, PartialEq, Eq)]
+#[derive(Clone, Copy, Debug)]
 pub enum Construct {
     RegExp,
     With,

@@ -5,7 +5,7 @@ use sqlite_items::Items;
 use std::marker::Model;
 
 /// A chunk's name, as text.
-#[derive(Debug, Drop)]
+#[derive(Drop)]
 pub struct ChunkName {
     pub text: String,
 }

@@ -6,14 +6,14 @@ use sqlite_items::{Boxed, Items};
 
 /// A variable: a frame, counted outwards from the innermost one, and a place in its list, or a
 /// global's number.
-#[derive(Clone, Copy, Debug, PartialEq, Eq)]
+#[derive(Clone, Copy, PartialEq, Eq)]
 pub enum Ref {
     Frame(u32, u32),
     Global(u32),
 }
 
 /// The key of an object literal: a property's number, or a text that was written in quotes.
-#[derive(Debug, Drop)]
+#[derive(Drop)]
 pub enum Key {
     Dotted(u32),
     Quoted(Units),

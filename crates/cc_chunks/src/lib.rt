@@ -10,8 +10,6 @@ mod names;
 mod reach;
 mod set;
 mod spec;
-#[cfg(test)]
-mod tests;
 
 pub use graph::ChunkGraph;
 pub use spec::{ChunkFault, ChunkSpec};

@@ -5,7 +5,7 @@ use thiserror::Error;
 
 /// A chunk as it is asked for: its name, how many of the files that are left it takes, and the
 /// names of the chunks that it depends on directly (Closure Compiler, `--chunk`).
-#[derive(Debug, Drop)]
+#[derive(Drop)]
 pub struct ChunkSpec {
     pub name: String,
     pub count: u32,
@@ -13,7 +13,7 @@ pub struct ChunkSpec {
 }
 
 /// Why specs are no graph: the number of the spec, and what is wrong with it.
-#[derive(Clone, Copy, Debug, PartialEq, Eq, Error)]
+#[derive(Clone, Copy, Debug, Error)]
 pub enum ChunkFault {
     /// An earlier spec has its name.
     #[error("spec {0} has the name of an earlier one")]

@@ -6,7 +6,7 @@ use cc_value::value::Value;
 use sqlite_items::Items;
 
 /// A method of arrays (ECMA-262 5.1, 15.4.4). An array's length and its elements are accesses.
-#[derive(Clone, Copy, Debug, PartialEq, Eq)]
+#[derive(Clone, Copy)]
 pub enum ArrayUse {
     Push,
     Unshift,
@@ -19,7 +19,7 @@ pub enum ArrayUse {
 }
 
 /// A method of texts (ECMA-262 5.1, 15.5.4). A text's length is an access.
-#[derive(Clone, Copy, Debug, PartialEq, Eq)]
+#[derive(Clone, Copy)]
 pub enum TextUse {
     CharAt,
     CharCodeAt,
@@ -30,7 +30,7 @@ pub enum TextUse {
 }
 
 /// A function of `Math` (ECMA-262 5.1, 15.8.2).
-#[derive(Clone, Copy, Debug, PartialEq, Eq)]
+#[derive(Clone, Copy)]
 pub enum MathUse {
     Max,
     Min,
@@ -39,7 +39,7 @@ pub enum MathUse {
 
 /// A use of what is built in (ECMA-262 5.1, 15), with `String(v)`, `String.fromCharCode`,
 /// `Object.create`, and `hasOwnProperty` and `call` of every object and function.
-#[derive(Clone, Copy, Debug, PartialEq, Eq)]
+#[derive(Clone, Copy)]
 pub enum BuiltInUse {
     Array(ArrayUse),
     Text(TextUse),
@@ -52,7 +52,7 @@ pub enum BuiltInUse {
 }
 
 /// What is applied to operands. The receiver of a built-in use is its first operand.
-#[derive(Clone, Copy, Debug, PartialEq, Eq)]
+#[derive(Clone, Copy)]
 pub enum Op {
     Unary(UnOp),
     Binary(BinOp),
@@ -60,7 +60,7 @@ pub enum Op {
 }
 
 /// A variable: a global, a place of a scope, or a flat path by its global and its number.
-#[derive(Clone, Copy, Debug, PartialEq, Eq)]
+#[derive(Clone, Copy)]
 pub enum Variable {
     Global(u32),
     Local { scope: u32, place: u32 },
@@ -69,7 +69,7 @@ pub enum Variable {
 
 /// The key of an access: a property's number after a dot, a text that was written in quotes, or
 /// the text of a value.
-#[derive(Debug, Drop)]
+#[derive(Drop)]
 pub enum Access {
     Dotted(u32),
     Quoted(Units),
@@ -80,7 +80,7 @@ pub enum Access {
 /// the prototype of the function that it writes to. A leave is `built` where the call is by `new`.
 /// In an act of the host, `given` tells whether each handle that is used was given out, and
 /// `threw` whether the chunk that is loaded depends on one that threw.
-#[derive(Debug, Drop)]
+#[derive(Drop)]
 pub enum Act {
     Operate {
         op: Op,

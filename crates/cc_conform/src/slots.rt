@@ -20,7 +20,7 @@ use cc_value::texts;
 
 /// What is asked of each slot that an act may meet: those of an access with a dot and of one in
 /// quotes, that none is dotted, else this rule, and those of `for-in`.
-#[derive(Clone, Copy, Debug)]
+#[derive(Clone, Copy)]
 pub(crate) enum SlotTest {
     ByDot,
     InQuotes,

@@ -16,7 +16,7 @@ use std::marker::Model;
 use std::sync::Arc;
 
 /// What a put did.
-#[derive(Debug, Drop)]
+#[derive(Drop)]
 pub enum Put {
     /// The slot is done now.
     New,
@@ -25,7 +25,7 @@ pub enum Put {
 }
 
 /// Why a phase is not closed.
-#[derive(Debug, Drop)]
+#[derive(Drop)]
 pub enum CloseFault {
     /// So many slots are not done.
     Undone { count: u32 },

@@ -3,6 +3,4 @@
 #![tactic(auto)]
 
 pub mod clear;
-#[cfg(test)]
-mod tests;
 pub mod threads;

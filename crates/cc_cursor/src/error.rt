@@ -7,7 +7,7 @@ use thiserror::Error;
 
 /// What is wrong at a token. `Spent` says that a list was longer than the turns allow, which are
 /// more than the tokens.
-#[derive(Clone, Copy, Debug, PartialEq, Eq)]
+#[derive(Clone, Copy, Debug)]
 pub enum Cause {
     Syntax,
     Depth,
@@ -16,7 +16,7 @@ pub enum Cause {
 }
 
 /// A cause, and the place where it is.
-#[derive(Clone, Copy, Debug, PartialEq, Eq)]
+#[derive(Clone, Copy, Debug)]
 pub struct Fault {
     pub cause: Cause,
     pub place: Place,

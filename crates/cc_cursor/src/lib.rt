@@ -20,5 +20,3 @@ pub mod names;
 pub mod refused;
 pub mod signs;
 pub mod starts;
-#[cfg(test)]
-mod tests;

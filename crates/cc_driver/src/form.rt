@@ -5,8 +5,6 @@ mod cursor;
 pub(crate) mod name;
 mod read;
 mod reader;
-#[cfg(test)]
-mod tests;
 mod unread;
 
 use cc_ast::units::Units;
@@ -15,7 +13,7 @@ use sqlite_items::Items;
 
 /// What a chain is made of: the offset in bytes at which it begins, and a name, a text, or a whole
 /// number from 0 to 2^53-1.
-#[derive(Debug, Drop)]
+#[derive(Drop)]
 pub enum Operand {
     Named(u32, Units),
     Text(u32, Units),
@@ -23,14 +21,14 @@ pub enum Operand {
 }
 
 /// An operand behind a `+`, which stands at this offset.
-#[derive(Debug, Drop)]
+#[derive(Drop)]
 pub struct Added {
     pub plus: u32,
     pub operand: Operand,
 }
 
 /// A value: operands with `+` between them, at most 257.
-#[derive(Debug, Drop)]
+#[derive(Drop)]
 pub struct Value {
     pub first: Operand,
     pub more: Items<Added>,
@@ -38,7 +36,7 @@ pub struct Value {
 
 /// A statement: the offset in bytes at which it begins, the name that it declares with its value,
 /// or the name that it calls with its arguments.
-#[derive(Debug, Drop)]
+#[derive(Drop)]
 pub enum Statement {
     Declares(u32, Units, Value),
     Calls(u32, Units, Items<Value>),

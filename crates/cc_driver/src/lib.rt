@@ -16,6 +16,4 @@ pub mod outcome;
 mod output;
 mod resolve;
 mod spelling;
-#[cfg(test)]
-mod tests;
 mod words;

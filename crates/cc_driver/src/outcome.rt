@@ -7,7 +7,7 @@ use std::alloc::AllocError;
 /// How a compilation ended. `Read` and `Write` have the number of the file: externs come first and
 /// sources next in the order of the words, and outputs are counted from 0 on their own. `Unbuilt`
 /// says what isn't of the form that is compiled so far: 0 the words, 1 the externs, 2 the source.
-#[derive(Clone, Copy, Debug, PartialEq, Eq)]
+#[derive(Clone, Copy)]
 pub enum Outcome {
     Done,
     Read(usize),

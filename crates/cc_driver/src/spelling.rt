@@ -16,7 +16,7 @@ use sqlite_items::Items;
 use std::alloc::{AllocError, Global};
 
 /// A piece of the text of a program: bytes that stand for themselves, or a global.
-#[derive(Debug, Drop)]
+#[derive(Drop)]
 pub enum Piece {
     Bytes(Items<u8>),
     Global(u32),

@@ -7,7 +7,7 @@ use cc_ast::tree::{Declarator, Expr, ForInit, ForTarget};
 use cc_ast::units::Units;
 use sqlite_items::Items;
 
-pub fn same_option(a: &Option<Expr>, b: &Option<Expr>) -> bool
+pub(crate) fn same_option(a: &Option<Expr>, b: &Option<Expr>) -> bool
     ensures { IsTrue result ↔ (a.now ≡ b.now) }
 {
     match a {
@@ -19,7 +19,7 @@ pub fn same_option(a: &Option<Expr>, b: &Option<Expr>) -> bool
     }
 }
 
-pub fn same_label(a: &Option<Units>, b: &Option<Units>) -> bool
+pub(crate) fn same_label(a: &Option<Units>, b: &Option<Units>) -> bool
     ensures { IsTrue result ↔ (a.now ≡ b.now) }
 {
     match a {
@@ -37,7 +37,7 @@ fn same_declarator(a: &Declarator, b: &Declarator) -> bool
     a.site == b.site && a.variable == b.variable && same_option(&a.value, &b.value)
 }
 
-pub fn same_declarators(a: &Items<Declarator>, b: &Items<Declarator>) -> bool
+pub(crate) fn same_declarators(a: &Items<Declarator>, b: &Items<Declarator>) -> bool
     ensures { IsTrue result ↔ (a.now ≡ b.now) }
 {
     let others = b.as_slice();
@@ -54,7 +54,7 @@ pub fn same_declarators(a: &Items<Declarator>, b: &Items<Declarator>) -> bool
     true
 }
 
-pub fn same_init(a: &ForInit, b: &ForInit) -> bool
+pub(crate) fn same_init(a: &ForInit, b: &ForInit) -> bool
     ensures { IsTrue result ↔ (a.now ≡ b.now) }
 {
     match a {
@@ -70,7 +70,7 @@ pub fn same_init(a: &ForInit, b: &ForInit) -> bool
     }
 }
 
-pub fn same_for_target(a: &ForTarget, b: &ForTarget) -> bool
+pub(crate) fn same_for_target(a: &ForTarget, b: &ForTarget) -> bool
     ensures { IsTrue result ↔ (a.now ≡ b.now) }
 {
     match a {

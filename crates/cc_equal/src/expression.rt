@@ -7,7 +7,7 @@ use cc_ast::tree::{Expr, Key, Target};
 use sqlite_items::{Boxed, Items};
 
 #[cycle(expression)]
-pub fn same_expr(a: &Expr, b: &Expr) -> bool
+pub(crate) fn same_expr(a: &Expr, b: &Expr) -> bool
     ensures { IsTrue result ↔ (a.now ≡ b.now) }
 {
     match a {
@@ -135,7 +135,7 @@ fn same_target(a: &Boxed<Target>, b: &Boxed<Target>) -> bool
 }
 
 #[cycle(expression)]
-pub fn same_bare_target(a: &Target, b: &Target) -> bool
+pub(crate) fn same_bare_target(a: &Target, b: &Target) -> bool
     ensures { IsTrue result ↔ (a.now ≡ b.now) }
 {
     match a {

@@ -8,7 +8,7 @@ use cc_ast::tree::{Expr, Key, Ref, Target};
 use cc_ast::units::Units;
 use sqlite_items::{Boxed, Items};
 
-pub fn undefined_of(tree: &Expr) -> Option<u32>
+pub(crate) fn undefined_of(tree: &Expr) -> Option<u32>
     ensures some { IfSome result (λ x. tree.now ≡ expr.Undefined x) }
     ensures none { IfNone result ((s : _) → tree.now ≡ expr.Undefined s → ⊥) }
 {
@@ -18,7 +18,7 @@ pub fn undefined_of(tree: &Expr) -> Option<u32>
     }
 }
 
-pub fn null_of(tree: &Expr) -> Option<u32>
+pub(crate) fn null_of(tree: &Expr) -> Option<u32>
     ensures some { IfSome result (λ x. tree.now ≡ expr.Null x) }
     ensures none { IfNone result ((s : _) → tree.now ≡ expr.Null s → ⊥) }
 {
@@ -28,7 +28,7 @@ pub fn null_of(tree: &Expr) -> Option<u32>
     }
 }
 
-pub fn truth_of(tree: &Expr) -> Option<(u32, bool)>
+pub(crate) fn truth_of(tree: &Expr) -> Option<(u32, bool)>
     ensures some { IfSome result (λ x. tree.now ≡ expr.Truth x.0 x.1) }
     ensures none { IfNone result ((s : _) (v : _) → tree.now ≡ expr.Truth s v → ⊥) }
 {
@@ -38,7 +38,7 @@ pub fn truth_of(tree: &Expr) -> Option<(u32, bool)>
     }
 }
 
-pub fn whole_of(tree: &Expr) -> Option<(u32, i64)>
+pub(crate) fn whole_of(tree: &Expr) -> Option<(u32, i64)>
     ensures some { IfSome result (λ x. tree.now ≡ expr.Whole x.0 x.1) }
     ensures none { IfNone result ((s : _) (v : _) → tree.now ≡ expr.Whole s v → ⊥) }
 {
@@ -48,7 +48,7 @@ pub fn whole_of(tree: &Expr) -> Option<(u32, i64)>
     }
 }
 
-pub fn text_of(tree: &Expr) -> Option<(u32, &Units)>
+pub(crate) fn text_of(tree: &Expr) -> Option<(u32, &Units)>
     ensures some { IfSome result (λ x. tree.now ≡ expr.Text x.0 x.1.now) }
     ensures none { IfNone result ((s : _) (t : _) → tree.now ≡ expr.Text s t → ⊥) }
 {
@@ -58,7 +58,7 @@ pub fn text_of(tree: &Expr) -> Option<(u32, &Units)>
     }
 }
 
-pub fn var_of(tree: &Expr) -> Option<(u32, Ref)>
+pub(crate) fn var_of(tree: &Expr) -> Option<(u32, Ref)>
     ensures some { IfSome result (λ x. tree.now ≡ expr.Var x.0 x.1) }
     ensures none { IfNone result ((s : _) (v : _) → tree.now ≡ expr.Var s v → ⊥) }
 {
@@ -68,7 +68,7 @@ pub fn var_of(tree: &Expr) -> Option<(u32, Ref)>
     }
 }
 
-pub fn this_of(tree: &Expr) -> Option<u32>
+pub(crate) fn this_of(tree: &Expr) -> Option<u32>
     ensures some { IfSome result (λ x. tree.now ≡ expr.This x) }
     ensures none { IfNone result ((s : _) → tree.now ≡ expr.This s → ⊥) }
 {
@@ -78,7 +78,7 @@ pub fn this_of(tree: &Expr) -> Option<u32>
     }
 }
 
-pub fn fun_of(tree: &Expr) -> Option<(u32, u32)>
+pub(crate) fn fun_of(tree: &Expr) -> Option<(u32, u32)>
     ensures some { IfSome result (λ x. tree.now ≡ expr.Fun x.0 x.1) }
     ensures none { IfNone result ((s : _) (f : _) → tree.now ≡ expr.Fun s f → ⊥) }
 {
@@ -88,7 +88,7 @@ pub fn fun_of(tree: &Expr) -> Option<(u32, u32)>
     }
 }
 
-pub fn list_of(tree: &Expr) -> Option<(u32, &Items<Expr>)>
+pub(crate) fn list_of(tree: &Expr) -> Option<(u32, &Items<Expr>)>
     ensures some { IfSome result (λ x. tree.now ≡ expr.List x.0 x.1.now) }
     ensures none { IfNone result ((s : _) (es : _) → tree.now ≡ expr.List s es → ⊥) }
 {
@@ -98,7 +98,7 @@ pub fn list_of(tree: &Expr) -> Option<(u32, &Items<Expr>)>
     }
 }
 
-pub fn object_of(tree: &Expr) -> Option<(u32, &Items<(Key, Expr)>)>
+pub(crate) fn object_of(tree: &Expr) -> Option<(u32, &Items<(Key, Expr)>)>
     ensures some { IfSome result (λ x. tree.now ≡ expr.Object x.0 x.1.now) }
     ensures none { IfNone result ((s : _) (fs : _) → tree.now ≡ expr.Object s fs → ⊥) }
 {
@@ -108,7 +108,7 @@ pub fn object_of(tree: &Expr) -> Option<(u32, &Items<(Key, Expr)>)>
     }
 }
 
-pub fn unary_of(tree: &Expr) -> Option<(u32, UnOp, &Boxed<Expr>)>
+pub(crate) fn unary_of(tree: &Expr) -> Option<(u32, UnOp, &Boxed<Expr>)>
     ensures some { IfSome result (λ x. tree.now ≡ expr.Unary x.0 x.1 x.2.now) }
     ensures none { IfNone result ((s : _) (op : _) (a : _) → tree.now ≡ expr.Unary s op a → ⊥) }
 {
@@ -118,7 +118,7 @@ pub fn unary_of(tree: &Expr) -> Option<(u32, UnOp, &Boxed<Expr>)>
     }
 }
 
-pub fn binary_of(tree: &Expr) -> Option<(u32, BinOp, &Boxed<Expr>, &Boxed<Expr>)>
+pub(crate) fn binary_of(tree: &Expr) -> Option<(u32, BinOp, &Boxed<Expr>, &Boxed<Expr>)>
     ensures some { IfSome result (λ x. tree.now ≡ expr.Binary x.0 x.1 x.2.now x.3.now) }
     ensures none { IfNone result ((s : _) (op : _) (a : _) (c : _) → tree.now ≡ expr.Binary s op a c → ⊥) }
 {
@@ -128,7 +128,7 @@ pub fn binary_of(tree: &Expr) -> Option<(u32, BinOp, &Boxed<Expr>, &Boxed<Expr>)
     }
 }
 
-pub fn and_of(tree: &Expr) -> Option<(u32, &Boxed<Expr>, &Boxed<Expr>)>
+pub(crate) fn and_of(tree: &Expr) -> Option<(u32, &Boxed<Expr>, &Boxed<Expr>)>
     ensures some { IfSome result (λ x. tree.now ≡ expr.And x.0 x.1.now x.2.now) }
     ensures none { IfNone result ((s : _) (a : _) (c : _) → tree.now ≡ expr.And s a c → ⊥) }
 {
@@ -138,7 +138,7 @@ pub fn and_of(tree: &Expr) -> Option<(u32, &Boxed<Expr>, &Boxed<Expr>)>
     }
 }
 
-pub fn or_of(tree: &Expr) -> Option<(u32, &Boxed<Expr>, &Boxed<Expr>)>
+pub(crate) fn or_of(tree: &Expr) -> Option<(u32, &Boxed<Expr>, &Boxed<Expr>)>
     ensures some { IfSome result (λ x. tree.now ≡ expr.Or x.0 x.1.now x.2.now) }
     ensures none { IfNone result ((s : _) (a : _) (c : _) → tree.now ≡ expr.Or s a c → ⊥) }
 {
@@ -148,7 +148,7 @@ pub fn or_of(tree: &Expr) -> Option<(u32, &Boxed<Expr>, &Boxed<Expr>)>
     }
 }
 
-pub fn cond_of(tree: &Expr) -> Option<(u32, &Boxed<Expr>, &Boxed<Expr>, &Boxed<Expr>)>
+pub(crate) fn cond_of(tree: &Expr) -> Option<(u32, &Boxed<Expr>, &Boxed<Expr>, &Boxed<Expr>)>
     ensures some { IfSome result (λ x. tree.now ≡ expr.Cond x.0 x.1.now x.2.now x.3.now) }
     ensures none { IfNone result ((s : _) (t : _) (a : _) (c : _) → tree.now ≡ expr.Cond s t a c → ⊥) }
 {
@@ -158,7 +158,7 @@ pub fn cond_of(tree: &Expr) -> Option<(u32, &Boxed<Expr>, &Boxed<Expr>, &Boxed<E
     }
 }
 
-pub fn assign_of(tree: &Expr) -> Option<(u32, Option<BinOp>, &Boxed<Target>, &Boxed<Expr>)>
+pub(crate) fn assign_of(tree: &Expr) -> Option<(u32, Option<BinOp>, &Boxed<Target>, &Boxed<Expr>)>
     ensures some { IfSome result (λ x. tree.now ≡ expr.Assign x.0 x.1 x.2.now x.3.now) }
     ensures none { IfNone result ((s : _) (op : _) (t : _) (a : _) → tree.now ≡ expr.Assign s op t a → ⊥) }
 {
@@ -168,7 +168,7 @@ pub fn assign_of(tree: &Expr) -> Option<(u32, Option<BinOp>, &Boxed<Target>, &Bo
     }
 }
 
-pub fn step_of(tree: &Expr) -> Option<(u32, bool, bool, &Boxed<Target>)>
+pub(crate) fn step_of(tree: &Expr) -> Option<(u32, bool, bool, &Boxed<Target>)>
     ensures some { IfSome result (λ x. tree.now ≡ expr.Step x.0 x.1 x.2 x.3.now) }
     ensures none { IfNone result ((s : _) (up : _) (prefix : _) (t : _) → tree.now ≡ expr.Step s up prefix t → ⊥) }
 {
@@ -178,7 +178,7 @@ pub fn step_of(tree: &Expr) -> Option<(u32, bool, bool, &Boxed<Target>)>
     }
 }
 
-pub fn member_of(tree: &Expr) -> Option<(u32, &Boxed<Expr>, u32)>
+pub(crate) fn member_of(tree: &Expr) -> Option<(u32, &Boxed<Expr>, u32)>
     ensures some { IfSome result (λ x. tree.now ≡ expr.Member x.0 x.1.now x.2) }
     ensures none { IfNone result ((s : _) (a : _) (p : _) → tree.now ≡ expr.Member s a p → ⊥) }
 {
@@ -188,7 +188,7 @@ pub fn member_of(tree: &Expr) -> Option<(u32, &Boxed<Expr>, u32)>
     }
 }
 
-pub fn index_of(tree: &Expr) -> Option<(u32, &Boxed<Expr>, &Boxed<Expr>)>
+pub(crate) fn index_of(tree: &Expr) -> Option<(u32, &Boxed<Expr>, &Boxed<Expr>)>
     ensures some { IfSome result (λ x. tree.now ≡ expr.Index x.0 x.1.now x.2.now) }
     ensures none { IfNone result ((s : _) (a : _) (c : _) → tree.now ≡ expr.Index s a c → ⊥) }
 {
@@ -198,7 +198,7 @@ pub fn index_of(tree: &Expr) -> Option<(u32, &Boxed<Expr>, &Boxed<Expr>)>
     }
 }
 
-pub fn call_of(tree: &Expr) -> Option<(u32, &Boxed<Expr>, &Items<Expr>)>
+pub(crate) fn call_of(tree: &Expr) -> Option<(u32, &Boxed<Expr>, &Items<Expr>)>
     ensures some { IfSome result (λ x. tree.now ≡ expr.Call x.0 x.1.now x.2.now) }
     ensures none { IfNone result ((s : _) (f : _) (es : _) → tree.now ≡ expr.Call s f es → ⊥) }
 {
@@ -208,7 +208,7 @@ pub fn call_of(tree: &Expr) -> Option<(u32, &Boxed<Expr>, &Items<Expr>)>
     }
 }
 
-pub fn new_of(tree: &Expr) -> Option<(u32, &Boxed<Expr>, &Items<Expr>)>
+pub(crate) fn new_of(tree: &Expr) -> Option<(u32, &Boxed<Expr>, &Items<Expr>)>
     ensures some { IfSome result (λ x. tree.now ≡ expr.New x.0 x.1.now x.2.now) }
     ensures none { IfNone result ((s : _) (f : _) (es : _) → tree.now ≡ expr.New s f es → ⊥) }
 {
@@ -218,7 +218,7 @@ pub fn new_of(tree: &Expr) -> Option<(u32, &Boxed<Expr>, &Items<Expr>)>
     }
 }
 
-pub fn comma_of(tree: &Expr) -> Option<(u32, &Boxed<Expr>, &Boxed<Expr>)>
+pub(crate) fn comma_of(tree: &Expr) -> Option<(u32, &Boxed<Expr>, &Boxed<Expr>)>
     ensures some { IfSome result (λ x. tree.now ≡ expr.Comma x.0 x.1.now x.2.now) }
     ensures none { IfNone result ((s : _) (a : _) (c : _) → tree.now ≡ expr.Comma s a c → ⊥) }
 {
@@ -228,7 +228,7 @@ pub fn comma_of(tree: &Expr) -> Option<(u32, &Boxed<Expr>, &Boxed<Expr>)>
     }
 }
 
-pub fn cast_of(tree: &Expr) -> Option<(u32, u32, &Boxed<Expr>)>
+pub(crate) fn cast_of(tree: &Expr) -> Option<(u32, u32, &Boxed<Expr>)>
     ensures some { IfSome result (λ x. tree.now ≡ expr.Cast x.0 x.1 x.2.now) }
     ensures none { IfNone result ((s : _) (d : _) (a : _) → tree.now ≡ expr.Cast s d a → ⊥) }
 {
@@ -238,7 +238,7 @@ pub fn cast_of(tree: &Expr) -> Option<(u32, u32, &Boxed<Expr>)>
     }
 }
 
-pub fn tick_of(tree: &Expr) -> Option<(u32, u64, &Boxed<Expr>)>
+pub(crate) fn tick_of(tree: &Expr) -> Option<(u32, u64, &Boxed<Expr>)>
     ensures some { IfSome result (λ x. tree.now ≡ expr.Tick x.0 x.1 x.2.now) }
     ensures none { IfNone result ((s : _) (p : _) (a : _) → tree.now ≡ expr.Tick s p a → ⊥) }
 {
@@ -248,7 +248,7 @@ pub fn tick_of(tree: &Expr) -> Option<(u32, u64, &Boxed<Expr>)>
     }
 }
 
-pub fn variable_of(tree: &Target) -> Option<(u32, Ref)>
+pub(crate) fn variable_of(tree: &Target) -> Option<(u32, Ref)>
     ensures some { IfSome result (λ x. tree.now ≡ target.Variable x.0 x.1) }
     ensures none { IfNone result ((s : _) (v : _) → tree.now ≡ target.Variable s v → ⊥) }
 {
@@ -258,7 +258,7 @@ pub fn variable_of(tree: &Target) -> Option<(u32, Ref)>
     }
 }
 
-pub fn dotted_of(tree: &Target) -> Option<(u32, &Boxed<Expr>, u32)>
+pub(crate) fn dotted_of(tree: &Target) -> Option<(u32, &Boxed<Expr>, u32)>
     ensures some { IfSome result (λ x. tree.now ≡ target.Dotted x.0 x.1.now x.2) }
     ensures none { IfNone result ((s : _) (o : _) (p : _) → tree.now ≡ target.Dotted s o p → ⊥) }
 {
@@ -268,7 +268,7 @@ pub fn dotted_of(tree: &Target) -> Option<(u32, &Boxed<Expr>, u32)>
     }
 }
 
-pub fn bracketed_of(tree: &Target) -> Option<(u32, &Boxed<Expr>, &Boxed<Expr>)>
+pub(crate) fn bracketed_of(tree: &Target) -> Option<(u32, &Boxed<Expr>, &Boxed<Expr>)>
     ensures some { IfSome result (λ x. tree.now ≡ target.Bracketed x.0 x.1.now x.2.now) }
     ensures none { IfNone result ((s : _) (o : _) (k : _) → tree.now ≡ target.Bracketed s o k → ⊥) }
 {

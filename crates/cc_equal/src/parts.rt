@@ -5,19 +5,19 @@ use cc_ast::operator::BinOp;
 use cc_ast::tree::Key;
 use cc_ast::units::Units;
 
-pub fn same_units(a: &Units, b: &Units) -> bool
+pub(crate) fn same_units(a: &Units, b: &Units) -> bool
     ensures { IsTrue result ↔ (a.now ≡ b.now) }
 {
     a.list.as_slice() == b.list.as_slice()
 }
 
-pub fn same_operator(a: Option<BinOp>, b: Option<BinOp>) -> bool
+pub(crate) fn same_operator(a: Option<BinOp>, b: Option<BinOp>) -> bool
     ensures { IsTrue result ↔ (a ≡ b) }
 {
     a == b
 }
 
-pub fn same_key(a: &Key, b: &Key) -> bool
+pub(crate) fn same_key(a: &Key, b: &Key) -> bool
     ensures { IsTrue result ↔ (a.now ≡ b.now) }
 {
     match a {

@@ -9,7 +9,7 @@ use cc_ast::tree::{Case, Stmt};
 use sqlite_items::Items;
 
 #[cycle(statement)]
-pub fn same_stmt(a: &Stmt, b: &Stmt) -> bool
+pub(crate) fn same_stmt(a: &Stmt, b: &Stmt) -> bool
     ensures { IsTrue result ↔ (a.now ≡ b.now) }
 {
     match a {
@@ -108,7 +108,7 @@ pub fn same_stmt(a: &Stmt, b: &Stmt) -> bool
 }
 
 #[cycle(statement)]
-pub fn same_stmts(a: &Items<Stmt>, b: &Items<Stmt>) -> bool
+pub(crate) fn same_stmts(a: &Items<Stmt>, b: &Items<Stmt>) -> bool
     ensures { IsTrue result ↔ (a.now ≡ b.now) }
 {
     let others = b.as_slice();

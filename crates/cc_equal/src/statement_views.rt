@@ -6,7 +6,7 @@ use cc_ast::tree::{Case, Declarator, Expr, ForInit, ForTarget, Ref, Stmt};
 use cc_ast::units::Units;
 use sqlite_items::Items;
 
-pub fn simple_of(tree: &Stmt) -> Option<(u32, &Expr)>
+pub(crate) fn simple_of(tree: &Stmt) -> Option<(u32, &Expr)>
     ensures some { IfSome result (λ x. tree.now ≡ stmt.Simple x.0 x.1.now) }
     ensures none { IfNone result ((s : _) (e : _) → tree.now ≡ stmt.Simple s e → ⊥) }
 {
@@ -16,7 +16,7 @@ pub fn simple_of(tree: &Stmt) -> Option<(u32, &Expr)>
     }
 }
 
-pub fn var_of(tree: &Stmt) -> Option<(u32, &Items<Declarator>)>
+pub(crate) fn var_of(tree: &Stmt) -> Option<(u32, &Items<Declarator>)>
     ensures some { IfSome result (λ x. tree.now ≡ stmt.Var x.0 x.1.now) }
     ensures none { IfNone result ((s : _) (ds : _) → tree.now ≡ stmt.Var s ds → ⊥) }
 {
@@ -26,7 +26,7 @@ pub fn var_of(tree: &Stmt) -> Option<(u32, &Items<Declarator>)>
     }
 }
 
-pub fn fun_of(tree: &Stmt) -> Option<(u32, Ref, u32)>
+pub(crate) fn fun_of(tree: &Stmt) -> Option<(u32, Ref, u32)>
     ensures some { IfSome result (λ x. tree.now ≡ stmt.Fun x.0 x.1 x.2) }
     ensures none { IfNone result ((s : _) (v : _) (f : _) → tree.now ≡ stmt.Fun s v f → ⊥) }
 {
@@ -36,7 +36,7 @@ pub fn fun_of(tree: &Stmt) -> Option<(u32, Ref, u32)>
     }
 }
 
-pub fn if_of(tree: &Stmt) -> Option<(u32, &Expr, &Items<Stmt>, &Items<Stmt>)>
+pub(crate) fn if_of(tree: &Stmt) -> Option<(u32, &Expr, &Items<Stmt>, &Items<Stmt>)>
     ensures some { IfSome result (λ x. tree.now ≡ stmt.If x.0 x.1.now x.2.now x.3.now) }
     ensures none { IfNone result ((s : _) (t : _) (a : _) (c : _) → tree.now ≡ stmt.If s t a c → ⊥) }
 {
@@ -46,7 +46,7 @@ pub fn if_of(tree: &Stmt) -> Option<(u32, &Expr, &Items<Stmt>, &Items<Stmt>)>
     }
 }
 
-pub fn while_of(tree: &Stmt) -> Option<(u32, &Expr, &Items<Stmt>)>
+pub(crate) fn while_of(tree: &Stmt) -> Option<(u32, &Expr, &Items<Stmt>)>
     ensures some { IfSome result (λ x. tree.now ≡ stmt.While x.0 x.1.now x.2.now) }
     ensures none { IfNone result ((s : _) (t : _) (c : _) → tree.now ≡ stmt.While s t c → ⊥) }
 {
@@ -56,7 +56,7 @@ pub fn while_of(tree: &Stmt) -> Option<(u32, &Expr, &Items<Stmt>)>
     }
 }
 
-pub fn do_while_of(tree: &Stmt) -> Option<(u32, &Items<Stmt>, &Expr)>
+pub(crate) fn do_while_of(tree: &Stmt) -> Option<(u32, &Items<Stmt>, &Expr)>
     ensures some { IfSome result (λ x. tree.now ≡ stmt.DoWhile x.0 x.1.now x.2.now) }
     ensures none { IfNone result ((s : _) (c : _) (t : _) → tree.now ≡ stmt.DoWhile s c t → ⊥) }
 {
@@ -66,7 +66,7 @@ pub fn do_while_of(tree: &Stmt) -> Option<(u32, &Items<Stmt>, &Expr)>
     }
 }
 
-pub fn for_of(tree: &Stmt) -> Option<(u32, &ForInit, &Option<Expr>, &Option<Expr>, &Items<Stmt>)>
+pub(crate) fn for_of(tree: &Stmt) -> Option<(u32, &ForInit, &Option<Expr>, &Option<Expr>, &Items<Stmt>)>
     ensures some { IfSome result (λ x. tree.now ≡ stmt.For x.0 x.1.now x.2.now x.3.now x.4.now) }
     ensures none { IfNone result ((s : _) (h : _) (t : _) (u : _) (c : _) → tree.now ≡ stmt.For s h t u c → ⊥) }
 {
@@ -76,7 +76,7 @@ pub fn for_of(tree: &Stmt) -> Option<(u32, &ForInit, &Option<Expr>, &Option<Expr
     }
 }
 
-pub fn for_in_of(tree: &Stmt) -> Option<(u32, &ForTarget, &Expr, &Items<Stmt>)>
+pub(crate) fn for_in_of(tree: &Stmt) -> Option<(u32, &ForTarget, &Expr, &Items<Stmt>)>
     ensures some { IfSome result (λ x. tree.now ≡ stmt.ForIn x.0 x.1.now x.2.now x.3.now) }
     ensures none { IfNone result ((s : _) (h : _) (t : _) (c : _) → tree.now ≡ stmt.ForIn s h t c → ⊥) }
 {
@@ -86,7 +86,7 @@ pub fn for_in_of(tree: &Stmt) -> Option<(u32, &ForTarget, &Expr, &Items<Stmt>)>
     }
 }
 
-pub fn return_of(tree: &Stmt) -> Option<(u32, &Option<Expr>)>
+pub(crate) fn return_of(tree: &Stmt) -> Option<(u32, &Option<Expr>)>
     ensures some { IfSome result (λ x. tree.now ≡ stmt.Return x.0 x.1.now) }
     ensures none { IfNone result ((s : _) (o : _) → tree.now ≡ stmt.Return s o → ⊥) }
 {
@@ -96,7 +96,7 @@ pub fn return_of(tree: &Stmt) -> Option<(u32, &Option<Expr>)>
     }
 }
 
-pub fn throw_of(tree: &Stmt) -> Option<(u32, &Expr)>
+pub(crate) fn throw_of(tree: &Stmt) -> Option<(u32, &Expr)>
     ensures some { IfSome result (λ x. tree.now ≡ stmt.Throw x.0 x.1.now) }
     ensures none { IfNone result ((s : _) (e : _) → tree.now ≡ stmt.Throw s e → ⊥) }
 {
@@ -106,7 +106,7 @@ pub fn throw_of(tree: &Stmt) -> Option<(u32, &Expr)>
     }
 }
 
-pub fn break_of(tree: &Stmt) -> Option<(u32, &Option<Units>)>
+pub(crate) fn break_of(tree: &Stmt) -> Option<(u32, &Option<Units>)>
     ensures some { IfSome result (λ x. tree.now ≡ stmt.Break x.0 x.1.now) }
     ensures none { IfNone result ((s : _) (l : _) → tree.now ≡ stmt.Break s l → ⊥) }
 {
@@ -116,7 +116,7 @@ pub fn break_of(tree: &Stmt) -> Option<(u32, &Option<Units>)>
     }
 }
 
-pub fn continue_of(tree: &Stmt) -> Option<(u32, &Option<Units>)>
+pub(crate) fn continue_of(tree: &Stmt) -> Option<(u32, &Option<Units>)>
     ensures some { IfSome result (λ x. tree.now ≡ stmt.Continue x.0 x.1.now) }
     ensures none { IfNone result ((s : _) (l : _) → tree.now ≡ stmt.Continue s l → ⊥) }
 {
@@ -126,7 +126,7 @@ pub fn continue_of(tree: &Stmt) -> Option<(u32, &Option<Units>)>
     }
 }
 
-pub fn label_of(tree: &Stmt) -> Option<(u32, &Units, &Items<Stmt>)>
+pub(crate) fn label_of(tree: &Stmt) -> Option<(u32, &Units, &Items<Stmt>)>
     ensures some { IfSome result (λ x. tree.now ≡ stmt.Label x.0 x.1.now x.2.now) }
     ensures none { IfNone result ((s : _) (l : _) (c : _) → tree.now ≡ stmt.Label s l c → ⊥) }
 {
@@ -136,7 +136,7 @@ pub fn label_of(tree: &Stmt) -> Option<(u32, &Units, &Items<Stmt>)>
     }
 }
 
-pub fn switch_of(tree: &Stmt) -> Option<(u32, &Expr, &Items<Case>)>
+pub(crate) fn switch_of(tree: &Stmt) -> Option<(u32, &Expr, &Items<Case>)>
     ensures some { IfSome result (λ x. tree.now ≡ stmt.Switch x.0 x.1.now x.2.now) }
     ensures none { IfNone result ((s : _) (e : _) (cs : _) → tree.now ≡ stmt.Switch s e cs → ⊥) }
 {
@@ -146,7 +146,7 @@ pub fn switch_of(tree: &Stmt) -> Option<(u32, &Expr, &Items<Case>)>
     }
 }
 
-pub fn try_of(
+pub(crate) fn try_of(
     tree: &Stmt,
 ) -> Option<
     (
@@ -165,7 +165,7 @@ pub fn try_of(
     }
 }
 
-pub fn tick_of(tree: &Stmt) -> Option<(u32, u64)>
+pub(crate) fn tick_of(tree: &Stmt) -> Option<(u32, u64)>
     ensures some { IfSome result (λ x. tree.now ≡ stmt.Tick x.0 x.1) }
     ensures none { IfNone result ((s : _) (p : _) → tree.now ≡ stmt.Tick s p → ⊥) }
 {

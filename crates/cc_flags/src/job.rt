@@ -4,7 +4,7 @@ use cc_chunks::ChunkSpec;
 use cc_text::Units;
 
 /// The value that a definition gives to its variable.
-#[derive(Debug, Drop)]
+#[derive(Drop)]
 pub enum DefineValue {
     Truth(bool),
     Whole(i64),
@@ -12,7 +12,7 @@ pub enum DefineValue {
 }
 
 /// A definition (Closure Compiler, `--define`): the variable's name, and its new value.
-#[derive(Debug, Drop)]
+#[derive(Drop)]
 pub struct Define {
     pub name: String,
     pub value: DefineValue,
@@ -20,7 +20,7 @@ pub struct Define {
 
 /// A wrapper: what stands before its marker, and what stands behind it. The output takes the
 /// marker's place.
-#[derive(Debug, Drop)]
+#[derive(Drop)]
 pub struct Wrapper {
     pub before: String,
     pub behind: String,
@@ -29,7 +29,7 @@ pub struct Wrapper {
 /// Where the output goes: to one file; to a file for each chunk, whose name is the prefix, the
 /// chunk's name and `.js`, and whose wrapper stands at the chunk's number; or nowhere, where only
 /// checks or generated input are asked for.
-#[derive(Debug, Drop)]
+#[derive(Drop)]
 pub enum Output {
     File {
         name: String,
@@ -43,7 +43,7 @@ pub enum Output {
 }
 
 /// The input that is to be generated.
-#[derive(Clone, Copy, Debug, PartialEq, Eq)]
+#[derive(Clone, Copy)]
 pub struct Synthesis {
     pub seed: u64,
     pub size: u32,
@@ -52,7 +52,7 @@ pub struct Synthesis {
 /// What the words of a compilation ask for. Without `--chunk` there is one chunk, `main`, which
 /// takes all sources. Of several definitions of one name the last counts, and all stand here,
 /// since each is to be tested.
-#[derive(Debug, Drop)]
+#[derive(Drop)]
 pub struct Job {
     pub externs: Vec<String>,
     pub sources: Vec<String>,
@@ -67,7 +67,7 @@ pub struct Job {
 
 /// What the words of a replay ask for; chunks and definitions are those of `Job`. `bound` is the
 /// greatest cost of the run.
-#[derive(Debug, Drop)]
+#[derive(Drop)]
 pub struct ReplayJob {
     pub externs: Vec<String>,
     pub sources: Vec<String>,

@@ -20,8 +20,6 @@ mod number;
 mod output;
 mod read;
 mod settings;
-#[cfg(test)]
-mod tests;
 mod text;
 mod together;
 mod usage;

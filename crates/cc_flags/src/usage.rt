@@ -5,7 +5,7 @@ use std::alloc::{AllocError, AllocFailed};
 use thiserror::Error;
 
 /// What is wrong with a word, or what is missing. The first four are faults of a word's form.
-#[derive(Clone, Copy, Debug, PartialEq, Eq)]
+#[derive(Clone, Copy, Debug)]
 pub enum UsageKind {
     /// The call has no such flag.
     Unknown,
@@ -25,7 +25,7 @@ pub enum UsageKind {
 
 /// Why words are no job. `at` counts words from 0; what is missing has the number of words.
 /// `Memory` is want of memory.
-#[derive(Clone, Copy, Debug, PartialEq, Eq, Error)]
+#[derive(Clone, Copy, Debug, Error)]
 pub enum Usage {
     #[error("word {at} is no part of a command line")]
     Word { at: usize, kind: UsageKind },

@@ -19,8 +19,6 @@ mod parts;
 mod place;
 mod price;
 mod statement;
-#[cfg(test)]
-mod tests;
 
 use crate::built::{Plan, built_of};
 use crate::statement::fold_stmts;

@@ -6,8 +6,6 @@
 mod calls;
 mod draws;
 mod functions;
-#[cfg(test)]
-mod tests;
 
 ghost use Rattle.std.specs.Prelude.{◌≡◌, ◌<◌, IfOk};
 ghost use Rattle.cc_gen.specs.Texts.{base_text, x_text, y_text, externs_text};
@@ -18,7 +16,7 @@ use crate::functions::base_text;
 use std::alloc::{AllocError, Global};
 
 /// The texts of one generated input, in ASCII.
-#[derive(Debug, Drop)]
+#[derive(Drop)]
 pub struct Generated {
     pub externs: Vec<u8>,
     pub base: Vec<u8>,

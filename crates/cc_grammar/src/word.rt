@@ -1,7 +1,7 @@
 // Reserved words.
 
 /// A reserved word (ECMA-262 5.1, 7.6.1), or `null`, `true` or `false`.
-#[derive(Clone, Copy, Debug, PartialEq, Eq)]
+#[derive(Clone, Copy)]
 pub enum Word {
     Break,
     Case,

@@ -10,5 +10,3 @@ pub mod names;
 mod object;
 pub mod slot;
 mod slots;
-#[cfg(test)]
-mod tests;

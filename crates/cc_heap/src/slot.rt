@@ -6,7 +6,7 @@ use std::marker::Model;
 
 /// How a slot came to be: its name is kept, it is an index, or it was made with a dot, with a
 /// literal text as key, or by another text.
-#[derive(Clone, Copy, Debug, PartialEq, Eq, Drop)]
+#[derive(Clone, Copy, Drop)]
 pub enum SlotKind {
     Kept,
     Indexed,
@@ -16,7 +16,7 @@ pub enum SlotKind {
 }
 
 /// A named property of an object (ECMA-262 5.1, 8.6).
-#[derive(Debug, Drop)]
+#[derive(Drop)]
 pub struct Slot {
     pub name: Units,
     pub kind: SlotKind,
@@ -35,7 +35,7 @@ impl Model for Slot {
 }
 
 /// What a look-up comes to: a stored value, or the length of an array, which is none.
-#[derive(Copy, Clone, Debug)]
+#[derive(Copy, Clone)]
 pub enum Held<'a> {
     Value(&'a Value),
     Length(usize),

@@ -13,15 +13,13 @@ use thiserror::Error;
 mod fault_count;
 mod file_host;
 mod memory_host;
-#[cfg(test)]
-mod tests;
 mod transfer;
 
 pub use file_host::FileHost;
 pub use memory_host::MemoryHost;
 
 /// Why a call of a host didn't do what it was asked.
-#[derive(Clone, Copy, Debug, PartialEq, Eq, Error)]
+#[derive(Clone, Copy, Debug, Error)]
 pub enum HostFault {
     /// The host failed, and its count of faults rose.
     #[error("the host failed")]

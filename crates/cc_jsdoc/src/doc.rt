@@ -4,7 +4,7 @@ use crate::types::{Name, TypeExpr};
 use cc_ast::units::Units;
 use sqlite_items::Items;
 
-#[derive(Clone, Copy, Debug, PartialEq, Eq)]
+#[derive(Clone, Copy)]
 pub enum DocKind {
     Plain,
     Constructor,
@@ -14,7 +14,7 @@ pub enum DocKind {
 }
 
 /// The type that a comment gives to the parameter of a name.
-#[derive(Debug, Drop)]
+#[derive(Drop)]
 pub struct Param {
     pub name: Units,
     pub expr: TypeExpr,
@@ -23,7 +23,7 @@ pub struct Param {
 /// What the tags of one comment give. `value` is the type of `@type`, `@const`, `@define`,
 /// `@enum` or `@typedef`, whichever comes last; `result` is that of `@return`, and `receiver`
 /// that of `@this`. Each parameter stands once.
-#[derive(Debug, Drop)]
+#[derive(Drop)]
 pub struct Doc {
     pub kind: DocKind,
     pub extends: Option<Name>,

@@ -18,8 +18,6 @@ mod reading;
 mod span;
 mod symbol;
 mod tag;
-#[cfg(test)]
-mod tests;
 pub mod types;
 
 ghost use Rattle.std.specs.Prelude.{IfOk};

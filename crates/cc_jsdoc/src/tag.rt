@@ -4,7 +4,7 @@ use crate::doc::Param;
 use crate::types::{Name, TypeExpr};
 
 /// The names of tags that give something.
-#[derive(Clone, Copy, Debug, PartialEq, Eq)]
+#[derive(Clone, Copy)]
 pub(crate) enum TagName {
     Constructor,
     Interface,
@@ -25,7 +25,7 @@ pub(crate) enum TagName {
 }
 
 /// A tag with what it gives.
-#[derive(Debug, Drop)]
+#[derive(Drop)]
 pub(crate) enum Tag {
     Constructor,
     Interface,

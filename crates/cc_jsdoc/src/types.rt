@@ -4,14 +4,14 @@ use cc_ast::units::Units;
 use sqlite_items::Items;
 
 /// A name with dots: the parts between them.
-#[derive(Debug, Drop)]
+#[derive(Drop)]
 pub struct Name {
     pub parts: Items<Units>,
 }
 
 /// What one alternative of a type means by itself. `Empty` is the type of `undefined` and `null`
 /// alone, which belong to every type. `Truth` is boolean.
-#[derive(Debug, Drop)]
+#[derive(Drop)]
 pub enum Simple {
     Empty,
     Number,
@@ -25,7 +25,7 @@ pub enum Simple {
 
 /// One alternative of a type. The element type of an array is a union too, and has no element
 /// types of its own.
-#[derive(Debug, Drop)]
+#[derive(Drop)]
 pub enum Alternative {
     Unknown,
     Simple(Simple),
@@ -33,7 +33,7 @@ pub enum Alternative {
 }
 
 /// A type: the union of its alternatives, and so unknown where one of them is.
-#[derive(Debug, Drop)]
+#[derive(Drop)]
 pub struct TypeExpr {
     pub alternatives: Items<Alternative>,
 }

@@ -19,5 +19,3 @@ pub mod token;
 
 pub use lexing::tokens;
 
-#[cfg(test)]
-mod tests;

@@ -5,7 +5,7 @@ use cc_ast::reading::{Construct, Refusal};
 use cc_ast::units::Units;
 
 /// A punctuator (ECMA-262 5.1, 7.7).
-#[derive(Clone, Copy, Debug, PartialEq, Eq)]
+#[derive(Clone, Copy)]
 pub enum Mark {
     OpenBrace,
     CloseBrace,
@@ -59,7 +59,7 @@ pub enum Mark {
 
 /// A name, a reserved word, a punctuator, a whole number, a string by its value, an annotation
 /// comment by its whole text, or the end of the input.
-#[derive(Debug, Drop)]
+#[derive(Drop)]
 pub enum TokenKind {
     Name(Units),
     Word(Units),
@@ -72,7 +72,7 @@ pub enum TokenKind {
 
 /// A token with the place of its first character. `after_line` tells whether a line end, or a
 /// comment that contains one, stands between it and the token before it that is no comment.
-#[derive(Debug, Drop)]
+#[derive(Drop)]
 pub struct Token {
     pub kind: TokenKind,
     pub place: Place,
@@ -81,14 +81,14 @@ pub struct Token {
 
 /// The tokens of a text up to the first character that begins none, and what is refused there.
 /// `End` is the last token exactly where nothing is refused.
-#[derive(Debug, Drop)]
+#[derive(Drop)]
 pub struct Tokens {
     pub list: Vec<Token>,
     pub stop: Option<Refusal>,
 }
 
 /// Why no token begins at a character.
-#[derive(Clone, Copy, Debug, PartialEq, Eq)]
+#[derive(Clone, Copy, Debug)]
 pub enum Fault {
     Syntax,
     Refused(Construct),

@@ -6,7 +6,7 @@ use cc_ast::units::Units;
 use sqlite_items::{Boxed, Items};
 
 /// A variable that is declared, and where its name stands.
-#[derive(Debug, Drop)]
+#[derive(Drop)]
 pub struct Named {
     pub place: Place,
     pub name: Units,
@@ -14,7 +14,7 @@ pub struct Named {
 
 /// A key of an object literal (ECMA-262 5.1, 11.1.5): a name or a reserved word, a text, or a
 /// number.
-#[derive(Debug, Drop)]
+#[derive(Drop)]
 pub enum RawKey {
     Dotted(Units),
     Quoted(Units),
@@ -143,7 +143,7 @@ pub enum RawStmt {
 }
 
 /// An annotation comment: its place, that of the next token that is no comment, and its whole text.
-#[derive(Debug, Drop)]
+#[derive(Drop)]
 pub struct Comment {
     pub place: Place,
     pub next: Place,

@@ -4,8 +4,6 @@
 mod file;
 mod note;
 mod source;
-#[cfg(test)]
-mod tests;
 mod tree;
 
 pub use crate::file::read_file;

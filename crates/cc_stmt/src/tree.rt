@@ -7,7 +7,7 @@ use sqlite_items::Items;
 
 /// An annotation comment: its place, the place of the next token that is no comment, and its whole
 /// text in 16-bit units.
-#[derive(Debug, Drop)]
+#[derive(Drop)]
 pub struct Note {
     pub place: Place,
     pub next: Place,

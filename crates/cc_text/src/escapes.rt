@@ -9,7 +9,7 @@ use crate::front::{is_line_end, split_first};
 
 /// What an escape gives, with the byte at which the text goes on: a unit, a pair of units, or
 /// nothing where a line is continued. An octal escape and what is no escape give no unit.
-#[derive(Clone, Copy, Debug, PartialEq, Eq)]
+#[derive(Clone, Copy)]
 pub enum Escape {
     Unit(u16, usize),
     Pair(u16, u16, usize),

@@ -14,5 +14,3 @@ pub use front::{is_line_end, split_first};
 pub use literals::{numeral, whole};
 pub use utf16::{push_char, units_of};
 
-#[cfg(test)]
-mod tests;

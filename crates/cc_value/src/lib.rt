@@ -6,8 +6,6 @@
 
 pub mod operate;
 pub mod rules;
-#[cfg(test)]
-mod tests;
 pub mod texts;
 pub mod value;
 mod whole;

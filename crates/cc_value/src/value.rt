@@ -6,7 +6,7 @@ use std::alloc::AllocError;
 use thiserror::Error;
 
 /// A value (ECMA-262 5.1, 8). Objects of the program and of the outside go by number.
-#[derive(Debug, Drop)]
+#[derive(Drop)]
 pub enum Value {
     Undefined,
     Null,
@@ -18,7 +18,7 @@ pub enum Value {
 }
 
 /// A value as the outside sees it: an object of the program stands as its handle.
-#[derive(Debug, Drop)]
+#[derive(Drop)]
 pub enum View {
     Undefined,
     Null,
@@ -30,7 +30,7 @@ pub enum View {
 }
 
 /// What reaches the outside, and how each turn and each inner call ends.
-#[derive(Debug, Drop)]
+#[derive(Drop)]
 pub enum Event {
     Call {
         target: View,
@@ -59,7 +59,7 @@ pub enum Event {
 }
 
 /// Why an operator gives no value: the rule that it breaks, or want of memory.
-#[derive(Clone, Copy, Debug, PartialEq, Eq, Error)]
+#[derive(Clone, Copy, Debug, Error)]
 pub enum OpFault {
     #[error("a number that isn't whole, is past 2^53-1 or is the negative zero")]
     Rule1,

@@ -3,7 +3,7 @@
 use std::alloc::AllocError;
 
 /// Why a text is not read: it is not of the form, or memory is wanting.
-#[derive(Clone, Copy, Debug, PartialEq, Eq)]
+#[derive(Clone, Copy)]
 pub(crate) enum Unread {
     Form,
     Memory(AllocError),

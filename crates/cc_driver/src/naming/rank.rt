@@ -8,7 +8,7 @@ use cc_ast::tables::GlobalInfo;
 use std::alloc::{AllocError, Global};
 
 /// A global's rank: the greater its count, the lesser is `falling`.
-#[derive(Clone, Copy, Debug, PartialEq, Eq, PartialOrd, Ord)]
+#[derive(Clone, Copy, PartialEq, Eq, PartialOrd, Ord)]
 pub struct Rank {
     pub falling: usize,
     pub global: usize,
