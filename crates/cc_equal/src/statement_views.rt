@@ -66,7 +66,9 @@ pub(crate) fn do_while_of(tree: &Stmt) -> Option<(u32, &Items<Stmt>, &Expr)>
     }
 }
 
-pub(crate) fn for_of(tree: &Stmt) -> Option<(u32, &ForInit, &Option<Expr>, &Option<Expr>, &Items<Stmt>)>
+pub(crate) fn for_of(
+    tree: &Stmt,
+) -> Option<(u32, &ForInit, &Option<Expr>, &Option<Expr>, &Items<Stmt>)>
     ensures some { IfSome result (λ x. tree.now ≡ stmt.For x.0 x.1.now x.2.now x.3.now x.4.now) }
     ensures none { IfNone result ((s : _) (h : _) (t : _) (u : _) (c : _) → tree.now ≡ stmt.For s h t u c → ⊥) }
 {

@@ -18,4 +18,3 @@ mod string;
 pub mod token;
 
 pub use lexing::tokens;
-

@@ -13,4 +13,3 @@ pub use escapes::{Behind, Escape, escape_behind, read_escape};
 pub use front::{is_line_end, split_first};
 pub use literals::{numeral, whole};
 pub use utf16::{push_char, units_of};
-
