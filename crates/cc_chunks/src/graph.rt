@@ -9,8 +9,8 @@ use crate::names::first_numbers;
 use crate::reach::{Reach, table_of};
 use crate::set::{has_bit, with_bit};
 use crate::spec::{ChunkFault, ChunkSpec};
-use cc_ast::copy::table::copy_items;
 use cc_ast::program::Program;
+use cc_ast::shared::Shared;
 use cc_ast::tables::ChunkInfo;
 use sqlite_items::{Items, at};
 use std::alloc::{AllocError, Global};
@@ -19,7 +19,7 @@ use std::marker::Model;
 /// Chunks that depend on chunks before them, with a table of all that each depends on.
 #[derive(Drop)]
 pub struct ChunkGraph {
-    chunks: Items<ChunkInfo>,
+    chunks: Shared<Items<ChunkInfo>>,
     counts: Items<u32>,
     table: Vec<Reach>,
 }
@@ -62,6 +62,7 @@ impl ChunkGraph {
             taken += u64::from(spec.count);
             check_count(specs, files, i, taken)?;
         }
+        let chunks = Shared::new(alloc, chunks)?;
         Ok(ChunkGraph::with_chunks(alloc, chunks, counts)?)
     }
 
@@ -71,20 +72,20 @@ impl ChunkGraph {
         ensures chunks { IfOk result (λ graph. graph.chunks ≡ program.now.chunks) }
         ensures counts { IfOk result (λ graph. graph.counts ≡ []) }
     {
-        let chunks = copy_items(alloc, &program.chunks)?;
+        let chunks = program.chunks.try_clone()?;
         ChunkGraph::with_chunks(alloc, chunks, Items::new(alloc))
     }
 
     fn with_chunks(
         alloc: Global,
-        chunks: Items<ChunkInfo>,
+        chunks: Shared<Items<ChunkInfo>>,
         counts: Items<u32>,
     ) -> Result<ChunkGraph, AllocError>
         requires { DependsDown chunks }
         ensures chunks { IfOk result (λ graph. graph.chunks ≡ chunks) }
         ensures counts { IfOk result (λ graph. graph.counts ≡ counts) }
     {
-        let table = table_of(alloc, chunks.as_slice())?;
+        let table = table_of(alloc, chunks.get().as_slice())?;
         Ok(ChunkGraph {
             chunks,
             counts,
@@ -97,7 +98,7 @@ impl ChunkGraph {
         ensures chunks { result.now ≡ self.now.chunks }
         ensures down { DependsDown self.now.chunks }
     {
-        self.chunks.as_slice()
+        self.chunks.get().as_slice()
     }
 
     /// How many files each chunk takes, in the order of the files; none for a program's chunks.

@@ -11,7 +11,7 @@ ghost use Rattle.cc_cursor.specs.Reads.{Reads};
 ghost use Rattle.cc_expr.specs.Nests.{NestsExpr, NestsStmt};
 
 use crate::grammar::Grammar;
-use cc_ast::copy::table::CopyOf;
+use cc_ast::copy::CopyOf;
 use cc_ast::place::Place;
 use cc_ast::units::Units;
 use cc_cursor::context::Context;

@@ -1,7 +1,7 @@
 // Copies of what folding leaves as it is.
 ghost use Rattle.std.specs.Prelude.{◌≡◌, IfOk};
 
-use cc_ast::copy::table::CopyOf;
+use cc_ast::copy::CopyOf;
 use cc_ast::tree::Key;
 use cc_ast::units::Units;
 use std::alloc::{AllocError, Global};

@@ -5,7 +5,7 @@ ghost use Rattle.cc_grammar.specs.RawTree as raw;
 ghost use Rattle.cc_raw.specs.Bridge.{named, raw_expr, raw_for_target, raw_init, raw_stmt, raw_target};
 ghost use Rattle.cc_trees.specs.StatementParts as parts;
 
-use cc_ast::copy::table::CopyOf;
+use cc_ast::copy::CopyOf;
 use cc_ast::place::Place;
 use cc_ast::units::Units;
 use cc_raw::tree::{

@@ -8,7 +8,7 @@ ghost use Rattle.cc_raw.specs.Bridge.{named, raw_expr, raw_stmt, raw_target};
 ghost use Rattle.cc_cursor.specs.Meant as meant;
 ghost use Rattle.cc_cursor.specs.Shown as shown;
 
-use cc_ast::copy::table::CopyOf;
+use cc_ast::copy::CopyOf;
 use cc_ast::operator::{BinOp, UnOp};
 use cc_ast::place::Place;
 use cc_ast::units::Units;

@@ -5,7 +5,7 @@ ghost use Rattle.cc_driver.specs.NamingSteps.{has_name, global_of, kept_name, as
 
 use crate::naming::number::numbered;
 use crate::naming::rank::Rank;
-use cc_ast::copy::table::CopyOf;
+use cc_ast::copy::CopyOf;
 use cc_ast::tables::GlobalInfo;
 use cc_ast::units::Units;
 use indexmap::IndexSet;

@@ -10,7 +10,7 @@ ghost use Rattle.cc_fold.specs.Literals.{literal_of, lit_of};
 
 use crate::literal::Literal;
 use crate::price::{price, unmarked};
-use cc_ast::copy::table::CopyOf;
+use cc_ast::copy::CopyOf;
 use cc_ast::tree::Expr;
 use cc_value::value::Value;
 use std::alloc::{AllocError, Global};
