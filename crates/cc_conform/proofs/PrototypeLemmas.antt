@@ -9,7 +9,7 @@ use Rattle.cc_meaning.specs.Monad.{pick}
 use Rattle.cc_meaning.specs.Names.{name_prototype}
 use Rattle.cc_meaning.specs.Operators.{list_eq}
 use Rattle.cc_meaning.specs.Rules.{prototype_object}
-use Rattle.cc_meaning.specs.SlotRules.{prototype_of_function, has_function, is_object, is_prototype_of, begins_with, empty, no_slots, without_slots, declares_well, code_rule, prototype_rule, rule_unless}
+use Rattle.cc_meaning.specs.SlotRules.{prototype_of_function, is_code_of, is_object, is_prototype_of, no_slots, without_slots, declares_well, code_rule, prototype_rule, rule_unless}
 use Rattle.cc_meaning.specs.State.{Code, Obj, Slot, State, Tables, bare}
 use Rattle.cc_meaning.specs.Store.{class_from, class_of_function, find_slot, is_number, slots_in}
 use Rattle.cc_meaning.specs.Values.{Val, prim, obj, out}
@@ -52,8 +52,8 @@ without-None os (Some (obj n)) e = cc
 without-None os (Some (out n)) e = refl
 without-None os (Some (prim q)) e = refl
 
-both : (k : Option Code) (w : Option Val) (c : Code) (p f n : ℕ) → Some c ≡ k → Some p ≡ prototype_object (pick (is_some k) w None) → (nat_eq c.function f && nat_eq p n) ≡ (has_function k f && is_object w n)
-unfolding prototype_object has_function is_object
+both : (k : Option Code) (w : Option Val) (c : Code) (p f n : ℕ) → Some c ≡ k → Some p ≡ prototype_object (pick (is_some k) w None) → (nat_eq c.function f && nat_eq p n) ≡ (is_code_of k f && is_object w n)
+unfolding prototype_object is_code_of is_object
 both None w c p f n e h = cc
 both (Some d) None c p f n e h = cc
 both (Some d) (Some (obj m)) c p f n e h = let code : c ≡ d = cc in let same : p ≡ m = cc in λ i. nat_eq (code i).function f && nat_eq (same i) n
@@ -65,8 +65,8 @@ unfolding prototype_of_function
 has-both None c p f n e h = cc
 has-both (Some o) c p f n e h = both o.code (find_slot o.slots name_prototype) c p f n e h
 
-no_object : (k : Option Code) (w : Option Val) (f n : ℕ) → None ≡ prototype_object (pick (is_some k) w None) → false ≡ (has_function k f && is_object w n)
-unfolding prototype_object has_function is_object
+no_object : (k : Option Code) (w : Option Val) (f n : ℕ) → None ≡ prototype_object (pick (is_some k) w None) → false ≡ (is_code_of k f && is_object w n)
+unfolding prototype_object is_code_of is_object
 no_object None w f n h = refl
 no_object (Some d) None f n h = sym (and-false (nat_eq d.function f))
 no_object (Some d) (Some (obj m)) f n h = cc
@@ -78,8 +78,8 @@ unfolding prototype_of_function
 has-no_prototype None f n h = refl
 has-no_prototype (Some o) f n h = no_object o.code (find_slot o.slots name_prototype) f n h
 
-no_code : (k : Option Code) (w : Option Val) (f n : ℕ) → None ≡ k → false ≡ (has_function k f && is_object w n)
-unfolding has_function
+no_code : (k : Option Code) (w : Option Val) (f n : ℕ) → None ≡ k → false ≡ (is_code_of k f && is_object w n)
+unfolding is_code_of
 no_code None w f n h = refl
 no_code (Some d) w f n h = cc
 

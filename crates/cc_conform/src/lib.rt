@@ -10,6 +10,7 @@ mod docs;
 mod fields;
 mod global_uses;
 mod host;
+mod keys;
 pub mod judge;
 mod look_up;
 mod names;
