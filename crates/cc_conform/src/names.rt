@@ -70,7 +70,7 @@ fn is_in(name: &[u16], names: &[Units]) -> bool
 pub(crate) fn is_kept(program: &Program, name: &[u16]) -> bool
     ensures { result ≡ Store.is_kept (tables_of program.now) name.now }
 {
-    is_in(name, program.kept.as_slice())
+    is_in(name, program.kept.get().as_slice())
 }
 
 fn is_one_of(name: &[u16], texts: &[&[u8]]) -> bool
@@ -149,7 +149,7 @@ pub(crate) fn name_of<'a>(program: &'a Program, key: &'a Access, none: &'a Units
     ensures { result.now ≡ Store.name_of (tables_of program.now) (access_of key.now) }
 {
     match key {
-        Access::Dotted(prop) => match program.props.get(*prop as usize) {
+        Access::Dotted(prop) => match program.props.get().get(*prop as usize) {
             Some(info) => &info.name,
             None => none,
         },

@@ -45,7 +45,7 @@ fn class_from(classes: &[Class], function: u32) -> Option<usize>
 pub(crate) fn class_of_function(program: &Program, function: u32) -> Option<usize>
     ensures { result ≡ Store.class_of_function (tables_of program.now) function }
 {
-    class_from(program.classes.as_slice(), function)
+    class_from(program.classes.get().as_slice(), function)
 }
 
 // The object that a function has as its prototype.
@@ -83,7 +83,7 @@ fn is_prototype_of(heap: &Heap, function: u32, object: usize) -> bool
 fn extended(program: &Program, class: usize) -> Option<u32>
     ensures { result ≡ SlotRules.extended (slice_get (tables_of program.now).classes class) }
 {
-    match program.classes.get(class) {
+    match program.classes.get().get(class) {
         Some(class) => class.extends,
         None => None,
     }
@@ -93,7 +93,7 @@ fn extended(program: &Program, class: usize) -> Option<u32>
 fn function_of(program: &Program, class: u32) -> Option<u32>
     ensures { result ≡ SlotRules.function_in (slice_get (tables_of program.now).classes class) }
 {
-    match program.classes.get(class as usize) {
+    match program.classes.get().get(class as usize) {
         Some(class) => class.function,
         None => None,
     }
