@@ -89,4 +89,4 @@ outside-Quoted T t n = refl
 
 pub outside-Runtime : (T : Tables) (t n : List ℕ) (w : Bool) → slot_rule T (runtime t w) n keyed_kind [] ≡ None
 unfolding slot_rule is_dotted rule_if
-outside-Runtime T t n = sym (no_rule (is_index n))
+outside-Runtime T t n w = sym (no_rule (is_index n))
