@@ -1,6 +1,5 @@
 -- What rule 12 asks of an object by its number.
-use Rattle.std.specs.Prelude.{ℕ, Bool, false, ◌&&◌, nat_eq, Option, Some, None}
-use Rattle.std.specs.List.{list_any}
+use Rattle.std.specs.Prelude.{ℕ, Bool, false, ◌&&◌, Option, Some, None}
 use Rattle.cc_meaning.specs.Names.{name_prototype}
 use Rattle.cc_meaning.specs.SlotRules.{is_code_of, is_object}
 use Rattle.cc_meaning.specs.State.{Obj}
@@ -10,8 +9,3 @@ use Rattle.cc_meaning.specs.Store.{find_slot}
 abbrev pub has_prototype : Option Obj → (function object : ℕ) → Bool
 has_prototype None f n = false
 has_prototype (Some o) f n = is_code_of o.code f && is_object (find_slot o.slots name_prototype) n
-
--- the object is on this one's chain
-abbrev pub is_on_chain : Option Obj → (object : ℕ) → Bool
-is_on_chain None n = false
-is_on_chain (Some o) n = list_any (λ m. nat_eq m n) o.chain

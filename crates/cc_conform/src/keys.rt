@@ -18,7 +18,7 @@ pub(crate) fn whole_key_rule(heap: &Heap, object: usize, key: &Access) -> Option
         return None;
     }
     match key {
-        Access::Runtime { text, whole } => rule_if(*whole && !is_index(text.list.as_slice()), 2),
+        Access::Runtime { text, whole } => rule_if(*whole & !is_index(text.list.as_slice()), 2),
         _ => None,
     }
 }

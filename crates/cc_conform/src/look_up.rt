@@ -7,6 +7,7 @@ ghost use Rattle.cc_meaning.specs.Names as Names;
 ghost use Rattle.cc_meaning.specs.Operators as Operators;
 ghost use Rattle.cc_meaning.specs.SlotRules as SlotRules;
 ghost use Rattle.cc_meaning.specs.Store.{chain_of, look_up, own_value};
+ghost use Rattle.cc_meaning.specs.Typed.{elements_in};
 ghost use Rattle.cc_heap.specs.Store.{value_if_found};
 ghost use Rattle.cc_conform.specs.Met.{hides_at};
 
@@ -16,11 +17,17 @@ use cc_ast::units::Units;
 use cc_heap::heap::Heap;
 use cc_heap::names::{is_array_method, is_spelled};
 
+fn is_function(heap: &Heap, object: usize) -> bool
+    ensures { result ≡ SlotRules.is_function (slice_get heap.now.objs object) }
+{
+    heap.code_of(object).is_some()
+}
+
 // Whether the look-up has come to a function, or has come to a slot first.
 fn function_met(heap: &Heap, object: usize, name: &Units) -> Option<bool>
     ensures { (rest : Bool) → (SlotRules.is_function (slice_get heap.now.objs object) || (is_none (own_value (slice_get heap.now.objs object) name.now) && rest)) ≡ unwrap_or result rest }
 {
-    if heap.code_of(object).is_some() {
+    if is_function(heap, object) {
         return Some(true);
     }
     if heap.read_own(object, name).is_some() {
@@ -84,12 +91,13 @@ fn meets_method(heap: &Heap, object: usize, name: &[u16]) -> bool
 }
 
 fn chain_has_array(heap: &Heap, chain: &[usize]) -> bool
-    ensures { result ≡ SlotRules.has_array heap.now.objs chain.now }
+    ensures { result ≡ list_any (λ c. is_some (elements_in (slice_get heap.now.objs c))) chain.now }
 {
     chain.iter().any(|above| heap.is_array(*above))
 }
 
 // Whether an object of the chain is an array.
+#[tactic(auto, unfolding(cc_meaning::specs::Store::chain_of, cc_meaning::specs::SlotRules::has_array), using(crate::proofs::MetLemmas::arrays_on))]
 fn has_array(heap: &Heap, object: usize) -> bool
     ensures { result ≡ SlotRules.has_array heap.now.objs (chain_of heap.now.objs object) }
 {
@@ -113,16 +121,17 @@ pub(crate) fn unfound_rule(heap: &Heap, object: usize, name: &[u16]) -> Option<u
 }
 
 fn chain_has_function(heap: &Heap, chain: &[usize]) -> bool
-    ensures { result ≡ SlotRules.has_function heap.now.objs chain.now }
+    ensures { result ≡ list_any (λ c. SlotRules.is_function (slice_get heap.now.objs c)) chain.now }
 {
-    chain.iter().any(|above| heap.code_of(*above).is_some())
+    chain.iter().any(|above| is_function(heap, *above))
 }
 
 // Whether an object of the chain is a function.
+#[tactic(auto, unfolding(cc_meaning::specs::Store::chain_of, cc_meaning::specs::SlotRules::has_function), using(crate::proofs::MetLemmas::functions_on))]
 fn has_function(heap: &Heap, object: usize) -> bool
     ensures { result ≡ SlotRules.has_function heap.now.objs (chain_of heap.now.objs object) }
 {
-    heap.code_of(object).is_some() || chain_has_function(heap, heap.chain(object))
+    is_function(heap, object) || chain_has_function(heap, heap.chain(object))
 }
 
 /// A write that an engine doesn't carry out.

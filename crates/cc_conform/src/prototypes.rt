@@ -1,6 +1,7 @@
 // The prototypes of constructors: rule 12.
 
-ghost use Rattle.std.specs.Prelude.{◌≡◌, ◌&&◌, Some, true, slice_get};
+ghost use Rattle.std.specs.Prelude.{◌≡◌, ◌&&◌, Some, true, nat_eq, slice_get};
+ghost use Rattle.std.specs.List.{list_any};
 ghost use Rattle.cc_meaning.specs.Rules.{prototype_object};
 ghost use Rattle.cc_meaning.specs.Shapes.{tables_of};
 ghost use Rattle.cc_meaning.specs.SlotRules as SlotRules;
@@ -142,7 +143,7 @@ fn fits_class(program: &Program, heap: &Heap, class: usize, value: &Value) -> bo
 
 // Whether the object stands on the chain of another one.
 fn is_on_chain(heap: &Heap, object: usize, prototype: usize) -> bool
-    ensures { result ≡ Prototypes.is_on_chain (slice_get heap.now.objs object) prototype }
+    ensures { result ≡ list_any (λ m. nat_eq m prototype) (Store.chain_in (slice_get heap.now.objs object)) }
 {
     heap.chain(object).iter().any(|above| *above == prototype)
 }
@@ -164,7 +165,7 @@ fn is_bare(heap: &Heap, object: usize) -> bool
     ensures { result ≡ (SlotRules.without_slots heap.now.objs (SlotRules.prototype_of_function (slice_get heap.now.objs object)) && SlotRules.is_off_chains heap.now.objs (SlotRules.prototype_of_function (slice_get heap.now.objs object))) }
 {
     match prototype_at(heap, object) {
-        Some(prototype) => heap.slot_count(prototype) == 0 && is_off_chains(heap, prototype),
+        Some(prototype) => (heap.slot_count(prototype) == 0) & is_off_chains(heap, prototype),
         None => false,
     }
 }
