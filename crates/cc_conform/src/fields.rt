@@ -127,7 +127,7 @@ fn is_dot(key: &Access) -> bool
     match key {
         Access::Dotted(_) => true,
         Access::Quoted(_) => false,
-        Access::Runtime(_) => false,
+        Access::Runtime { text: _, whole: _ } => false,
     }
 }
 
