@@ -2,108 +2,230 @@
 ghost use Rattle.std.specs.Prelude.{◌≡◌, ◌↔◌, IsTrue};
 
 use crate::declared::{same_declarators, same_for_target, same_init, same_label, same_option};
-use crate::expression::same_expr;
+use crate::expression::same_boxed;
 use crate::parts::same_units;
-use crate::statement_views as view;
-use cc_ast::tree::{Case, Stmt};
-use sqlite_items::Items;
+use cc_ast::tree::{Case, Declarator, Expr, ForInit, ForTarget, Ref, Stmt};
+use cc_ast::units::Units;
+use sqlite_items::{Boxed, Items};
 
 #[cycle(statement)]
-pub(crate) fn same_stmt(a: &Stmt, b: &Stmt) -> bool
+fn same_stmt(a: &Stmt, b: &Stmt) -> bool
     ensures { IsTrue result ↔ (a.now ≡ b.now) }
 {
-    match a {
-        Stmt::Simple(s, e) => match view::simple_of(b) {
-            Some((s2, e2)) => *s == s2 && same_expr(e, e2),
-            None => false,
-        },
-        Stmt::Var(s, ds) => match view::var_of(b) {
-            Some((s2, ds2)) => *s == s2 && same_declarators(ds, ds2),
-            None => false,
-        },
-        Stmt::Fun(s, v, f) => match view::fun_of(b) {
-            Some((s2, v2, f2)) => *s == s2 && *v == v2 && *f == f2,
-            None => false,
-        },
-        Stmt::If(s, t, a, c) => match view::if_of(b) {
-            Some((s2, t2, a2, c2)) => *s == s2
-                && same_expr(t, t2)
-                && same_stmts(a, a2)
-                && same_stmts(c, c2),
-            None => false,
-        },
-        Stmt::While(s, t, c) => match view::while_of(b) {
-            Some((s2, t2, c2)) => *s == s2 && same_expr(t, t2) && same_stmts(c, c2),
-            None => false,
-        },
-        Stmt::DoWhile(s, c, t) => match view::do_while_of(b) {
-            Some((s2, c2, t2)) => *s == s2 && same_stmts(c, c2) && same_expr(t, t2),
-            None => false,
-        },
-        Stmt::For(s, h, t, u, c) => match view::for_of(b) {
-            Some((s2, h2, t2, u2, c2)) => {
-                *s == s2
-                    && same_init(h, h2)
-                    && same_option(t, t2)
-                    && same_option(u, u2)
-                    && same_stmts(c, c2)
-            }
-            None => false,
-        },
-        Stmt::ForIn(s, h, t, c) => match view::for_in_of(b) {
-            Some((s2, h2, t2, c2)) => {
-                *s == s2 && same_for_target(h, h2) && same_expr(t, t2) && same_stmts(c, c2)
-            }
-            None => false,
-        },
-        Stmt::Return(s, o) => match view::return_of(b) {
-            Some((s2, o2)) => *s == s2 && same_option(o, o2),
-            None => false,
-        },
-        Stmt::Throw(s, e) => match view::throw_of(b) {
-            Some((s2, e2)) => *s == s2 && same_expr(e, e2),
-            None => false,
-        },
-        Stmt::Break(s, l) => match view::break_of(b) {
-            Some((s2, l2)) => *s == s2 && same_label(l, l2),
-            None => false,
-        },
-        Stmt::Continue(s, l) => match view::continue_of(b) {
-            Some((s2, l2)) => *s == s2 && same_label(l, l2),
-            None => false,
-        },
-        Stmt::Label(s, l, c) => match view::label_of(b) {
-            Some((s2, l2, c2)) => *s == s2 && same_units(l, l2) && same_stmts(c, c2),
-            None => false,
-        },
-        Stmt::Switch(s, e, cs) => match view::switch_of(b) {
-            Some((s2, e2, cs2)) => *s == s2 && same_expr(e, e2) && same_cases(cs, cs2),
-            None => false,
-        },
-        Stmt::Try(s, c, k, f) => match view::try_of(b) {
-            Some((s2, c2, k2, f2)) => {
-                let catches = match k {
-                    None => k2.is_none(),
-                    Some(body) => match k2 {
-                        None => false,
-                        Some(other) => same_stmts(body, other),
-                    },
-                };
-                let ends = match f {
-                    None => f2.is_none(),
-                    Some(body) => match f2 {
-                        None => false,
-                        Some(other) => same_stmts(body, other),
-                    },
-                };
-                *s == s2 && same_stmts(c, c2) && catches && ends
-            }
-            None => false,
-        },
-        Stmt::Tick(s, p) => match view::tick_of(b) {
-            Some((s2, p2)) => *s == s2 && *p == p2,
-            None => false,
-        },
+    match b {
+        Stmt::Simple(s, e) => is_simple(a, *s, e),
+        Stmt::Var(s, ds) => is_var(a, *s, ds),
+        Stmt::Fun(s, v, f) => is_fun(a, *s, *v, *f),
+        Stmt::If(s, e, x, y) => is_if(a, *s, e, x, y),
+        Stmt::While(s, e, x) => is_while(a, *s, e, x),
+        Stmt::DoWhile(s, x, e) => is_do_while(a, *s, x, e),
+        Stmt::For(s, h, e, f, x) => is_for(a, *s, h, e, f, x),
+        Stmt::ForIn(s, h, e, x) => is_for_in(a, *s, h, e, x),
+        Stmt::Return(s, e) => is_return(a, *s, e),
+        Stmt::Throw(s, e) => is_throw(a, *s, e),
+        Stmt::Break(s, l) => is_break(a, *s, l),
+        Stmt::Continue(s, l) => is_continue(a, *s, l),
+        Stmt::Label(s, l, x) => is_label(a, *s, l, x),
+        Stmt::Switch(s, e, cs) => is_switch(a, *s, e, cs),
+        Stmt::Try(s, x, k, f) => is_try(a, *s, x, k, f),
+        Stmt::Tick(s, p) => is_tick(a, *s, *p),
+    }
+}
+
+fn is_simple(t: &Stmt, site: u32, value: &Boxed<Expr>) -> bool
+    ensures { IsTrue result ↔ (t.now ≡ Stmt.Simple site value.now) }
+{
+    match t {
+        Stmt::Simple(s, e) => *s == site && same_boxed(e, value),
+        _ => false,
+    }
+}
+
+fn is_var(t: &Stmt, site: u32, declarators: &Items<Declarator>) -> bool
+    ensures { IsTrue result ↔ (t.now ≡ Stmt.Var site declarators.now) }
+{
+    match t {
+        Stmt::Var(s, ds) => *s == site && same_declarators(ds, declarators),
+        _ => false,
+    }
+}
+
+fn is_fun(t: &Stmt, site: u32, variable: Ref, scope: u32) -> bool
+    ensures { IsTrue result ↔ (t.now ≡ Stmt.Fun site variable scope) }
+{
+    match t {
+        Stmt::Fun(s, v, f) => *s == site && *v == variable && *f == scope,
+        _ => false,
+    }
+}
+
+#[cycle(statement)]
+fn is_if(t: &Stmt, site: u32, test: &Boxed<Expr>, yes: &Items<Stmt>, no: &Items<Stmt>) -> bool
+    ensures { IsTrue result ↔ (t.now ≡ Stmt.If site test.now yes.now no.now) }
+{
+    match t {
+        Stmt::If(s, e, x, y) => *s == site
+            && same_boxed(e, test)
+            && same_stmts(x, yes)
+            && same_stmts(y, no),
+        _ => false,
+    }
+}
+
+#[cycle(statement)]
+fn is_while(t: &Stmt, site: u32, test: &Boxed<Expr>, body: &Items<Stmt>) -> bool
+    ensures { IsTrue result ↔ (t.now ≡ Stmt.While site test.now body.now) }
+{
+    match t {
+        Stmt::While(s, e, x) => *s == site && same_boxed(e, test) && same_stmts(x, body),
+        _ => false,
+    }
+}
+
+#[cycle(statement)]
+fn is_do_while(t: &Stmt, site: u32, body: &Items<Stmt>, test: &Boxed<Expr>) -> bool
+    ensures { IsTrue result ↔ (t.now ≡ Stmt.DoWhile site body.now test.now) }
+{
+    match t {
+        Stmt::DoWhile(s, x, e) => *s == site && same_stmts(x, body) && same_boxed(e, test),
+        _ => false,
+    }
+}
+
+#[cycle(statement)]
+fn is_for(
+    t: &Stmt,
+    site: u32,
+    head: &ForInit,
+    test: &Option<Boxed<Expr>>,
+    step: &Option<Boxed<Expr>>,
+    body: &Items<Stmt>,
+) -> bool
+    ensures { IsTrue result ↔ (t.now ≡ Stmt.For site head.now test.now step.now body.now) }
+{
+    match t {
+        Stmt::For(s, h, e, f, x) => *s == site
+            && same_init(h, head)
+            && same_option(e, test)
+            && same_option(f, step)
+            && same_stmts(x, body),
+        _ => false,
+    }
+}
+
+#[cycle(statement)]
+fn is_for_in(
+    t: &Stmt,
+    site: u32,
+    head: &ForTarget,
+    object: &Boxed<Expr>,
+    body: &Items<Stmt>,
+) -> bool
+    ensures { IsTrue result ↔ (t.now ≡ Stmt.ForIn site head.now object.now body.now) }
+{
+    match t {
+        Stmt::ForIn(s, h, e, x) => *s == site
+            && same_for_target(h, head)
+            && same_boxed(e, object)
+            && same_stmts(x, body),
+        _ => false,
+    }
+}
+
+fn is_return(t: &Stmt, site: u32, value: &Option<Boxed<Expr>>) -> bool
+    ensures { IsTrue result ↔ (t.now ≡ Stmt.Return site value.now) }
+{
+    match t {
+        Stmt::Return(s, e) => *s == site && same_option(e, value),
+        _ => false,
+    }
+}
+
+fn is_throw(t: &Stmt, site: u32, value: &Boxed<Expr>) -> bool
+    ensures { IsTrue result ↔ (t.now ≡ Stmt.Throw site value.now) }
+{
+    match t {
+        Stmt::Throw(s, e) => *s == site && same_boxed(e, value),
+        _ => false,
+    }
+}
+
+fn is_break(t: &Stmt, site: u32, label: &Option<Units>) -> bool
+    ensures { IsTrue result ↔ (t.now ≡ Stmt.Break site label.now) }
+{
+    match t {
+        Stmt::Break(s, l) => *s == site && same_label(l, label),
+        _ => false,
+    }
+}
+
+fn is_continue(t: &Stmt, site: u32, label: &Option<Units>) -> bool
+    ensures { IsTrue result ↔ (t.now ≡ Stmt.Continue site label.now) }
+{
+    match t {
+        Stmt::Continue(s, l) => *s == site && same_label(l, label),
+        _ => false,
+    }
+}
+
+#[cycle(statement)]
+fn is_label(t: &Stmt, site: u32, label: &Units, body: &Items<Stmt>) -> bool
+    ensures { IsTrue result ↔ (t.now ≡ Stmt.Label site label.now body.now) }
+{
+    match t {
+        Stmt::Label(s, l, x) => *s == site && same_units(l, label) && same_stmts(x, body),
+        _ => false,
+    }
+}
+
+#[cycle(statement)]
+fn is_switch(t: &Stmt, site: u32, value: &Boxed<Expr>, cases: &Items<Case>) -> bool
+    ensures { IsTrue result ↔ (t.now ≡ Stmt.Switch site value.now cases.now) }
+{
+    match t {
+        Stmt::Switch(s, e, cs) => *s == site && same_boxed(e, value) && same_cases(cs, cases),
+        _ => false,
+    }
+}
+
+#[cycle(statement)]
+fn is_try(
+    t: &Stmt,
+    site: u32,
+    body: &Items<Stmt>,
+    catch: &Option<Items<Stmt>>,
+    finally: &Option<Items<Stmt>>,
+) -> bool
+    ensures { IsTrue result ↔ (t.now ≡ Stmt.Try site body.now catch.now finally.now) }
+{
+    match t {
+        Stmt::Try(s, x, k, f) => {
+            let catches = match k {
+                None => catch.is_none(),
+                Some(k) => match catch {
+                    None => false,
+                    Some(body) => same_stmts(k, body),
+                },
+            };
+            let ends = match f {
+                None => finally.is_none(),
+                Some(f) => match finally {
+                    None => false,
+                    Some(body) => same_stmts(f, body),
+                },
+            };
+            *s == site && same_stmts(x, body) && catches && ends
+        }
+        _ => false,
+    }
+}
+
+fn is_tick(t: &Stmt, site: u32, price: u64) -> bool
+    ensures { IsTrue result ↔ (t.now ≡ Stmt.Tick site price) }
+{
+    match t {
+        Stmt::Tick(s, p) => *s == site && *p == price,
+        _ => false,
     }
 }
 
