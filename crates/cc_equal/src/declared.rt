@@ -19,7 +19,7 @@ pub(crate) fn same_option(a: &Option<Boxed<Expr>>, b: &Option<Boxed<Expr>>) -> b
     }
 }
 
-pub(crate) fn same_label(a: &Option<Units>, b: &Option<Units>) -> bool
+pub(crate) fn same_jump_label(a: &Option<Units>, b: &Option<Units>) -> bool
     ensures { IsTrue result ↔ (a.now ≡ b.now) }
 {
     match a {

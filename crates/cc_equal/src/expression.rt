@@ -1,10 +1,12 @@
-// Whether expressions are the same.
+// Whether expressions are the same. The contract of a function for one variant speaks of the trees whose
+// second one is of this variant.
 ghost use Rattle.std.specs.Prelude.{◌≡◌, ◌↔◌, IsTrue};
 
-use crate::leaf::{is_fun, is_null, is_text, is_this, is_truth, is_undefined, is_var, is_whole};
+use crate::leaf::{
+    same_fun, same_null, same_text, same_this, same_truth, same_undefined, same_var, same_whole,
+};
 use crate::parts::{same_key, same_operator};
-use cc_ast::operator::{BinOp, UnOp};
-use cc_ast::tree::{Expr, Key, Ref, Target};
+use cc_ast::tree::{Expr, Key, Target};
 use sqlite_items::{Boxed, Items};
 
 #[cycle(expression)]
@@ -12,30 +14,30 @@ fn same_expr(a: &Expr, b: &Expr) -> bool
     ensures { IsTrue result ↔ (a.now ≡ b.now) }
 {
     match b {
-        Expr::Undefined(s) => is_undefined(a, *s),
-        Expr::Null(s) => is_null(a, *s),
-        Expr::Truth(s, v) => is_truth(a, *s, *v),
-        Expr::Whole(s, v) => is_whole(a, *s, *v),
-        Expr::Text(s, t) => is_text(a, *s, t),
-        Expr::Var(s, v) => is_var(a, *s, *v),
-        Expr::This(s) => is_this(a, *s),
-        Expr::Fun(s, f) => is_fun(a, *s, *f),
-        Expr::List(s, es) => is_list(a, *s, es),
-        Expr::Object(s, fs) => is_object(a, *s, fs),
-        Expr::Unary(s, op, x) => is_unary(a, *s, *op, x),
-        Expr::Binary(s, op, x, y) => is_binary(a, *s, *op, x, y),
-        Expr::And(s, x, y) => is_and(a, *s, x, y),
-        Expr::Or(s, x, y) => is_or(a, *s, x, y),
-        Expr::Cond(s, t, x, y) => is_cond(a, *s, t, x, y),
-        Expr::Assign(s, op, t, x) => is_assign(a, *s, *op, t, x),
-        Expr::Step(s, up, prefix, t) => is_step(a, *s, *up, *prefix, t),
-        Expr::Member(s, x, p) => is_member(a, *s, x, *p),
-        Expr::Index(s, x, k) => is_index(a, *s, x, k),
-        Expr::Call(s, f, es) => is_call(a, *s, f, es),
-        Expr::New(s, f, es) => is_new(a, *s, f, es),
-        Expr::Comma(s, x, y) => is_comma(a, *s, x, y),
-        Expr::Cast(s, d, x) => is_cast(a, *s, *d, x),
-        Expr::Tick(s, p, x) => is_tick(a, *s, *p, x),
+        Expr::Undefined(..) => same_undefined(a, b),
+        Expr::Null(..) => same_null(a, b),
+        Expr::Truth(..) => same_truth(a, b),
+        Expr::Whole(..) => same_whole(a, b),
+        Expr::Text(..) => same_text(a, b),
+        Expr::Var(..) => same_var(a, b),
+        Expr::This(..) => same_this(a, b),
+        Expr::Fun(..) => same_fun(a, b),
+        Expr::List(..) => same_list(a, b),
+        Expr::Object(..) => same_object(a, b),
+        Expr::Unary(..) => same_unary(a, b),
+        Expr::Binary(..) => same_binary(a, b),
+        Expr::And(..) => same_and(a, b),
+        Expr::Or(..) => same_or(a, b),
+        Expr::Cond(..) => same_cond(a, b),
+        Expr::Assign(..) => same_assign(a, b),
+        Expr::Step(..) => same_step(a, b),
+        Expr::Member(..) => same_member(a, b),
+        Expr::Index(..) => same_index(a, b),
+        Expr::Call(..) => same_call(a, b),
+        Expr::New(..) => same_new(a, b),
+        Expr::Comma(..) => same_comma(a, b),
+        Expr::Cast(..) => same_cast(a, b),
+        Expr::Tick(..) => same_tick(a, b),
     }
 }
 
@@ -47,188 +49,211 @@ pub(crate) fn same_boxed(a: &Boxed<Expr>, b: &Boxed<Expr>) -> bool
 }
 
 #[cycle(expression)]
-pub(crate) fn same_boxed_target(a: &Boxed<Target>, b: &Boxed<Target>) -> bool
-    ensures { IsTrue result ↔ (a.now ≡ b.now) }
+fn same_list(a: &Expr, b: &Expr) -> bool
+    ensures { (s : _) (x : _) → b.now ≡ Expr.List s x → (IsTrue result ↔ (a.now ≡ b.now)) }
 {
-    same_target(a.get(), b.get())
+    let Expr::List(s, x) = a else {
+        return false;
+    };
+    let Expr::List(t, u) = b else {
+        return false;
+    };
+    *s == *t && same_exprs(x, u)
 }
 
 #[cycle(expression)]
-fn is_list(e: &Expr, site: u32, items: &Items<Expr>) -> bool
-    ensures { IsTrue result ↔ (e.now ≡ Expr.List site items.now) }
+fn same_object(a: &Expr, b: &Expr) -> bool
+    ensures { (s : _) (x : _) → b.now ≡ Expr.Object s x → (IsTrue result ↔ (a.now ≡ b.now)) }
 {
-    match e {
-        Expr::List(s, es) => *s == site && same_exprs(es, items),
-        _ => false,
-    }
+    let Expr::Object(s, x) = a else {
+        return false;
+    };
+    let Expr::Object(t, u) = b else {
+        return false;
+    };
+    *s == *t && same_fields(x, u)
 }
 
 #[cycle(expression)]
-fn is_object(e: &Expr, site: u32, fields: &Items<(Key, Expr)>) -> bool
-    ensures { IsTrue result ↔ (e.now ≡ Expr.Object site fields.now) }
+fn same_unary(a: &Expr, b: &Expr) -> bool
+    ensures { (s : _) (x : _) (y : _) → b.now ≡ Expr.Unary s x y → (IsTrue result ↔ (a.now ≡ b.now)) }
 {
-    match e {
-        Expr::Object(s, fs) => *s == site && same_fields(fs, fields),
-        _ => false,
-    }
+    let Expr::Unary(s, x, y) = a else {
+        return false;
+    };
+    let Expr::Unary(t, u, v) = b else {
+        return false;
+    };
+    *s == *t && *x == *u && same_boxed(y, v)
 }
 
 #[cycle(expression)]
-fn is_unary(e: &Expr, site: u32, op: UnOp, operand: &Boxed<Expr>) -> bool
-    ensures { IsTrue result ↔ (e.now ≡ Expr.Unary site op operand.now) }
+fn same_binary(a: &Expr, b: &Expr) -> bool
+    ensures { (s : _) (x : _) (y : _) (z : _) → b.now ≡ Expr.Binary s x y z → (IsTrue result ↔ (a.now ≡ b.now)) }
 {
-    match e {
-        Expr::Unary(s, o, x) => *s == site && *o == op && same_boxed(x, operand),
-        _ => false,
-    }
+    let Expr::Binary(s, x, y, z) = a else {
+        return false;
+    };
+    let Expr::Binary(t, u, v, w) = b else {
+        return false;
+    };
+    *s == *t && *x == *u && same_boxed(y, v) && same_boxed(z, w)
 }
 
 #[cycle(expression)]
-fn is_binary(e: &Expr, site: u32, op: BinOp, left: &Boxed<Expr>, right: &Boxed<Expr>) -> bool
-    ensures { IsTrue result ↔ (e.now ≡ Expr.Binary site op left.now right.now) }
+fn same_and(a: &Expr, b: &Expr) -> bool
+    ensures { (s : _) (x : _) (y : _) → b.now ≡ Expr.And s x y → (IsTrue result ↔ (a.now ≡ b.now)) }
 {
-    match e {
-        Expr::Binary(s, o, x, y) => *s == site
-            && *o == op
-            && same_boxed(x, left)
-            && same_boxed(y, right),
-        _ => false,
-    }
+    let Expr::And(s, x, y) = a else {
+        return false;
+    };
+    let Expr::And(t, u, v) = b else {
+        return false;
+    };
+    *s == *t && same_boxed(x, u) && same_boxed(y, v)
 }
 
 #[cycle(expression)]
-fn is_and(e: &Expr, site: u32, left: &Boxed<Expr>, right: &Boxed<Expr>) -> bool
-    ensures { IsTrue result ↔ (e.now ≡ Expr.And site left.now right.now) }
+fn same_or(a: &Expr, b: &Expr) -> bool
+    ensures { (s : _) (x : _) (y : _) → b.now ≡ Expr.Or s x y → (IsTrue result ↔ (a.now ≡ b.now)) }
 {
-    match e {
-        Expr::And(s, x, y) => *s == site && same_boxed(x, left) && same_boxed(y, right),
-        _ => false,
-    }
+    let Expr::Or(s, x, y) = a else {
+        return false;
+    };
+    let Expr::Or(t, u, v) = b else {
+        return false;
+    };
+    *s == *t && same_boxed(x, u) && same_boxed(y, v)
 }
 
 #[cycle(expression)]
-fn is_or(e: &Expr, site: u32, left: &Boxed<Expr>, right: &Boxed<Expr>) -> bool
-    ensures { IsTrue result ↔ (e.now ≡ Expr.Or site left.now right.now) }
+fn same_cond(a: &Expr, b: &Expr) -> bool
+    ensures { (s : _) (x : _) (y : _) (z : _) → b.now ≡ Expr.Cond s x y z → (IsTrue result ↔ (a.now ≡ b.now)) }
 {
-    match e {
-        Expr::Or(s, x, y) => *s == site && same_boxed(x, left) && same_boxed(y, right),
-        _ => false,
-    }
+    let Expr::Cond(s, x, y, z) = a else {
+        return false;
+    };
+    let Expr::Cond(t, u, v, w) = b else {
+        return false;
+    };
+    *s == *t && same_boxed(x, u) && same_boxed(y, v) && same_boxed(z, w)
 }
 
 #[cycle(expression)]
-fn is_cond(e: &Expr, site: u32, test: &Boxed<Expr>, yes: &Boxed<Expr>, no: &Boxed<Expr>) -> bool
-    ensures { IsTrue result ↔ (e.now ≡ Expr.Cond site test.now yes.now no.now) }
+fn same_assign(a: &Expr, b: &Expr) -> bool
+    ensures { (s : _) (x : _) (y : _) (z : _) → b.now ≡ Expr.Assign s x y z → (IsTrue result ↔ (a.now ≡ b.now)) }
 {
-    match e {
-        Expr::Cond(s, t, x, y) => *s == site
-            && same_boxed(t, test)
-            && same_boxed(x, yes)
-            && same_boxed(y, no),
-        _ => false,
-    }
+    let Expr::Assign(s, x, y, z) = a else {
+        return false;
+    };
+    let Expr::Assign(t, u, v, w) = b else {
+        return false;
+    };
+    *s == *t && same_operator(*x, *u) && same_boxed_target(y, v) && same_boxed(z, w)
 }
 
 #[cycle(expression)]
-fn is_assign(
-    e: &Expr,
-    site: u32,
-    op: Option<BinOp>,
-    target: &Boxed<Target>,
-    value: &Boxed<Expr>,
-) -> bool
-    ensures { IsTrue result ↔ (e.now ≡ Expr.Assign site op target.now value.now) }
+fn same_step(a: &Expr, b: &Expr) -> bool
+    ensures { (s : _) (x : _) (y : _) (z : _) → b.now ≡ Expr.Step s x y z → (IsTrue result ↔ (a.now ≡ b.now)) }
 {
-    match e {
-        Expr::Assign(s, o, t, x) => *s == site
-            && same_operator(*o, op)
-            && same_boxed_target(t, target)
-            && same_boxed(x, value),
-        _ => false,
-    }
+    let Expr::Step(s, x, y, z) = a else {
+        return false;
+    };
+    let Expr::Step(t, u, v, w) = b else {
+        return false;
+    };
+    *s == *t && *x == *u && *y == *v && same_boxed_target(z, w)
 }
 
 #[cycle(expression)]
-fn is_step(e: &Expr, site: u32, up: bool, prefix: bool, target: &Boxed<Target>) -> bool
-    ensures { IsTrue result ↔ (e.now ≡ Expr.Step site up prefix target.now) }
+fn same_member(a: &Expr, b: &Expr) -> bool
+    ensures { (s : _) (x : _) (y : _) → b.now ≡ Expr.Member s x y → (IsTrue result ↔ (a.now ≡ b.now)) }
 {
-    match e {
-        Expr::Step(s, u, p, t) => *s == site
-            && *u == up
-            && *p == prefix
-            && same_boxed_target(t, target),
-        _ => false,
-    }
+    let Expr::Member(s, x, y) = a else {
+        return false;
+    };
+    let Expr::Member(t, u, v) = b else {
+        return false;
+    };
+    *s == *t && same_boxed(x, u) && *y == *v
 }
 
 #[cycle(expression)]
-fn is_member(e: &Expr, site: u32, object: &Boxed<Expr>, prop: u32) -> bool
-    ensures { IsTrue result ↔ (e.now ≡ Expr.Member site object.now prop) }
+fn same_index(a: &Expr, b: &Expr) -> bool
+    ensures { (s : _) (x : _) (y : _) → b.now ≡ Expr.Index s x y → (IsTrue result ↔ (a.now ≡ b.now)) }
 {
-    match e {
-        Expr::Member(s, x, p) => *s == site && same_boxed(x, object) && *p == prop,
-        _ => false,
-    }
+    let Expr::Index(s, x, y) = a else {
+        return false;
+    };
+    let Expr::Index(t, u, v) = b else {
+        return false;
+    };
+    *s == *t && same_boxed(x, u) && same_boxed(y, v)
 }
 
 #[cycle(expression)]
-fn is_index(e: &Expr, site: u32, object: &Boxed<Expr>, key: &Boxed<Expr>) -> bool
-    ensures { IsTrue result ↔ (e.now ≡ Expr.Index site object.now key.now) }
+fn same_call(a: &Expr, b: &Expr) -> bool
+    ensures { (s : _) (x : _) (y : _) → b.now ≡ Expr.Call s x y → (IsTrue result ↔ (a.now ≡ b.now)) }
 {
-    match e {
-        Expr::Index(s, x, k) => *s == site && same_boxed(x, object) && same_boxed(k, key),
-        _ => false,
-    }
+    let Expr::Call(s, x, y) = a else {
+        return false;
+    };
+    let Expr::Call(t, u, v) = b else {
+        return false;
+    };
+    *s == *t && same_boxed(x, u) && same_exprs(y, v)
 }
 
 #[cycle(expression)]
-fn is_call(e: &Expr, site: u32, callee: &Boxed<Expr>, arguments: &Items<Expr>) -> bool
-    ensures { IsTrue result ↔ (e.now ≡ Expr.Call site callee.now arguments.now) }
+fn same_new(a: &Expr, b: &Expr) -> bool
+    ensures { (s : _) (x : _) (y : _) → b.now ≡ Expr.New s x y → (IsTrue result ↔ (a.now ≡ b.now)) }
 {
-    match e {
-        Expr::Call(s, f, es) => *s == site && same_boxed(f, callee) && same_exprs(es, arguments),
-        _ => false,
-    }
+    let Expr::New(s, x, y) = a else {
+        return false;
+    };
+    let Expr::New(t, u, v) = b else {
+        return false;
+    };
+    *s == *t && same_boxed(x, u) && same_exprs(y, v)
 }
 
 #[cycle(expression)]
-fn is_new(e: &Expr, site: u32, callee: &Boxed<Expr>, arguments: &Items<Expr>) -> bool
-    ensures { IsTrue result ↔ (e.now ≡ Expr.New site callee.now arguments.now) }
+fn same_comma(a: &Expr, b: &Expr) -> bool
+    ensures { (s : _) (x : _) (y : _) → b.now ≡ Expr.Comma s x y → (IsTrue result ↔ (a.now ≡ b.now)) }
 {
-    match e {
-        Expr::New(s, f, es) => *s == site && same_boxed(f, callee) && same_exprs(es, arguments),
-        _ => false,
-    }
+    let Expr::Comma(s, x, y) = a else {
+        return false;
+    };
+    let Expr::Comma(t, u, v) = b else {
+        return false;
+    };
+    *s == *t && same_boxed(x, u) && same_boxed(y, v)
 }
 
 #[cycle(expression)]
-fn is_comma(e: &Expr, site: u32, left: &Boxed<Expr>, right: &Boxed<Expr>) -> bool
-    ensures { IsTrue result ↔ (e.now ≡ Expr.Comma site left.now right.now) }
+fn same_cast(a: &Expr, b: &Expr) -> bool
+    ensures { (s : _) (x : _) (y : _) → b.now ≡ Expr.Cast s x y → (IsTrue result ↔ (a.now ≡ b.now)) }
 {
-    match e {
-        Expr::Comma(s, x, y) => *s == site && same_boxed(x, left) && same_boxed(y, right),
-        _ => false,
-    }
+    let Expr::Cast(s, x, y) = a else {
+        return false;
+    };
+    let Expr::Cast(t, u, v) = b else {
+        return false;
+    };
+    *s == *t && *x == *u && same_boxed(y, v)
 }
 
 #[cycle(expression)]
-fn is_cast(e: &Expr, site: u32, doc: u32, inner: &Boxed<Expr>) -> bool
-    ensures { IsTrue result ↔ (e.now ≡ Expr.Cast site doc inner.now) }
+fn same_tick(a: &Expr, b: &Expr) -> bool
+    ensures { (s : _) (x : _) (y : _) → b.now ≡ Expr.Tick s x y → (IsTrue result ↔ (a.now ≡ b.now)) }
 {
-    match e {
-        Expr::Cast(s, d, x) => *s == site && *d == doc && same_boxed(x, inner),
-        _ => false,
-    }
-}
-
-#[cycle(expression)]
-fn is_tick(e: &Expr, site: u32, price: u64, inner: &Boxed<Expr>) -> bool
-    ensures { IsTrue result ↔ (e.now ≡ Expr.Tick site price inner.now) }
-{
-    match e {
-        Expr::Tick(s, p, x) => *s == site && *p == price && same_boxed(x, inner),
-        _ => false,
-    }
+    let Expr::Tick(s, x, y) = a else {
+        return false;
+    };
+    let Expr::Tick(t, u, v) = b else {
+        return false;
+    };
+    *s == *t && *x == *u && same_boxed(y, v)
 }
 
 #[cycle(expression)]
@@ -236,39 +261,55 @@ fn same_target(a: &Target, b: &Target) -> bool
     ensures { IsTrue result ↔ (a.now ≡ b.now) }
 {
     match b {
-        Target::Variable(s, v) => is_variable(a, *s, *v),
-        Target::Dotted(s, x, p) => is_dotted(a, *s, x, *p),
-        Target::Bracketed(s, x, k) => is_bracketed(a, *s, x, k),
-    }
-}
-
-fn is_variable(t: &Target, site: u32, variable: Ref) -> bool
-    ensures { IsTrue result ↔ (t.now ≡ Target.Variable site variable) }
-{
-    match t {
-        Target::Variable(s, v) => *s == site && *v == variable,
-        _ => false,
+        Target::Variable(..) => same_variable(a, b),
+        Target::Dotted(..) => same_dotted(a, b),
+        Target::Bracketed(..) => same_bracketed(a, b),
     }
 }
 
 #[cycle(expression)]
-fn is_dotted(t: &Target, site: u32, object: &Boxed<Expr>, prop: u32) -> bool
-    ensures { IsTrue result ↔ (t.now ≡ Target.Dotted site object.now prop) }
+pub(crate) fn same_boxed_target(a: &Boxed<Target>, b: &Boxed<Target>) -> bool
+    ensures { IsTrue result ↔ (a.now ≡ b.now) }
 {
-    match t {
-        Target::Dotted(s, x, p) => *s == site && same_boxed(x, object) && *p == prop,
-        _ => false,
-    }
+    same_target(a.get(), b.get())
+}
+
+fn same_variable(a: &Target, b: &Target) -> bool
+    ensures { (s : _) (x : _) → b.now ≡ Target.Variable s x → (IsTrue result ↔ (a.now ≡ b.now)) }
+{
+    let Target::Variable(s, x) = a else {
+        return false;
+    };
+    let Target::Variable(t, u) = b else {
+        return false;
+    };
+    *s == *t && *x == *u
 }
 
 #[cycle(expression)]
-fn is_bracketed(t: &Target, site: u32, object: &Boxed<Expr>, key: &Boxed<Expr>) -> bool
-    ensures { IsTrue result ↔ (t.now ≡ Target.Bracketed site object.now key.now) }
+fn same_dotted(a: &Target, b: &Target) -> bool
+    ensures { (s : _) (x : _) (y : _) → b.now ≡ Target.Dotted s x y → (IsTrue result ↔ (a.now ≡ b.now)) }
 {
-    match t {
-        Target::Bracketed(s, x, k) => *s == site && same_boxed(x, object) && same_boxed(k, key),
-        _ => false,
-    }
+    let Target::Dotted(s, x, y) = a else {
+        return false;
+    };
+    let Target::Dotted(t, u, v) = b else {
+        return false;
+    };
+    *s == *t && same_boxed(x, u) && *y == *v
+}
+
+#[cycle(expression)]
+fn same_bracketed(a: &Target, b: &Target) -> bool
+    ensures { (s : _) (x : _) (y : _) → b.now ≡ Target.Bracketed s x y → (IsTrue result ↔ (a.now ≡ b.now)) }
+{
+    let Target::Bracketed(s, x, y) = a else {
+        return false;
+    };
+    let Target::Bracketed(t, u, v) = b else {
+        return false;
+    };
+    *s == *t && same_boxed(x, u) && same_boxed(y, v)
 }
 
 #[cycle(expression)]

@@ -1,78 +1,102 @@
-// Whether a tree is the one of these parts, for the variants without a tree inside.
+// Whether an expression is the same as a leaf: the contract of each function speaks of the trees whose
+// second one is of its variant.
 ghost use Rattle.std.specs.Prelude.{◌≡◌, ◌↔◌, IsTrue};
 
 use crate::parts::same_units;
-use cc_ast::tree::{Expr, Ref};
-use cc_ast::units::Units;
+use cc_ast::tree::Expr;
 
-pub(crate) fn is_undefined(e: &Expr, site: u32) -> bool
-    ensures { IsTrue result ↔ (e.now ≡ Expr.Undefined site) }
+pub(crate) fn same_undefined(a: &Expr, b: &Expr) -> bool
+    ensures { (s : _) → b.now ≡ Expr.Undefined s → (IsTrue result ↔ (a.now ≡ b.now)) }
 {
-    match e {
-        Expr::Undefined(s) => *s == site,
-        _ => false,
-    }
+    let Expr::Undefined(s) = a else {
+        return false;
+    };
+    let Expr::Undefined(t) = b else {
+        return false;
+    };
+    *s == *t
 }
 
-pub(crate) fn is_null(e: &Expr, site: u32) -> bool
-    ensures { IsTrue result ↔ (e.now ≡ Expr.Null site) }
+pub(crate) fn same_null(a: &Expr, b: &Expr) -> bool
+    ensures { (s : _) → b.now ≡ Expr.Null s → (IsTrue result ↔ (a.now ≡ b.now)) }
 {
-    match e {
-        Expr::Null(s) => *s == site,
-        _ => false,
-    }
+    let Expr::Null(s) = a else {
+        return false;
+    };
+    let Expr::Null(t) = b else {
+        return false;
+    };
+    *s == *t
 }
 
-pub(crate) fn is_truth(e: &Expr, site: u32, value: bool) -> bool
-    ensures { IsTrue result ↔ (e.now ≡ Expr.Truth site value) }
+pub(crate) fn same_truth(a: &Expr, b: &Expr) -> bool
+    ensures { (s : _) (x : _) → b.now ≡ Expr.Truth s x → (IsTrue result ↔ (a.now ≡ b.now)) }
 {
-    match e {
-        Expr::Truth(s, v) => *s == site && *v == value,
-        _ => false,
-    }
+    let Expr::Truth(s, x) = a else {
+        return false;
+    };
+    let Expr::Truth(t, u) = b else {
+        return false;
+    };
+    *s == *t && *x == *u
 }
 
-pub(crate) fn is_whole(e: &Expr, site: u32, value: i64) -> bool
-    ensures { IsTrue result ↔ (e.now ≡ Expr.Whole site value) }
+pub(crate) fn same_whole(a: &Expr, b: &Expr) -> bool
+    ensures { (s : _) (x : _) → b.now ≡ Expr.Whole s x → (IsTrue result ↔ (a.now ≡ b.now)) }
 {
-    match e {
-        Expr::Whole(s, v) => *s == site && *v == value,
-        _ => false,
-    }
+    let Expr::Whole(s, x) = a else {
+        return false;
+    };
+    let Expr::Whole(t, u) = b else {
+        return false;
+    };
+    *s == *t && *x == *u
 }
 
-pub(crate) fn is_text(e: &Expr, site: u32, text: &Units) -> bool
-    ensures { IsTrue result ↔ (e.now ≡ Expr.Text site text.now) }
+pub(crate) fn same_text(a: &Expr, b: &Expr) -> bool
+    ensures { (s : _) (x : _) → b.now ≡ Expr.Text s x → (IsTrue result ↔ (a.now ≡ b.now)) }
 {
-    match e {
-        Expr::Text(s, t) => *s == site && same_units(t, text),
-        _ => false,
-    }
+    let Expr::Text(s, x) = a else {
+        return false;
+    };
+    let Expr::Text(t, u) = b else {
+        return false;
+    };
+    *s == *t && same_units(x, u)
 }
 
-pub(crate) fn is_var(e: &Expr, site: u32, variable: Ref) -> bool
-    ensures { IsTrue result ↔ (e.now ≡ Expr.Var site variable) }
+pub(crate) fn same_var(a: &Expr, b: &Expr) -> bool
+    ensures { (s : _) (x : _) → b.now ≡ Expr.Var s x → (IsTrue result ↔ (a.now ≡ b.now)) }
 {
-    match e {
-        Expr::Var(s, v) => *s == site && *v == variable,
-        _ => false,
-    }
+    let Expr::Var(s, x) = a else {
+        return false;
+    };
+    let Expr::Var(t, u) = b else {
+        return false;
+    };
+    *s == *t && *x == *u
 }
 
-pub(crate) fn is_this(e: &Expr, site: u32) -> bool
-    ensures { IsTrue result ↔ (e.now ≡ Expr.This site) }
+pub(crate) fn same_this(a: &Expr, b: &Expr) -> bool
+    ensures { (s : _) → b.now ≡ Expr.This s → (IsTrue result ↔ (a.now ≡ b.now)) }
 {
-    match e {
-        Expr::This(s) => *s == site,
-        _ => false,
-    }
+    let Expr::This(s) = a else {
+        return false;
+    };
+    let Expr::This(t) = b else {
+        return false;
+    };
+    *s == *t
 }
 
-pub(crate) fn is_fun(e: &Expr, site: u32, scope: u32) -> bool
-    ensures { IsTrue result ↔ (e.now ≡ Expr.Fun site scope) }
+pub(crate) fn same_fun(a: &Expr, b: &Expr) -> bool
+    ensures { (s : _) (x : _) → b.now ≡ Expr.Fun s x → (IsTrue result ↔ (a.now ≡ b.now)) }
 {
-    match e {
-        Expr::Fun(s, f) => *s == site && *f == scope,
-        _ => false,
-    }
+    let Expr::Fun(s, x) = a else {
+        return false;
+    };
+    let Expr::Fun(t, u) = b else {
+        return false;
+    };
+    *s == *t && *x == *u
 }

@@ -1,232 +1,254 @@
-// Whether statements are the same.
+// Whether statements are the same. The contract of a function for one variant speaks of the trees whose
+// second one is of this variant.
 ghost use Rattle.std.specs.Prelude.{◌≡◌, ◌↔◌, IsTrue};
 
-use crate::declared::{same_declarators, same_for_target, same_init, same_label, same_option};
+use crate::declared::{same_declarators, same_for_target, same_init, same_jump_label, same_option};
 use crate::expression::same_boxed;
 use crate::parts::same_units;
-use cc_ast::tree::{Case, Declarator, Expr, ForInit, ForTarget, Ref, Stmt};
-use cc_ast::units::Units;
-use sqlite_items::{Boxed, Items};
+use cc_ast::tree::{Case, Stmt};
+use sqlite_items::Items;
 
 #[cycle(statement)]
 fn same_stmt(a: &Stmt, b: &Stmt) -> bool
     ensures { IsTrue result ↔ (a.now ≡ b.now) }
 {
     match b {
-        Stmt::Simple(s, e) => is_simple(a, *s, e),
-        Stmt::Var(s, ds) => is_var(a, *s, ds),
-        Stmt::Fun(s, v, f) => is_fun(a, *s, *v, *f),
-        Stmt::If(s, e, x, y) => is_if(a, *s, e, x, y),
-        Stmt::While(s, e, x) => is_while(a, *s, e, x),
-        Stmt::DoWhile(s, x, e) => is_do_while(a, *s, x, e),
-        Stmt::For(s, h, e, f, x) => is_for(a, *s, h, e, f, x),
-        Stmt::ForIn(s, h, e, x) => is_for_in(a, *s, h, e, x),
-        Stmt::Return(s, e) => is_return(a, *s, e),
-        Stmt::Throw(s, e) => is_throw(a, *s, e),
-        Stmt::Break(s, l) => is_break(a, *s, l),
-        Stmt::Continue(s, l) => is_continue(a, *s, l),
-        Stmt::Label(s, l, x) => is_label(a, *s, l, x),
-        Stmt::Switch(s, e, cs) => is_switch(a, *s, e, cs),
-        Stmt::Try(s, x, k, f) => is_try(a, *s, x, k, f),
-        Stmt::Tick(s, p) => is_tick(a, *s, *p),
+        Stmt::Simple(..) => same_simple(a, b),
+        Stmt::Var(..) => same_var(a, b),
+        Stmt::Fun(..) => same_fun(a, b),
+        Stmt::If(..) => same_if(a, b),
+        Stmt::While(..) => same_while(a, b),
+        Stmt::DoWhile(..) => same_do_while(a, b),
+        Stmt::For(..) => same_for(a, b),
+        Stmt::ForIn(..) => same_for_in(a, b),
+        Stmt::Return(..) => same_return(a, b),
+        Stmt::Throw(..) => same_throw(a, b),
+        Stmt::Break(..) => same_break(a, b),
+        Stmt::Continue(..) => same_continue(a, b),
+        Stmt::Label(..) => same_label(a, b),
+        Stmt::Switch(..) => same_switch(a, b),
+        Stmt::Try(..) => same_try(a, b),
+        Stmt::Tick(..) => same_tick(a, b),
     }
 }
 
-fn is_simple(t: &Stmt, site: u32, value: &Boxed<Expr>) -> bool
-    ensures { IsTrue result ↔ (t.now ≡ Stmt.Simple site value.now) }
+fn same_simple(a: &Stmt, b: &Stmt) -> bool
+    ensures { (s : _) (x : _) → b.now ≡ Stmt.Simple s x → (IsTrue result ↔ (a.now ≡ b.now)) }
 {
-    match t {
-        Stmt::Simple(s, e) => *s == site && same_boxed(e, value),
-        _ => false,
-    }
+    let Stmt::Simple(s, x) = a else {
+        return false;
+    };
+    let Stmt::Simple(t, u) = b else {
+        return false;
+    };
+    *s == *t && same_boxed(x, u)
 }
 
-fn is_var(t: &Stmt, site: u32, declarators: &Items<Declarator>) -> bool
-    ensures { IsTrue result ↔ (t.now ≡ Stmt.Var site declarators.now) }
+fn same_var(a: &Stmt, b: &Stmt) -> bool
+    ensures { (s : _) (x : _) → b.now ≡ Stmt.Var s x → (IsTrue result ↔ (a.now ≡ b.now)) }
 {
-    match t {
-        Stmt::Var(s, ds) => *s == site && same_declarators(ds, declarators),
-        _ => false,
-    }
+    let Stmt::Var(s, x) = a else {
+        return false;
+    };
+    let Stmt::Var(t, u) = b else {
+        return false;
+    };
+    *s == *t && same_declarators(x, u)
 }
 
-fn is_fun(t: &Stmt, site: u32, variable: Ref, scope: u32) -> bool
-    ensures { IsTrue result ↔ (t.now ≡ Stmt.Fun site variable scope) }
+fn same_fun(a: &Stmt, b: &Stmt) -> bool
+    ensures { (s : _) (x : _) (y : _) → b.now ≡ Stmt.Fun s x y → (IsTrue result ↔ (a.now ≡ b.now)) }
 {
-    match t {
-        Stmt::Fun(s, v, f) => *s == site && *v == variable && *f == scope,
-        _ => false,
-    }
-}
-
-#[cycle(statement)]
-fn is_if(t: &Stmt, site: u32, test: &Boxed<Expr>, yes: &Items<Stmt>, no: &Items<Stmt>) -> bool
-    ensures { IsTrue result ↔ (t.now ≡ Stmt.If site test.now yes.now no.now) }
-{
-    match t {
-        Stmt::If(s, e, x, y) => *s == site
-            && same_boxed(e, test)
-            && same_stmts(x, yes)
-            && same_stmts(y, no),
-        _ => false,
-    }
+    let Stmt::Fun(s, x, y) = a else {
+        return false;
+    };
+    let Stmt::Fun(t, u, v) = b else {
+        return false;
+    };
+    *s == *t && *x == *u && *y == *v
 }
 
 #[cycle(statement)]
-fn is_while(t: &Stmt, site: u32, test: &Boxed<Expr>, body: &Items<Stmt>) -> bool
-    ensures { IsTrue result ↔ (t.now ≡ Stmt.While site test.now body.now) }
+fn same_if(a: &Stmt, b: &Stmt) -> bool
+    ensures { (s : _) (x : _) (y : _) (z : _) → b.now ≡ Stmt.If s x y z → (IsTrue result ↔ (a.now ≡ b.now)) }
 {
-    match t {
-        Stmt::While(s, e, x) => *s == site && same_boxed(e, test) && same_stmts(x, body),
-        _ => false,
-    }
+    let Stmt::If(s, x, y, z) = a else {
+        return false;
+    };
+    let Stmt::If(t, u, v, w) = b else {
+        return false;
+    };
+    *s == *t && same_boxed(x, u) && same_stmts(y, v) && same_stmts(z, w)
 }
 
 #[cycle(statement)]
-fn is_do_while(t: &Stmt, site: u32, body: &Items<Stmt>, test: &Boxed<Expr>) -> bool
-    ensures { IsTrue result ↔ (t.now ≡ Stmt.DoWhile site body.now test.now) }
+fn same_while(a: &Stmt, b: &Stmt) -> bool
+    ensures { (s : _) (x : _) (y : _) → b.now ≡ Stmt.While s x y → (IsTrue result ↔ (a.now ≡ b.now)) }
 {
-    match t {
-        Stmt::DoWhile(s, x, e) => *s == site && same_stmts(x, body) && same_boxed(e, test),
-        _ => false,
-    }
+    let Stmt::While(s, x, y) = a else {
+        return false;
+    };
+    let Stmt::While(t, u, v) = b else {
+        return false;
+    };
+    *s == *t && same_boxed(x, u) && same_stmts(y, v)
 }
 
 #[cycle(statement)]
-fn is_for(
-    t: &Stmt,
-    site: u32,
-    head: &ForInit,
-    test: &Option<Boxed<Expr>>,
-    step: &Option<Boxed<Expr>>,
-    body: &Items<Stmt>,
-) -> bool
-    ensures { IsTrue result ↔ (t.now ≡ Stmt.For site head.now test.now step.now body.now) }
+fn same_do_while(a: &Stmt, b: &Stmt) -> bool
+    ensures { (s : _) (x : _) (y : _) → b.now ≡ Stmt.DoWhile s x y → (IsTrue result ↔ (a.now ≡ b.now)) }
 {
-    match t {
-        Stmt::For(s, h, e, f, x) => *s == site
-            && same_init(h, head)
-            && same_option(e, test)
-            && same_option(f, step)
-            && same_stmts(x, body),
-        _ => false,
-    }
+    let Stmt::DoWhile(s, x, y) = a else {
+        return false;
+    };
+    let Stmt::DoWhile(t, u, v) = b else {
+        return false;
+    };
+    *s == *t && same_stmts(x, u) && same_boxed(y, v)
 }
 
 #[cycle(statement)]
-fn is_for_in(
-    t: &Stmt,
-    site: u32,
-    head: &ForTarget,
-    object: &Boxed<Expr>,
-    body: &Items<Stmt>,
-) -> bool
-    ensures { IsTrue result ↔ (t.now ≡ Stmt.ForIn site head.now object.now body.now) }
+fn same_for(a: &Stmt, b: &Stmt) -> bool
+    ensures { (s : _) (x : _) (y : _) (z : _) (p : _) → b.now ≡ Stmt.For s x y z p → (IsTrue result ↔ (a.now ≡ b.now)) }
 {
-    match t {
-        Stmt::ForIn(s, h, e, x) => *s == site
-            && same_for_target(h, head)
-            && same_boxed(e, object)
-            && same_stmts(x, body),
-        _ => false,
-    }
-}
-
-fn is_return(t: &Stmt, site: u32, value: &Option<Boxed<Expr>>) -> bool
-    ensures { IsTrue result ↔ (t.now ≡ Stmt.Return site value.now) }
-{
-    match t {
-        Stmt::Return(s, e) => *s == site && same_option(e, value),
-        _ => false,
-    }
-}
-
-fn is_throw(t: &Stmt, site: u32, value: &Boxed<Expr>) -> bool
-    ensures { IsTrue result ↔ (t.now ≡ Stmt.Throw site value.now) }
-{
-    match t {
-        Stmt::Throw(s, e) => *s == site && same_boxed(e, value),
-        _ => false,
-    }
-}
-
-fn is_break(t: &Stmt, site: u32, label: &Option<Units>) -> bool
-    ensures { IsTrue result ↔ (t.now ≡ Stmt.Break site label.now) }
-{
-    match t {
-        Stmt::Break(s, l) => *s == site && same_label(l, label),
-        _ => false,
-    }
-}
-
-fn is_continue(t: &Stmt, site: u32, label: &Option<Units>) -> bool
-    ensures { IsTrue result ↔ (t.now ≡ Stmt.Continue site label.now) }
-{
-    match t {
-        Stmt::Continue(s, l) => *s == site && same_label(l, label),
-        _ => false,
-    }
+    let Stmt::For(s, x, y, z, p) = a else {
+        return false;
+    };
+    let Stmt::For(t, u, v, w, m) = b else {
+        return false;
+    };
+    *s == *t && same_init(x, u) && same_option(y, v) && same_option(z, w) && same_stmts(p, m)
 }
 
 #[cycle(statement)]
-fn is_label(t: &Stmt, site: u32, label: &Units, body: &Items<Stmt>) -> bool
-    ensures { IsTrue result ↔ (t.now ≡ Stmt.Label site label.now body.now) }
+fn same_for_in(a: &Stmt, b: &Stmt) -> bool
+    ensures { (s : _) (x : _) (y : _) (z : _) → b.now ≡ Stmt.ForIn s x y z → (IsTrue result ↔ (a.now ≡ b.now)) }
 {
-    match t {
-        Stmt::Label(s, l, x) => *s == site && same_units(l, label) && same_stmts(x, body),
-        _ => false,
-    }
+    let Stmt::ForIn(s, x, y, z) = a else {
+        return false;
+    };
+    let Stmt::ForIn(t, u, v, w) = b else {
+        return false;
+    };
+    *s == *t && same_for_target(x, u) && same_boxed(y, v) && same_stmts(z, w)
+}
+
+fn same_return(a: &Stmt, b: &Stmt) -> bool
+    ensures { (s : _) (x : _) → b.now ≡ Stmt.Return s x → (IsTrue result ↔ (a.now ≡ b.now)) }
+{
+    let Stmt::Return(s, x) = a else {
+        return false;
+    };
+    let Stmt::Return(t, u) = b else {
+        return false;
+    };
+    *s == *t && same_option(x, u)
+}
+
+fn same_throw(a: &Stmt, b: &Stmt) -> bool
+    ensures { (s : _) (x : _) → b.now ≡ Stmt.Throw s x → (IsTrue result ↔ (a.now ≡ b.now)) }
+{
+    let Stmt::Throw(s, x) = a else {
+        return false;
+    };
+    let Stmt::Throw(t, u) = b else {
+        return false;
+    };
+    *s == *t && same_boxed(x, u)
+}
+
+fn same_break(a: &Stmt, b: &Stmt) -> bool
+    ensures { (s : _) (x : _) → b.now ≡ Stmt.Break s x → (IsTrue result ↔ (a.now ≡ b.now)) }
+{
+    let Stmt::Break(s, x) = a else {
+        return false;
+    };
+    let Stmt::Break(t, u) = b else {
+        return false;
+    };
+    *s == *t && same_jump_label(x, u)
+}
+
+fn same_continue(a: &Stmt, b: &Stmt) -> bool
+    ensures { (s : _) (x : _) → b.now ≡ Stmt.Continue s x → (IsTrue result ↔ (a.now ≡ b.now)) }
+{
+    let Stmt::Continue(s, x) = a else {
+        return false;
+    };
+    let Stmt::Continue(t, u) = b else {
+        return false;
+    };
+    *s == *t && same_jump_label(x, u)
 }
 
 #[cycle(statement)]
-fn is_switch(t: &Stmt, site: u32, value: &Boxed<Expr>, cases: &Items<Case>) -> bool
-    ensures { IsTrue result ↔ (t.now ≡ Stmt.Switch site value.now cases.now) }
+fn same_label(a: &Stmt, b: &Stmt) -> bool
+    ensures { (s : _) (x : _) (y : _) → b.now ≡ Stmt.Label s x y → (IsTrue result ↔ (a.now ≡ b.now)) }
 {
-    match t {
-        Stmt::Switch(s, e, cs) => *s == site && same_boxed(e, value) && same_cases(cs, cases),
-        _ => false,
-    }
+    let Stmt::Label(s, x, y) = a else {
+        return false;
+    };
+    let Stmt::Label(t, u, v) = b else {
+        return false;
+    };
+    *s == *t && same_units(x, u) && same_stmts(y, v)
 }
 
 #[cycle(statement)]
-fn is_try(
-    t: &Stmt,
-    site: u32,
-    body: &Items<Stmt>,
-    catch: &Option<Items<Stmt>>,
-    finally: &Option<Items<Stmt>>,
-) -> bool
-    ensures { IsTrue result ↔ (t.now ≡ Stmt.Try site body.now catch.now finally.now) }
+fn same_switch(a: &Stmt, b: &Stmt) -> bool
+    ensures { (s : _) (x : _) (y : _) → b.now ≡ Stmt.Switch s x y → (IsTrue result ↔ (a.now ≡ b.now)) }
 {
-    match t {
-        Stmt::Try(s, x, k, f) => {
-            let catches = match k {
-                None => catch.is_none(),
-                Some(k) => match catch {
-                    None => false,
-                    Some(body) => same_stmts(k, body),
-                },
-            };
-            let ends = match f {
-                None => finally.is_none(),
-                Some(f) => match finally {
-                    None => false,
-                    Some(body) => same_stmts(f, body),
-                },
-            };
-            *s == site && same_stmts(x, body) && catches && ends
-        }
-        _ => false,
+    let Stmt::Switch(s, x, y) = a else {
+        return false;
+    };
+    let Stmt::Switch(t, u, v) = b else {
+        return false;
+    };
+    *s == *t && same_boxed(x, u) && same_cases(y, v)
+}
+
+#[cycle(statement)]
+fn same_try(a: &Stmt, b: &Stmt) -> bool
+    ensures { (s : _) (x : _) (y : _) (z : _) → b.now ≡ Stmt.Try s x y z → (IsTrue result ↔ (a.now ≡ b.now)) }
+{
+    let Stmt::Try(s, x, catch, finally) = a else {
+        return false;
+    };
+    let Stmt::Try(t, u, other_catch, other_finally) = b else {
+        return false;
+    };
+    let catches = match catch {
+        None => other_catch.is_none(),
+        Some(body) => is_body(body, other_catch),
+    };
+    let ends = match finally {
+        None => other_finally.is_none(),
+        Some(body) => is_body(body, other_finally),
+    };
+    *s == *t && same_stmts(x, u) && catches && ends
+}
+
+// Whether there is a body, and this one.
+#[cycle(statement)]
+fn is_body(body: &Items<Stmt>, other: &Option<Items<Stmt>>) -> bool
+    ensures { IsTrue result ↔ (Some body.now ≡ other.now) }
+{
+    match other {
+        None => false,
+        Some(other) => same_stmts(body, other),
     }
 }
 
-fn is_tick(t: &Stmt, site: u32, price: u64) -> bool
-    ensures { IsTrue result ↔ (t.now ≡ Stmt.Tick site price) }
+fn same_tick(a: &Stmt, b: &Stmt) -> bool
+    ensures { (s : _) (x : _) → b.now ≡ Stmt.Tick s x → (IsTrue result ↔ (a.now ≡ b.now)) }
 {
-    match t {
-        Stmt::Tick(s, p) => *s == site && *p == price,
-        _ => false,
-    }
+    let Stmt::Tick(s, x) = a else {
+        return false;
+    };
+    let Stmt::Tick(t, u) = b else {
+        return false;
+    };
+    *s == *t && *x == *u
 }
 
 #[cycle(statement)]
