@@ -4,7 +4,7 @@ use Rattle.std.specs.List.{push}
 use Rattle.std.proofs.Common.{◌≡◌, refl, ap, ◌∙◌, arith}
 use Rattle.cc_ast.specs.Syntax.{Scope}
 use Rattle.cc_core.specs.State.{NoneOut, all_fresh}
-use Rattle.cc_core_tests.specs.Clear.{NoDocs}
+use Rattle.cc_clear.specs.Clear.{NoDocs}
 
 -- no claim is out at the start
 pub none_out : (xs : List Scope) → NoneOut (all_fresh xs)

@@ -3,15 +3,15 @@
 #![tactic(auto)]
 
 ghost use Rattle.std.specs.Prelude.{◌≡◌, ℕ, ◌+◌, ◌<◌, ◌^◌, IfOk, length};
-ghost use Rattle.cc_core_tests.specs.Clear.{NoDocs};
+ghost use Rattle.cc_clear.specs.Clear.{NoDocs};
 ghost use Rattle.cc_core.specs.State.{started};
 
 use cc_ast::operator::BinOp;
 use cc_ast::program::{Program, Scope};
 use cc_ast::tree::{Expr, Ref, Stmt};
+use cc_clear::clear::Clear;
 use cc_core::alone::work_alone;
 use cc_core::shop::{CloseFault, Shop};
-use cc_core_tests::clear::Clear;
 use sqlite_items::{Boxed, Items};
 use std::alloc::{AllocError, Global};
 use std::time::Instant;

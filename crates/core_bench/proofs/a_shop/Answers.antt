@@ -1,4 +1,4 @@
-use Rattle.cc_core_tests.specs.Clear.{clears_nothing}
+use Rattle.cc_clear.specs.Clear.{clears_nothing}
 use Rattle.core_bench.proofs.a_shop.Goals as goal
 
 pub begin-requires-clause-fits : goal.begin-requires-clause-fits

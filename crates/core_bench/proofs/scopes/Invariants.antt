@@ -1,5 +1,5 @@
 use Rattle.std.proofs.Common.{◌≡◌, length}
-use Rattle.cc_core_tests.specs.Clear.{NoDocs}
+use Rattle.cc_clear.specs.Clear.{NoDocs}
 use Rattle.core_bench.proofs.scopes.Given as goal
 
 abbrev pub invariant-loop-at : goal.invariant-loop-at

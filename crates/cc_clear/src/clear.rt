@@ -39,7 +39,7 @@ fn heads_of(program: Program) -> Heads
 }
 
 impl Rules for Clear {
-    ghost use Rattle.cc_core_tests.specs.Clear.{clear, clear_lawful, clear_visits_all};
+    ghost use Rattle.cc_clear.specs.Clear.{clear, clear_lawful, clear_visits_all};
 
     type Plan = ClearPlan;
 

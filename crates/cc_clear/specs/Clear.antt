@@ -7,7 +7,7 @@ use Rattle.cc_meaning.specs.Same.{Same}
 use Rattle.cc_meaning.specs.WellMade.{WellMade}
 use Rattle.cc_meaning.proofs.SameLaws.{reflexive}
 use Rattle.cc_core.specs.Work.{Work, Lawful, VisitsAll, with_scopes, with_heads, heads_of, mixed, part, phase, step_after}
-use Rattle.cc_core_tests.specs.declared.clear.ClearPlan.{ClearPlan}
+use Rattle.cc_clear.specs.declared.clear.ClearPlan.{ClearPlan}
 
 -- a scope whose doc says nothing
 abbrev pub cleared : Scope → Scope

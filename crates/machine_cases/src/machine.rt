@@ -1,0 +1,142 @@
+// A program and a heap, which lines make and ask.
+
+use crate::acts::act_line;
+use crate::docs::{blank_doc, doc_line};
+use crate::lines::{Line, line_of};
+use crate::lookups::lookup_line;
+use crate::made::made_line;
+use crate::operators::operator_line;
+use crate::statements::tree_line;
+use crate::tables::table_line;
+use crate::trees::Trees;
+use cc_ast::program::Program;
+use cc_ast::tables::{FlatPath, SiteDoc};
+use cc_ast::tree::Stmt;
+use cc_conform::act::Act;
+use cc_heap::heap::Heap;
+use sqlite_items::Items;
+use std::alloc::{AllocError, Global};
+use std::fmt::Write;
+
+/// Parts of what comes next in the program's tables.
+#[derive(Drop)]
+pub struct Parts {
+    pub doc: SiteDoc,
+    pub flat: Items<FlatPath>,
+    pub fields: Items<(u32, u32)>,
+    pub methods: Items<(u32, u32)>,
+    pub body: Items<Stmt>,
+}
+
+/// A program and a heap, the parts that were read for them, the acts that were judged on them, and
+/// the last answer.
+#[derive(Drop)]
+pub struct Machine {
+    pub alloc: Global,
+    pub program: Program,
+    pub heap: Heap,
+    pub parts: Parts,
+    pub acts: Items<Act>,
+    pub trees: Trees,
+    pub out: String,
+}
+
+fn empty_program(alloc: Global) -> Program {
+    Program {
+        scopes: Items::new(alloc),
+        chunks: Items::new(alloc),
+        globals: Items::new(alloc),
+        props: Items::new(alloc),
+        kept: Items::new(alloc),
+        classes: Items::new(alloc),
+        places: Items::new(alloc),
+        docs: Items::new(alloc),
+    }
+}
+
+fn no_parts(alloc: Global) -> Parts {
+    Parts {
+        doc: blank_doc(alloc),
+        flat: Items::new(alloc),
+        fields: Items::new(alloc),
+        methods: Items::new(alloc),
+        body: Items::new(alloc),
+    }
+}
+
+impl Machine {
+    /// A machine without anything.
+    pub fn new(alloc: Global) -> Result<Box<Machine>, AllocError> {
+        let machine = Machine {
+            alloc,
+            program: empty_program(alloc),
+            heap: Heap::new(alloc),
+            parts: no_parts(alloc),
+            acts: Items::new(alloc),
+            trees: Trees::new(alloc),
+            out: String::new(alloc),
+        };
+        Box::new(alloc, machine).map_err(AllocError::from)
+    }
+}
+
+// A program whose one entry is the doc that says nothing.
+fn begin_program(alloc: Global, program: &mut Program) -> Option<()> {
+    *program = empty_program(alloc);
+    program.docs.push(blank_doc(alloc)).ok()
+}
+
+fn begin_parts(alloc: Global, parts: &mut Parts) {
+    *parts = no_parts(alloc);
+}
+
+fn begin_heap(alloc: Global, heap: &mut Heap) {
+    *heap = Heap::new(alloc);
+}
+
+fn begin(machine: &mut Machine) -> Option<()> {
+    begin_heap(machine.alloc, &mut machine.heap);
+    begin_parts(machine.alloc, &mut machine.parts);
+    begin_program(machine.alloc, &mut machine.program)
+}
+
+fn answer_words(machine: &mut Machine, words: &[&str]) -> Option<()> {
+    let Some(line) = line_of(words) else {
+        return None;
+    };
+    match line {
+        Line::New => begin(machine),
+        Line::Table(line) => table_line(machine, line, words),
+        Line::Doc(line) => doc_line(machine, line, words),
+        Line::Made(line) => made_line(machine, line, words),
+        Line::Lookup(line) => lookup_line(machine, line, words),
+        Line::Act(line) => act_line(machine, line, words),
+        Line::Operator(line) => operator_line(machine, line, words),
+        Line::Tree(line) => tree_line(machine, line, words),
+    }
+}
+
+// Prints a line, and its answer behind it.
+fn answer_line(machine: &mut Machine, line: &str) -> Option<()> {
+    if writeln!(machine.out, "{line}").is_err() {
+        return None;
+    }
+    if line.is_empty() || line.starts_with('#') {
+        return Some(());
+    }
+    match line.split_whitespace().collect::<Vec<&str>>(machine.alloc) {
+        Ok(words) => answer_words(machine, words.as_slice()),
+        Err(_) => None,
+    }
+}
+
+/// Does what a line says, and leaves in `out` what is printed. Tells whether the line could be read.
+pub fn answer(machine: &mut Machine, line: &str) -> bool {
+    machine.out.clear();
+    if answer_line(machine, line).is_some() {
+        return true;
+    }
+    machine.out.clear();
+    let _ = writeln!(machine.out, "? {line}");
+    false
+}
