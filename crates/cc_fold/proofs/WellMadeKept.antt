@@ -1,5 +1,5 @@
 -- A program whose scopes follow those of a well made program without flat paths is well made.
-use Rattle.std.proofs.Common.{◌≡◌, ℕ, zero, suc, ◌^◌, ◌<◌, ◌≤◌, Bool, true, false, List, [], ◌∷◌, length, map, Option, Some, None, refl, sym, ap, subst, ◌∙◌}
+use Rattle.std.proofs.Common.{◌≡◌, ℕ, zero, suc, ◌^◌, ◌<◌, ◌≤◌, true, List, [], ◌∷◌, length, map, Some, sym, subst, ◌∙◌}
 use Rattle.std.specs.Prelude.{slice_get}
 use Rattle.cc_ast.specs.Syntax.{Scope, Program}
 use Rattle.cc_ast.specs.declared.tables.GlobalInfo.{GlobalInfo}
@@ -11,7 +11,7 @@ use Rattle.cc_meaning.specs.State.{Tables}
 use Rattle.cc_meaning.specs.Store.{class_of_function}
 use Rattle.cc_meaning.specs.Alike.{In, here, there, ListT}
 use Rattle.cc_meaning.specs.Shapes.{head_of, tables_of, sets_by_chunks}
-use Rattle.cc_meaning.specs.Parts.{Part, mentions, stmts_parts}
+use Rattle.cc_meaning.specs.Parts.{Part, mentions}
 use Rattle.cc_meaning.specs.WellMade.{is_chunk, opened, parts_of, stmts_well, Reached, IsPart, a_site, a_prop, a_doc, a_mention, a_declaration, a_function, a_method, IsScope, IsDistinct, Encloses, directly, further, IsProp, IsClass, IsGlobal, ArePaths, IsCounted, outer_names, IsOrdered, IsMeant, WellMade}
 use Rattle.cc_tied.specs.Promises.{HasNoPaths}
 use Rattle.cc_tied.proofs.Lists.{tied_length}
