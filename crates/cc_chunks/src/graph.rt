@@ -4,8 +4,7 @@ ghost use Rattle.std.specs.Prelude.{◌≡◌, ◌≢◌, ◌↔◌, ◌⊎◌, 
 ghost use Rattle.std.specs.List.{All};
 ghost use Rattle.std.specs.Option.{ForSome};
 
-use crate::check::{check_count, chunk_at};
-use crate::names::first_numbers;
+use crate::gathered::{Gathered, gather};
 use crate::reach::{Reach, table_of};
 use crate::set::{has_bit, with_bit};
 use crate::spec::{ChunkFault, ChunkSpec};
@@ -52,18 +51,22 @@ impl ChunkGraph {
         // Of several faults the first is answered. Memory may be wanting at any time.
         ensures fault { IfErr result (λ fault. fault ≢ Memory → IsFirstFault specs.now files fault) }
     {
-        let numbers = first_numbers(alloc, specs)?;
-        let mut chunks = Items::new(alloc);
-        let mut counts = Items::new(alloc);
-        let mut taken: u64 = 0;
-        for (i, spec) in specs.iter().enumerate() {
-            chunks.push(chunk_at(alloc, specs, &numbers, i)?)?;
-            counts.push(spec.count)?;
-            taken += u64::from(spec.count);
-            check_count(specs, files, i, taken)?;
-        }
+        let gathered = gather(alloc, specs, files)?;
+        Ok(ChunkGraph::of_gathered(alloc, gathered)?)
+    }
+
+    fn of_gathered(alloc: Global, gathered: Gathered) -> Result<ChunkGraph, AllocError>
+        requires { DependsDown gathered.chunks }
+        ensures chunks { IfOk result (λ graph. graph.chunks ≡ gathered.chunks) }
+        ensures counts { IfOk result (λ graph. graph.counts ≡ gathered.counts) }
+    {
+        let Gathered {
+            chunks,
+            counts,
+            taken: _,
+        } = gathered;
         let chunks = Shared::new(alloc, chunks)?;
-        Ok(ChunkGraph::with_chunks(alloc, chunks, counts)?)
+        ChunkGraph::with_chunks(alloc, chunks, counts)
     }
 
     /// The graph of a program's chunks, in which no chunk takes files any more.

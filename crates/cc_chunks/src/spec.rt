@@ -1,7 +1,8 @@
 // What is asked for, and what is wrong with it.
 
 use std::alloc::AllocError;
-use thiserror::Error;
+use std::error::Error;
+use std::fmt::{self, Display, Formatter, Write};
 
 /// A chunk as it is asked for: its name, how many of the files that are left it takes, and the
 /// names of the chunks that it depends on directly (Closure Compiler, `--chunk`).
@@ -13,23 +14,36 @@ pub struct ChunkSpec {
 }
 
 /// Why specs are no graph: the number of the spec, and what is wrong with it.
-#[derive(Clone, Copy, Debug, Error)]
+#[derive(Clone, Copy, Debug)]
 pub enum ChunkFault {
     /// An earlier spec has its name.
-    #[error("spec {0} has the name of an earlier one")]
     DoubleName(u32),
     /// It depends on a name that no spec has.
-    #[error("spec {0} depends on a chunk that isn't there")]
     UnknownDep(u32),
     /// It depends on itself or on a later spec.
-    #[error("spec {0} depends on itself or a later one")]
     LaterDep(u32),
     /// With it more files are taken than there are, or it is the last and leaves some.
-    #[error("spec {0} takes too many or too few files")]
     FileCount(u32),
-    #[error("out of memory")]
     Memory,
 }
+
+impl Display for ChunkFault {
+    fn fmt<W: Write>(&self, f: &mut Formatter<W>) -> fmt::Result {
+        match self {
+            ChunkFault::DoubleName(spec) => tell(f, *spec, "has the name of an earlier one"),
+            ChunkFault::UnknownDep(spec) => tell(f, *spec, "depends on a chunk that isn't there"),
+            ChunkFault::LaterDep(spec) => tell(f, *spec, "depends on itself or a later one"),
+            ChunkFault::FileCount(spec) => tell(f, *spec, "takes too many or too few files"),
+            ChunkFault::Memory => f.write_str("out of memory"),
+        }
+    }
+}
+
+fn tell<W: Write>(f: &mut Formatter<W>, spec: u32, fault: &str) -> fmt::Result {
+    write!(f, "spec {spec} {fault}")
+}
+
+impl Error for ChunkFault {}
 
 impl From<AllocError> for ChunkFault {
     ghost use Rattle.cc_chunks.specs.declared.spec.ChunkFault.TheVariants.{Memory};
