@@ -50,7 +50,7 @@ fn case_of(word: &str) -> Option<Case> {
     None
 }
 
-// What is answered; false where these are no bytes for the case.
+// What is answered; false where the bytes are wrong for the case.
 fn push_answer(alloc: Global, page: &mut Page, case: Case, bytes: &[u8]) -> bool
     requires { length bytes.now ≤ 16777216 }
 {

@@ -49,7 +49,8 @@ fn push_part(page: &mut Page, tree: &Tree, part: Part) {
     }
 }
 
-/// What is shown of the file that has these bytes, or what is refused. All bytes are right.
+/// What is shown of the file that has these bytes, or what is refused. It is true, as no
+/// bytes are wrong for it.
 pub(crate) fn push_read(alloc: Global, page: &mut Page, part: Part, bytes: &[u8]) -> bool
     requires { length bytes.now ≤ 16777216 }
 {

@@ -32,7 +32,7 @@ fn push_used(alloc: Global, page: &mut Page, used: Use, tokens: &Tokens)
     }
 }
 
-/// What is done with the tokens of these bytes. All bytes are right.
+/// What is done with the tokens of these bytes. It is true, as no bytes are wrong for it.
 pub(crate) fn push_lexed(alloc: Global, page: &mut Page, used: Use, bytes: &[u8]) -> bool
     requires { length bytes.now ≤ 16777216 }
 {

@@ -5,8 +5,8 @@ use std::alloc::{AllocError, Global};
 use std::fmt::Write;
 use std::io;
 
-/// The text that is printed next. Where memory is wanting for a part of it, this is kept until the
-/// text is printed, so that what writes it has no faults of its own.
+/// The text that is printed next. That memory was wanting for a part of it is told when the text is
+/// printed, so that what writes a part has no fault of its own.
 #[derive(Drop)]
 pub(crate) struct Page {
     text: String,

@@ -40,7 +40,7 @@ fn push_length(page: &mut Page, end: usize) {
     page.put(" bytes");
 }
 
-fn push_gift(page: &mut Page, escape: Escape) {
+fn push_given(page: &mut Page, escape: Escape) {
     match escape {
         Escape::Unit(unit, end) => {
             page.put("unit ");
@@ -67,7 +67,7 @@ fn push_gift(page: &mut Page, escape: Escape) {
 fn push_escape(page: &mut Page, text: &str) {
     page.row();
     match text.as_bytes() {
-        [b'\\', ..] => push_gift(page, read_escape(text, 0)),
+        [b'\\', ..] => push_given(page, read_escape(text, 0)),
         _ => page.put("no backslash"),
     }
 }

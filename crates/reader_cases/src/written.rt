@@ -26,6 +26,7 @@ impl Written {
         self.add(&[byte]) && self.add(rest.as_bytes())
     }
 
+    // A byte by its two digits.
     fn byte(&mut self, text: &str) -> bool {
         match hexadecimal(text) {
             Some((byte, rest)) => self.add_before(byte, rest),
@@ -49,6 +50,7 @@ impl Written {
         self.add(rest.as_bytes())
     }
 
+    // Ends what is repeated, and adds it so many times.
     fn close(&mut self, rest: &str) -> bool {
         let Some(times) = self.times else {
             return false;
@@ -88,7 +90,8 @@ fn hexadecimal(text: &str) -> Option<(u8, &str)> {
     Some((u8::try_from(value).ok()?, rest))
 }
 
-// The parts between backslashes. One of no characters behind a backslash is the second of two.
+// Adds the parts between backslashes. Behind one that begins an escape, an empty part means that
+// another backslash follows, and the part behind that is plain.
 fn add_parts(written: &mut Written, text: &str) -> bool {
     let mut is_behind = false;
     for part in text.split('\\') {
