@@ -1,7 +1,7 @@
 use Rattle.std.proofs.Common.{◌≡◌, ◌∷◌, take, true}
 use Rattle.std.specs.List.{list_all}
 use Rattle.cc_driver.specs.Form.{is_plain}
-use Rattle.cc_driver.proofs.spelling.parts.quote.Given as goal
+use Rattle.cc_driver.proofs.spelling.parts.push_quoted.Given as goal
 
 abbrev pub invariant-loop-unit : goal.invariant-loop-unit
 invariant-loop-unit l =
