@@ -4,28 +4,22 @@ ghost use Rattle.std.specs.Prelude.{◌≡◌, ◌<◌, ◌≤◌, ◌-◌, [], 
 ghost use Rattle.cc_cursor.specs.Shown as shown;
 ghost use Rattle.cc_cursor.specs.Reads as spec;
 ghost use Rattle.cc_cursor.specs.Reads.{Reads};
-ghost use Rattle.cc_expr.specs.Nests.{NestsExpr};
+ghost use Rattle.cc_trees.specs.Nests.{NestsExpr};
 
 use crate::grammar::Grammar;
 use cc_ast::reading::Construct;
-use cc_cursor::context::Context;
 use cc_cursor::cursor::Cursor;
 use cc_cursor::error::{Cause, ReadError};
 use cc_cursor::limits::Limits;
 use cc_lexer::token::Mark;
-use cc_raw::tree::{RawExpr, RawStmt};
+use cc_raw::tree::RawExpr;
+use cc_trees::answers::{closed, push_boxed};
 use sqlite_items::{Boxed, Items};
 use std::alloc::Global;
 
 impl<
     F: Fn(Global, &mut Cursor<'_>, Limits, bool, u8) -> Result<(Boxed<RawExpr>, usize), ReadError>,
-    G: Fn(
-        Global,
-        &mut Cursor<'_>,
-        Limits,
-        Context<'_>,
-    ) -> Result<(Items<RawStmt>, usize), ReadError>,
-> Grammar<F, G> {
+> Grammar<F> {
     fn arguments(&self, cursor: &mut Cursor<'_>) -> Result<(Items<RawExpr>, usize), ReadError>
         requires { NestsExpr self.now.limits (F.pre self.now.expr) (F.post self.now.expr) }
         ensures reads { Reads shown.exprs (spec.arguments self.now.limits self.now.limits.turns [] 0 cursor.old) result cursor.new }
@@ -35,11 +29,10 @@ impl<
         let mut height = 0;
         for _turn in 0..self.limits.turns {
             let (e, h) = self.inner_expr(cursor, true, 1)?;
-            found.push(e.into_inner())?;
+            push_boxed(&mut found, e)?;
             height = height.max(h);
             if !cursor.sees(Mark::Comma) {
-                cursor.expect(Mark::CloseParen)?;
-                return Ok((found, height));
+                return closed(cursor, Mark::CloseParen, (found, height));
             }
             cursor.take();
         }

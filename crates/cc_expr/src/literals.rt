@@ -1,35 +1,59 @@
 // Array and object literals (ECMA-262 5.1, 11.1.4 and 11.1.5).
 
-ghost use Rattle.std.specs.Prelude.{◌≡◌, ◌<◌, ◌≤◌, ◌-◌, [], IfOk};
+ghost use Rattle.std.specs.Prelude.{◌≡◌, ◌<◌, ◌≤◌, ◌-◌, [], IfOk, is_some};
+ghost use Rattle.cc_grammar.specs.Signs as signs;
 ghost use Rattle.cc_expr.specs.Parts as parts;
 ghost use Rattle.cc_cursor.specs.Shown as shown;
 ghost use Rattle.cc_expr.specs.Expressions as spec;
 ghost use Rattle.cc_cursor.specs.Reads.{Reads};
-ghost use Rattle.cc_expr.specs.Nests.{NestsExpr};
+ghost use Rattle.cc_trees.specs.Nests.{NestsExpr};
 
 use crate::grammar::Grammar;
 use cc_ast::place::Place;
 use cc_ast::reading::Construct;
-use cc_cursor::context::Context;
 use cc_cursor::cursor::Cursor;
 use cc_cursor::error::{Cause, Fault, ReadError};
 use cc_cursor::keys::{is_accessor, key_of, owned_key};
+use cc_cursor::lexeme::Kind;
 use cc_cursor::limits::Limits;
 use cc_cursor::refused::Due;
 use cc_lexer::token::Mark;
-use cc_raw::tree::{RawExpr, RawField, RawKey, RawStmt};
+use cc_raw::tree::{RawExpr, RawField, RawKey};
+use cc_trees::answers::{closed, push_boxed};
 use sqlite_items::{Boxed, Items};
 use std::alloc::Global;
 
+/// Whether a token is a key of an object literal.
+fn is_key(kind: Kind<'_>) -> bool
+    ensures { result ≡ is_some (signs.key_of (shown.kind kind.entry)) }
+{
+    matches!(
+        kind,
+        Kind::Name(_) | Kind::Word(_) | Kind::Text(_) | Kind::Number(_)
+    )
+}
+
+impl<F> Grammar<F> {
+    // `get` or `set` before another key is refused.
+    fn key(&self, cursor: &mut Cursor<'_>) -> Result<(Place, RawKey), ReadError>
+        ensures { Reads parts.placed_key (spec.key self.now.limits cursor.old) result cursor.new }
+    {
+        let kind = cursor.kind();
+        let Some(key) = key_of(kind) else {
+            return Err(ReadError::Fault(cursor.fault(Due::Token)));
+        };
+        let place = cursor.take();
+        if is_accessor(kind) && is_key(cursor.kind()) {
+            let cause = Cause::Refused(Construct::Accessor);
+            return Err(ReadError::Fault(Fault { cause, place }));
+        }
+        Ok((place, owned_key(self.alloc, key)?))
+    }
+}
+
 impl<
     F: Fn(Global, &mut Cursor<'_>, Limits, bool, u8) -> Result<(Boxed<RawExpr>, usize), ReadError>,
-    G: Fn(
-        Global,
-        &mut Cursor<'_>,
-        Limits,
-        Context<'_>,
-    ) -> Result<(Items<RawStmt>, usize), ReadError>,
-> Grammar<F, G> {
+> Grammar<F> {
     /// The elements of an array literal behind its opening bracket.
     pub(crate) fn elements(
         &self,
@@ -50,31 +74,14 @@ impl<
                 return Err(ReadError::Fault(cursor.stop(Cause::Refused(Construct::Hole))));
             }
             let (e, h) = self.inner_expr(cursor, true, 1)?;
-            found.push(e.into_inner())?;
+            push_boxed(&mut found, e)?;
             height = height.max(h);
             if !cursor.sees(Mark::Comma) {
-                cursor.expect(Mark::CloseBracket)?;
-                return Ok((found, height));
+                return closed(cursor, Mark::CloseBracket, (found, height));
             }
             cursor.take();
         }
         Err(ReadError::Fault(cursor.stop(Cause::Spent)))
-    }
-
-    // `get` or `set` before another key is refused.
-    fn key(&self, cursor: &mut Cursor<'_>) -> Result<(Place, RawKey), ReadError>
-        ensures { Reads parts.placed_key (spec.key self.now.limits cursor.old) result cursor.new }
-    {
-        let kind = cursor.kind();
-        let Some(key) = key_of(kind) else {
-            return Err(ReadError::Fault(cursor.fault(Due::Token)));
-        };
-        let place = cursor.take();
-        if is_accessor(kind) && key_of(cursor.kind()).is_some() {
-            let cause = Cause::Refused(Construct::Accessor);
-            return Err(ReadError::Fault(Fault { cause, place }));
-        }
-        Ok((place, owned_key(self.alloc, key)?))
     }
 
     #[tactic(auto, unfolding(cc_grammar::specs::ReadingExpressions::field), using(cc_raw::specs::StmtTerms::raw_stmt_steps))]
@@ -83,8 +90,8 @@ impl<
         ensures reads { Reads parts.sized_field (spec.field self.now.limits cursor.old) result cursor.new }
         ensures low { IfOk result (λ x. x.1 < self.now.limits.depth) }
     {
-        let (place, key) = self.key(cursor)?;
-        cursor.expect(Mark::Colon)?;
+        let key = self.key(cursor)?;
+        let (place, key) = closed(cursor, Mark::Colon, key)?;
         let (value, height) = self.inner_expr(cursor, true, 1)?;
         Ok((RawField { place, key, value }, height))
     }
@@ -109,8 +116,7 @@ impl<
             found.push(field)?;
             height = height.max(h);
             if !cursor.sees(Mark::Comma) {
-                cursor.expect(Mark::CloseBrace)?;
-                return Ok((found, height));
+                return closed(cursor, Mark::CloseBrace, (found, height));
             }
             cursor.take();
         }
