@@ -86,17 +86,12 @@ fn begin_program(alloc: Global, program: &mut Program) -> Option<()> {
     program.docs.push(blank_doc(alloc)).ok()
 }
 
-fn begin_parts(alloc: Global, parts: &mut Parts) {
-    *parts = no_parts(alloc);
-}
-
 fn begin_heap(alloc: Global, heap: &mut Heap) {
     *heap = Heap::new(alloc);
 }
 
 fn begin(machine: &mut Machine) -> Option<()> {
     begin_heap(machine.alloc, &mut machine.heap);
-    begin_parts(machine.alloc, &mut machine.parts);
     begin_program(machine.alloc, &mut machine.program)
 }
 
@@ -116,7 +111,14 @@ fn answer_words(machine: &mut Machine, words: &[&str]) -> Option<()> {
     }
 }
 
-// Prints a line, and its answer behind it.
+fn answer_case(machine: &mut Machine, line: &str) -> Option<()> {
+    match line.split_whitespace().collect::<Vec<&str>>(machine.alloc) {
+        Ok(words) => answer_words(machine, words.as_slice()),
+        Err(_) => None,
+    }
+}
+
+// Prints a line, and the answer behind it where it is a case.
 fn answer_line(machine: &mut Machine, line: &str) -> Option<()> {
     if writeln!(machine.out, "{line}").is_err() {
         return None;
@@ -124,10 +126,7 @@ fn answer_line(machine: &mut Machine, line: &str) -> Option<()> {
     if line.is_empty() || line.starts_with('#') {
         return Some(());
     }
-    match line.split_whitespace().collect::<Vec<&str>>(machine.alloc) {
-        Ok(words) => answer_words(machine, words.as_slice()),
-        Err(_) => None,
-    }
+    answer_case(machine, line)
 }
 
 /// Does what a line says, and leaves in `out` what is printed. Tells whether the line could be read.

@@ -37,7 +37,9 @@ fn answer_all(
         if !answer(machine, line) {
             status = 2;
         }
-        rt.print(machine.out.as_str())?;
+        if let Err(fault) = rt.print(machine.out.as_str()) {
+            return Err(fault);
+        }
     }
     Ok(status)
 }

@@ -11,7 +11,7 @@ use cc_ast::program::{Program, Scope};
 use cc_ast::tree::{Declarator, Expr, Stmt};
 use cc_fold::{plan, rewrite};
 use sqlite_items::{Boxed, Items};
-use std::alloc::{AllocError, Global};
+use std::alloc::Global;
 use std::fmt::Write;
 use std::mem;
 
@@ -136,27 +136,24 @@ fn scope_copy(machine: &mut Machine, words: &[&str]) -> Option<()> {
     }
 }
 
-// How many entries each table has.
-fn tell_counts(out: &mut String, program: &Program) -> Result<(), AllocError> {
+// How many scopes, chunks, globals, properties, kept names, classes, places and docs there are.
+fn tell_counts(out: &mut String, program: &Program) -> Option<()> {
     let counts = [
-        ("scopes", program.scopes.len()),
-        ("chunks", program.chunks.len()),
-        ("globals", program.globals.len()),
-        ("props", program.props.len()),
-        ("kept", program.kept.len()),
-        ("classes", program.classes.len()),
-        ("places", program.places.len()),
-        ("docs", program.docs.len()),
+        program.scopes.len(),
+        program.chunks.len(),
+        program.globals.len(),
+        program.props.len(),
+        program.kept.len(),
+        program.classes.len(),
+        program.places.len(),
+        program.docs.len(),
     ];
-    for (name, count) in &counts {
-        writeln!(out, "  {name} {count}")?;
-    }
-    Ok(())
+    writeln!(out, "  {counts:?}").ok()
 }
 
 fn program_copy(machine: &mut Machine) -> Option<()> {
     match copy_program(machine.alloc, &machine.program) {
-        Ok(copy) => tell_counts(&mut machine.out, &copy).ok(),
+        Ok(copy) => tell_counts(&mut machine.out, &copy),
         Err(_) => None,
     }
 }
