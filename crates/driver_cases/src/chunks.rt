@@ -1,147 +1,147 @@
-// Graphs of chunks.
-ghost use Rattle.std.specs.Prelude.{◌≡◌, ◌^◌, ◌<◌, IfOk, length};
+// Graphs of chunks. Each case tells whether its line could be read.
+ghost use Rattle.std.specs.Prelude.{◌≡◌, IfOk};
 
-use crate::text::{number, split_word};
-use crate::unread::Unread;
+mod specs;
+
+use crate::chunks::specs::specs_of;
+use crate::page::Page;
+use crate::text::{number, numbers_of, split_word};
 use cc_ast::copy::table::CopyOf;
 use cc_ast::program::Program;
 use cc_ast::tables::ChunkInfo;
-use cc_chunks::{ChunkFault, ChunkGraph, ChunkSpec};
+use cc_chunks::ChunkGraph;
 use sqlite_items::Items;
 use std::alloc::{AllocError, Global};
-use std::fmt::Write;
+use std::fmt::Debug;
 
 /// The graphs that were made, of which the last is asked.
 pub type Graphs = Vec<ChunkGraph>;
 
-/// `NAME:COUNT` or `NAME:COUNT:DEP,DEP`.
-fn spec_of(alloc: Global, text: &str) -> Result<ChunkSpec, Unread> {
-    let Some((name, rest)) = text.split_once(':') else {
-        return Err(Unread::Line);
-    };
-    let (count, names) = rest.split_once(':').unwrap_or((rest, ""));
-    let count = number(count)?;
-    let deps = deps_of(alloc, names)?;
-    let name = String::from_str(alloc, name)?;
-    Ok(ChunkSpec { name, count, deps })
-}
-
-fn deps_of(alloc: Global, names: &str) -> Result<Vec<String>, AllocError> {
-    let mut deps = Vec::new(alloc);
-    if names.is_empty() {
-        return Ok(deps);
+pub fn answer(alloc: Global, graphs: &mut Graphs, line: &str, page: &mut Page) -> bool {
+    let (word, rest) = split_word(line);
+    match word {
+        "of" => graph_of(alloc, graphs, rest, page),
+        "again" => again(alloc, graphs, page),
+        "depends" => depends(graphs, rest, page),
+        "deepest" => deepest(alloc, graphs, rest, page),
+        _ => false,
     }
-    for name in names.split(',') {
-        deps.push(String::from_str(alloc, name)?)?;
-    }
-    Ok(deps)
-}
-
-fn specs_of(alloc: Global, text: &str) -> Result<Vec<ChunkSpec>, Unread> {
-    let mut specs = Vec::new(alloc);
-    for word in text.split(' ') {
-        specs.push(spec_of(alloc, word)?)?;
-    }
-    Ok(specs)
 }
 
 /// `FILES SPEC ..`: the graph of the specs, or their first fault.
-pub fn chunks(
-    alloc: Global,
-    graphs: &mut Graphs,
-    text: &str,
-    out: &mut String,
-) -> Result<(), Unread> {
-    let (files, specs) = split_word(text);
-    let files = number(files)?;
-    let specs = specs_of(alloc, specs)?;
-    if u32::try_from(specs.len()).is_err() {
-        return Err(Unread::Line);
+fn graph_of(alloc: Global, graphs: &mut Graphs, text: &str, page: &mut Page) -> bool {
+    let (files, text) = split_word(text);
+    let Some(files) = number(files) else {
+        return false;
+    };
+    let Some(specs) = specs_of(alloc, text) else {
+        return false;
+    };
+    if specs.len() > 4096 {
+        return false;
     }
     match ChunkGraph::of(alloc, specs.as_slice(), files) {
-        Ok(graph) => keep(graphs, graph, out),
-        Err(fault) => Ok(push_fault(out, fault)?),
+        Ok(graph) => keep(graphs, graph, page),
+        Err(fault) => {
+            add_line(&fault, page);
+            true
+        }
     }
 }
 
-fn push_fault(out: &mut String, fault: ChunkFault) -> Result<(), AllocError> {
-    writeln!(out, "  {fault:?}")
+fn add_line<T: Debug>(value: &T, page: &mut Page) {
+    page.add("  ");
+    page.add_value(value);
+    page.add("\n");
 }
 
 /// Shows a graph, and keeps it for the questions behind it.
-fn keep(graphs: &mut Graphs, graph: ChunkGraph, out: &mut String) -> Result<(), Unread> {
-    push_graph(out, &graph)?;
-    graphs.push(graph)?;
-    Ok(())
+fn keep(graphs: &mut Graphs, graph: ChunkGraph, page: &mut Page) -> bool {
+    add_graph(&graph, page);
+    graphs.push(graph).is_ok()
 }
 
-fn push_graph(out: &mut String, graph: &ChunkGraph) -> Result<(), AllocError> {
-    let count = graph.chunks().len();
-    let counts = graph.counts();
-    writeln!(out, "  chunks {count}, counts {counts:?}")
-}
-
-fn last(graphs: &Graphs) -> Result<&ChunkGraph, Unread> {
-    graphs.last().ok_or(Unread::Line)
+fn add_graph(graph: &ChunkGraph, page: &mut Page) {
+    page.add("  chunks ");
+    page.add_number(graph.chunks().len() as u64);
+    page.add(", counts ");
+    page.add_value(&graph.counts());
+    page.add("\n");
 }
 
 /// `A B`: whether the one chunk depends on the other.
-pub fn depends(graphs: &Graphs, text: &str, out: &mut String) -> Result<(), Unread> {
+fn depends(graphs: &Graphs, text: &str, page: &mut Page) -> bool {
     let (a, b) = split_word(text);
-    let answer = last(graphs)?.depends(number(a)?, number(b)?);
-    writeln!(out, "  {answer}")?;
-    Ok(())
+    let (Some(a), Some(b)) = (number(a), number(b)) else {
+        return false;
+    };
+    let Some(graph) = graphs.last() else {
+        return false;
+    };
+    add_line(&graph.depends(a, b), page);
+    true
 }
 
-fn numbers_of(alloc: Global, text: &str) -> Result<Vec<u32>, Unread> {
-    let mut numbers = Vec::new(alloc);
-    for word in text.split(' ') {
-        numbers.push(number(word)?)?;
-    }
-    Ok(numbers)
+/// `A B ..`: the deepest chunk that several have in common.
+fn deepest(alloc: Global, graphs: &Graphs, text: &str, page: &mut Page) -> bool {
+    let Some(graph) = graphs.last() else {
+        return false;
+    };
+    let Some(list) = numbers_of(alloc, text) else {
+        return false;
+    };
+    add_deepest(graph, list.as_slice(), page)
 }
 
-/// The deepest chunk that several have in common.
-pub fn deepest(alloc: Global, graphs: &Graphs, text: &str, out: &mut String) -> Result<(), Unread> {
-    let graph = last(graphs)?;
-    let list = numbers_of(alloc, text)?;
+fn add_deepest(graph: &ChunkGraph, list: &[u32], page: &mut Page) -> bool {
     let count = graph.chunks().len();
     if list.is_empty() || !list.iter().all(|chunk| (*chunk as usize) < count) {
-        return Err(Unread::Line);
+        return false;
     }
-    let answer = graph.deepest_common(list.as_slice());
-    writeln!(out, "  {answer:?}")?;
-    Ok(())
+    add_line(&graph.deepest_common(list), page);
+    true
 }
 
-/// A program with these chunks and nothing else.
-fn program_with(alloc: Global, chunks: &[ChunkInfo]) -> Result<Program, AllocError>
-    ensures { IfOk result (λ program. program.chunks ≡ chunks.now) }
+fn copies_of(alloc: Global, chunks: &[ChunkInfo]) -> Result<Items<ChunkInfo>, AllocError>
+    ensures { IfOk result (λ copies. copies ≡ chunks.now) }
 {
     let mut copies = Items::new(alloc);
     for chunk in chunks {
         copies.push(chunk.copy_of(alloc)?)?;
     }
-    Ok(Program {
+    Ok(copies)
+}
+
+/// A program with these chunks and nothing else.
+fn program_with(alloc: Global, chunks: Items<ChunkInfo>) -> Program
+    ensures { result.chunks ≡ chunks }
+{
+    Program {
         scopes: Items::new(alloc),
-        chunks: copies,
+        chunks,
         globals: Items::new(alloc),
         props: Items::new(alloc),
         kept: Items::new(alloc),
         classes: Items::new(alloc),
         places: Items::new(alloc),
         docs: Items::new(alloc),
-    })
+    }
 }
 
 /// The graph of a program with the chunks of another graph.
 fn graph_again(alloc: Global, graph: &ChunkGraph) -> Result<ChunkGraph, AllocError> {
-    let program = program_with(alloc, graph.chunks())?;
+    let chunks = copies_of(alloc, graph.chunks())?;
+    let program = program_with(alloc, chunks);
     ChunkGraph::from_program(alloc, &program)
 }
 
 /// Asks for the graph of a program that has the chunks of the last graph.
-pub fn program(alloc: Global, graphs: &mut Graphs, out: &mut String) -> Result<(), Unread> {
-    let graph = graph_again(alloc, last(graphs)?)?;
-    keep(graphs, graph, out)
+fn again(alloc: Global, graphs: &mut Graphs, page: &mut Page) -> bool {
+    let Some(graph) = graphs.last() else {
+        return false;
+    };
+    match graph_again(alloc, graph) {
+        Ok(graph) => keep(graphs, graph, page),
+        Err(_) => false,
+    }
 }

@@ -1,11 +1,12 @@
-// Compilations over a host in memory.
+// Compilations over a host in memory. Each tells whether its line could be read.
 
-use crate::text::{bytes_of, number, push_named, push_shown, words_of};
-use crate::unread::Unread;
+use crate::memory::{add_file, add_told};
+use crate::page::Page;
+use crate::text::{bytes_of, number, words_of};
 use cc_driver::compile::compile_alone;
 use cc_driver::outcome::Outcome;
 use cc_host::MemoryHost;
-use std::alloc::{AllocError, Global};
+use std::alloc::Global;
 use std::fmt::Write;
 
 const EXTERNS: &[u8] = b"function alert(x){}";
@@ -13,124 +14,143 @@ const EXTERNS: &[u8] = b"function alert(x){}";
 const WORDS: &str = "--externs ext.js --js in.js --js_output_file out.js";
 
 /// `EXTERNS -> SOURCE`: a host with these two files.
-pub fn compile(
-    alloc: Global,
-    host: &mut MemoryHost,
-    text: &str,
-    out: &mut String,
-) -> Result<(), Unread> {
+pub fn compile(alloc: Global, host: &mut MemoryHost, text: &str, page: &mut Page) -> bool {
     let Some((externs, source)) = text.split_once(" ->") else {
-        return Err(Unread::Line);
+        return false;
     };
-    let externs = bytes_of(alloc, externs)?;
-    let source = bytes_of(alloc, source.strip_prefix(' ').unwrap_or(""))?;
-    set_files(alloc, host, externs.as_slice(), source.as_slice())?;
-    compile_words(alloc, host, WORDS, out)
+    let Some(externs) = bytes_of(alloc, externs) else {
+        return false;
+    };
+    compile_source(alloc, host, externs.as_slice(), source, page)
 }
 
-/// A call of a sum with so many operands.
-pub fn chain(
+/// The source behind the arrow.
+fn compile_source(
     alloc: Global,
     host: &mut MemoryHost,
+    externs: &[u8],
     text: &str,
-    out: &mut String,
-) -> Result<(), Unread> {
-    let count = number(text)?;
-    let mut source = String::from_str(alloc, "alert(1")?;
-    for _ in 1..count {
-        source.push_str("+1")?;
-    }
-    source.push_str(");")?;
-    set_files(alloc, host, EXTERNS, source.as_bytes())?;
-    compile_words(alloc, host, WORDS, out)
+    page: &mut Page,
+) -> bool {
+    let Some(source) = bytes_of(alloc, text.strip_prefix(' ').unwrap_or("")) else {
+        return false;
+    };
+    compile_files(alloc, host, externs, source.as_slice(), page)
 }
 
-/// The name with a number: declares so many names and one more, each of which is printed once, and
-/// shows the last declaration as it is written.
-pub fn name(
-    alloc: Global,
-    host: &mut MemoryHost,
-    text: &str,
-    out: &mut String,
-) -> Result<(), Unread> {
-    let last = number(text)?;
-    let mut source = String::new(alloc);
-    for k in 0..=last {
-        write!(source, "var v{k}={k};")?;
-    }
-    set_files(alloc, host, EXTERNS, source.as_bytes())?;
-    let outcome = run(alloc, host, WORDS)?;
-    push_outcome(out, outcome)?;
-    push_last(out, host.file("out.js"))?;
-    Ok(())
-}
-
-fn set_files(
+fn compile_files(
     alloc: Global,
     host: &mut MemoryHost,
     externs: &[u8],
     source: &[u8],
-) -> Result<(), AllocError> {
+    page: &mut Page,
+) -> bool {
+    set_files(alloc, host, externs, source) && compile_words(alloc, host, WORDS, page)
+}
+
+fn set_files(alloc: Global, host: &mut MemoryHost, externs: &[u8], source: &[u8]) -> bool {
     *host = MemoryHost::new(alloc);
-    host.set_file("ext.js", externs)?;
-    host.set_file("in.js", source)
+    host.set_file("ext.js", externs).is_ok() && host.set_file("in.js", source).is_ok()
 }
 
-fn run(alloc: Global, host: &mut MemoryHost, line: &str) -> Result<Outcome, Unread> {
-    let words = words_of(alloc, line)?;
-    Ok(compile_alone(alloc, words.as_slice(), host))
+/// A call of a sum with so many operands.
+pub fn chain(alloc: Global, host: &mut MemoryHost, text: &str, page: &mut Page) -> bool {
+    let Some(count) = number(text) else {
+        return false;
+    };
+    let Some(source) = chain_of(alloc, count) else {
+        return false;
+    };
+    compile_files(alloc, host, EXTERNS, source.as_bytes(), page)
 }
 
-/// Compiles with these words, and shows the answer, what was told, and the output file.
-pub fn compile_words(
-    alloc: Global,
-    host: &mut MemoryHost,
-    line: &str,
-    out: &mut String,
-) -> Result<(), Unread> {
-    let outcome = run(alloc, host, line)?;
-    push_outcome(out, outcome)?;
-    push_told(out, host)?;
-    push_output(out, host)?;
-    Ok(())
-}
-
-fn push_outcome(out: &mut String, outcome: Outcome) -> Result<(), AllocError> {
-    let status = outcome.status();
-    match outcome {
-        Outcome::Done => writeln!(out, "  done, status {status}"),
-        Outcome::Read(file) => writeln!(out, "  read {file}, status {status}"),
-        Outcome::Write(file) => writeln!(out, "  write {file}, status {status}"),
-        Outcome::Unbuilt(part) => writeln!(out, "  unbuilt {part}, status {status}"),
-        Outcome::Memory => writeln!(out, "  memory, status {status}"),
+fn chain_of(alloc: Global, count: u32) -> Option<String> {
+    let Ok(mut source) = String::from_str(alloc, "alert(1") else {
+        return None;
+    };
+    for _ in 1..count {
+        if source.push_str("+1").is_err() {
+            return None;
+        }
     }
-}
-
-/// What was told, if anything was.
-fn push_told(out: &mut String, host: &MemoryHost) -> Result<(), AllocError> {
-    if host.told.is_empty() {
-        return Ok(());
+    if source.push_str(");").is_err() {
+        return None;
     }
-    push_named(out, "told", host.told.as_slice())
+    Some(source)
 }
 
-/// The output file, where it is there.
-fn push_output(out: &mut String, host: &MemoryHost) -> Result<(), AllocError> {
-    match host.file("out.js") {
-        Some(bytes) => push_named(out, "out.js", bytes),
-        None => Ok(()),
+/// The name with a number: declares so many names and one more, each of which is printed once, and
+/// shows the last declaration as it is written.
+pub fn name(alloc: Global, host: &mut MemoryHost, text: &str, page: &mut Page) -> bool {
+    let Some(last) = number(text) else {
+        return false;
+    };
+    let Some(source) = declarations(alloc, last) else {
+        return false;
+    };
+    if !set_files(alloc, host, EXTERNS, source.as_bytes()) {
+        return false;
     }
+    let read = run(alloc, host, WORDS, page);
+    add_last(host.file("out.js").unwrap_or(b""), page);
+    read
 }
 
-/// The last statement of a file.
-fn push_last(out: &mut String, file: Option<&[u8]>) -> Result<(), AllocError> {
+fn declarations(alloc: Global, last: u32) -> Option<String> {
+    let mut source = String::new(alloc);
+    for k in 0..=last {
+        if write!(source, "var v{k}={k};").is_err() {
+            return None;
+        }
+    }
+    Some(source)
+}
+
+/// Shows the last statement of a file.
+fn add_last(file: &[u8], page: &mut Page) {
     let mut last: &[u8] = b"";
-    for statement in file.unwrap_or(b"").split(|byte| *byte == b';') {
+    for statement in file.split(|byte| *byte == b';') {
         if !statement.is_empty() {
             last = statement;
         }
     }
-    out.push_str("  ")?;
-    push_shown(out, last)?;
-    out.push_str(";\n")
+    page.add("  last");
+    page.end_with(last);
+}
+
+/// Compiles with these words, and shows the answer.
+fn run(alloc: Global, host: &mut MemoryHost, line: &str, page: &mut Page) -> bool {
+    let Some(words) = words_of(alloc, line) else {
+        return false;
+    };
+    let outcome = compile_alone(alloc, words.as_slice(), host);
+    add_outcome(outcome, page);
+    true
+}
+
+/// Compiles with these words, and shows the answer, what was told if anything was, and the output file.
+pub fn compile_words(alloc: Global, host: &mut MemoryHost, line: &str, page: &mut Page) -> bool {
+    let read = run(alloc, host, line, page);
+    if !host.told.is_empty() {
+        add_told(host, page);
+    }
+    add_file(host, "out.js", page);
+    read
+}
+
+fn add_outcome(outcome: Outcome, page: &mut Page) {
+    match outcome {
+        Outcome::Done => page.add("  done"),
+        Outcome::Read(file) => add_part("  read ", file as u64, page),
+        Outcome::Write(file) => add_part("  write ", file as u64, page),
+        Outcome::Unbuilt(part) => add_part("  unbuilt ", u64::from(part), page),
+        Outcome::Memory => page.add("  memory"),
+    }
+    add_part(", status ", u64::from(outcome.status()), page);
+    page.add("\n");
+}
+
+fn add_part(word: &str, number: u64, page: &mut Page) {
+    page.add(word);
+    page.add_number(number);
 }

@@ -1,11 +1,11 @@
-// Steps on a host over the files of the folder that the program runs in.
+// Steps on a host over the files of the folder that the program runs in. Each tells whether its line
+// could be read.
 
-use crate::hosts::{push_answer, push_answer_with, read, tell, write};
+use crate::hosts::{BEGIN, add_answer, add_answer_with, read, tell, write};
+use crate::page::Page;
 use crate::text::{number, split_word};
-use crate::unread::Unread;
 use cc_host::{FileHost, Host};
-use std::alloc::{AllocError, Global};
-use std::fmt::Write;
+use std::alloc::Global;
 use std::fs;
 
 type Files<'r> = FileHost<'r, HostRuntime>;
@@ -15,68 +15,111 @@ pub fn answer(
     rt: &HostRuntime,
     host: &mut Files<'_>,
     line: &str,
-    out: &mut String,
-) -> Result<(), Unread> {
+    page: &mut Page,
+) -> bool {
     let (word, rest) = split_word(line);
     match word {
-        "read" => read(alloc, host, rest, out),
-        "write" => write(alloc, host, rest, out),
-        "tell" => tell(alloc, host, rest, out),
-        "make" => make(alloc, host, rest, out),
-        "same" => same(alloc, host, rest, out),
-        "remove" => Ok(remove(rt, rest, out)?),
-        "counts" => Ok(push_counts(host, out)?),
-        _ => Err(Unread::Line),
+        "make" => make(alloc, host, rest, page),
+        "same" => same(alloc, host, rest, page),
+        "remove" => remove(rt, rest, page),
+        "counts" => add_counts(host, page),
+        _ => call(alloc, host, line, page),
     }
 }
 
-/// So many bytes, in which no chunk of a power of two begins as the one before it.
-fn made(alloc: Global, count: u32) -> Result<Vec<u8>, AllocError> {
-    let mut bytes = Vec::new(alloc);
-    for place in 0..count {
-        bytes.push((place % 251) as u8)?;
+fn call(alloc: Global, host: &mut Files<'_>, line: &str, page: &mut Page) -> bool {
+    let (word, rest) = split_word(line);
+    match word {
+        "read" => read(alloc, host, rest, page),
+        "write" => write(alloc, host, rest, page),
+        "tell" => tell(alloc, host, rest, page),
+        _ => false,
     }
-    Ok(bytes)
+}
+
+/// So many bytes behind those that a list begins with. No chunk whose size is a power of two begins as
+/// the one before it.
+fn made(alloc: Global, count: u32) -> Option<Vec<u8>> {
+    let Ok(mut bytes) = Vec::from_slice(alloc, BEGIN) else {
+        return None;
+    };
+    for place in 0..count {
+        if bytes.push((place % 251) as u8).is_err() {
+            return None;
+        }
+    }
+    Some(bytes)
+}
+
+/// `NAME COUNT`, and the bytes that the count stands for.
+fn made_of(alloc: Global, text: &str) -> Option<(&str, Vec<u8>)> {
+    let (name, count) = split_word(text);
+    let Some(count) = number(count) else {
+        return None;
+    };
+    let Some(bytes) = made(alloc, count) else {
+        return None;
+    };
+    Some((name, bytes))
 }
 
 /// `NAME COUNT`: writes a file of so many bytes.
-fn make(alloc: Global, host: &mut Files<'_>, text: &str, out: &mut String) -> Result<(), Unread> {
-    let (name, count) = split_word(text);
-    let bytes = made(alloc, number(count)?)?;
-    let answer = host.write(name, bytes.as_slice());
-    push_answer(out, answer)?;
-    Ok(())
+fn make(alloc: Global, host: &mut Files<'_>, text: &str, page: &mut Page) -> bool {
+    let Some((name, bytes)) = made_of(alloc, text) else {
+        return false;
+    };
+    let answer = host.write(name, bytes.strip_prefix(BEGIN).unwrap_or(b""));
+    add_answer(page, answer);
+    true
 }
 
-/// `NAME COUNT`: reads a file into a list that holds `//`, and tells whether the rest of the list is
-/// what `make` writes.
-fn same(alloc: Global, host: &mut Files<'_>, text: &str, out: &mut String) -> Result<(), Unread> {
-    let (name, count) = split_word(text);
-    let wanted = made(alloc, number(count)?)?;
-    let mut bytes = Vec::from_slice(alloc, b"//")?;
+/// `NAME COUNT`: reads a file, and tells whether it is as `make` writes it.
+fn same(alloc: Global, host: &mut Files<'_>, text: &str, page: &mut Page) -> bool {
+    let Some((name, wanted)) = made_of(alloc, text) else {
+        return false;
+    };
+    compare(alloc, host, name, wanted.as_slice(), page)
+}
+
+fn compare(
+    alloc: Global,
+    host: &mut Files<'_>,
+    name: &str,
+    wanted: &[u8],
+    page: &mut Page,
+) -> bool {
+    let Ok(mut bytes) = Vec::from_slice(alloc, BEGIN) else {
+        return false;
+    };
     let answer = host.read(name, &mut bytes);
-    push_answer_with(out, answer, bytes.as_slice())?;
-    push_difference(out, bytes.as_slice(), wanted.as_slice())?;
-    Ok(())
+    add_answer_with(page, answer, bytes.as_slice());
+    add_same(bytes.as_slice() == wanted, page);
+    true
 }
 
-fn push_difference(out: &mut String, bytes: &[u8], wanted: &[u8]) -> Result<(), AllocError> {
-    if bytes.strip_prefix(b"//") == Some(wanted) {
-        out.push_str("  as made behind //\n")
+fn add_same(same: bool, page: &mut Page) {
+    if same {
+        page.add("  as made\n");
     } else {
-        out.push_str("  other bytes\n")
+        page.add("  other bytes\n");
     }
 }
 
-fn remove(rt: &HostRuntime, name: &str, out: &mut String) -> Result<(), AllocError> {
-    match fs::remove_file(rt, name) {
-        Ok(()) => out.push_str("  done\n"),
-        Err(_) => out.push_str("  failed\n"),
+/// `NAME`: removes a file.
+fn remove(rt: &HostRuntime, name: &str, page: &mut Page) -> bool {
+    if fs::remove_file(rt, name).is_ok() {
+        page.add("  done\n");
+    } else {
+        page.add("  failed\n");
     }
+    true
 }
 
-fn push_counts(host: &Files<'_>, out: &mut String) -> Result<(), AllocError> {
-    let faults = host.faults();
-    let tell_faults = host.tell_faults();
-    writeln!(out, "  faults {faults}, faults of tell {tell_faults}")
+fn add_counts(host: &Files<'_>, page: &mut Page) -> bool {
+    page.add("  faults ");
+    page.add_number(host.faults());
+    page.add(", faults of tell ");
+    page.add_number(host.tell_faults());
+    page.add("\n");
+    true
 }

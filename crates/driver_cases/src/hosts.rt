@@ -1,85 +1,74 @@
-// Calls of any host.
+// Calls of any host. Each tells whether its line could be read.
 ghost use Rattle.std.specs.Prelude.{◌≡◌, ◌⊎◌, ◌++◌, Some, OnOk, IsErrOf};
 ghost use Rattle.cc_host.specs.Count.{Rose};
 ghost use Rattle.cc_host.specs.Host.{IfShown, file_of};
 
-use crate::text::{bytes_of, push_shown, split_word};
-use crate::unread::Unread;
+use crate::page::Page;
+use crate::text::{bytes_of, split_word};
 use cc_host::{Host, HostFault};
-use std::alloc::{AllocError, Global};
-use std::fmt::Write;
+use std::alloc::Global;
 
 /// More bytes than these are shown by their number alone.
 const MOST_SHOWN: usize = 64;
 
-fn push_fault(out: &mut String, answer: Result<(), HostFault>) -> Result<(), AllocError> {
+/// What a list of bytes begins with, so that what is read is seen to be appended.
+pub const BEGIN: &[u8] = b"//";
+
+fn add_fault(page: &mut Page, answer: Result<(), HostFault>) {
     match answer {
-        Ok(()) => out.push_str("  done"),
-        Err(HostFault::Failed) => out.push_str("  failed"),
-        Err(HostFault::Memory) => out.push_str("  memory"),
+        Ok(()) => page.add("  done"),
+        Err(HostFault::Failed) => page.add("  failed"),
+        Err(HostFault::Memory) => page.add("  memory"),
     }
 }
 
 /// The line of an answer.
-pub fn push_answer(out: &mut String, answer: Result<(), HostFault>) -> Result<(), AllocError> {
-    push_fault(out, answer)?;
-    out.push_str("\n")
+pub fn add_answer(page: &mut Page, answer: Result<(), HostFault>) {
+    add_fault(page, answer);
+    page.add("\n");
 }
 
 /// The line of an answer with the bytes of a list.
-pub fn push_answer_with(
-    out: &mut String,
-    answer: Result<(), HostFault>,
-    bytes: &[u8],
-) -> Result<(), AllocError> {
-    push_fault(out, answer)?;
-    let count = bytes.len();
-    if count > MOST_SHOWN {
-        return writeln!(out, ", {count} bytes");
+pub fn add_answer_with(page: &mut Page, answer: Result<(), HostFault>, bytes: &[u8]) {
+    add_fault(page, answer);
+    if bytes.len() > MOST_SHOWN {
+        page.add(", bytes ");
+        page.add_number(bytes.len() as u64);
+        page.add("\n");
+    } else {
+        page.end_with(bytes);
     }
-    out.push_str(": ")?;
-    push_shown(out, bytes)?;
-    out.push_str("\n")
 }
 
-/// Reads a file into a list that holds `//`.
-pub fn read<H: Host>(
-    alloc: Global,
-    host: &mut H,
-    name: &str,
-    out: &mut String,
-) -> Result<(), Unread> {
-    let mut bytes = Vec::from_slice(alloc, b"//")?;
+/// `NAME`: reads a file.
+pub fn read<H: Host>(alloc: Global, host: &mut H, name: &str, page: &mut Page) -> bool {
+    let Ok(mut bytes) = Vec::from_slice(alloc, BEGIN) else {
+        return false;
+    };
     let answer = host.read(name, &mut bytes);
-    push_answer_with(out, answer, bytes.as_slice())?;
-    Ok(())
+    add_answer_with(page, answer, bytes.as_slice());
+    true
 }
 
-/// `NAME TEXT`.
-pub fn write<H: Host>(
-    alloc: Global,
-    host: &mut H,
-    text: &str,
-    out: &mut String,
-) -> Result<(), Unread> {
+/// `NAME TEXT`: writes a file.
+pub fn write<H: Host>(alloc: Global, host: &mut H, text: &str, page: &mut Page) -> bool {
     let (name, text) = split_word(text);
-    let bytes = bytes_of(alloc, text)?;
+    let Some(bytes) = bytes_of(alloc, text) else {
+        return false;
+    };
     let answer = host.write(name, bytes.as_slice());
-    push_answer(out, answer)?;
-    Ok(())
+    add_answer(page, answer);
+    true
 }
 
-/// `TEXT`.
-pub fn tell<H: Host>(
-    alloc: Global,
-    host: &mut H,
-    text: &str,
-    out: &mut String,
-) -> Result<(), Unread> {
-    let bytes = bytes_of(alloc, text)?;
+/// `TEXT`: tells it.
+pub fn tell<H: Host>(alloc: Global, host: &mut H, text: &str, page: &mut Page) -> bool {
+    let Some(bytes) = bytes_of(alloc, text) else {
+        return false;
+    };
     let answer = host.tell(bytes.as_slice());
-    push_answer(out, answer)?;
-    Ok(())
+    add_answer(page, answer);
+    true
 }
 
 /// Copies a file, and tells its bytes.
@@ -99,16 +88,13 @@ fn copy_and_tell<H: Host>(
     host.tell(bytes.as_slice())
 }
 
-/// `FROM TO`: copies a file behind `//`, and tells the bytes of the copy.
-pub fn copy<H: Host>(
-    alloc: Global,
-    host: &mut H,
-    text: &str,
-    out: &mut String,
-) -> Result<(), Unread> {
+/// `FROM TO`: copies a file, and tells the bytes of the copy.
+pub fn copy<H: Host>(alloc: Global, host: &mut H, text: &str, page: &mut Page) -> bool {
     let (from, to) = split_word(text);
-    let mut bytes = Vec::from_slice(alloc, b"//")?;
+    let Ok(mut bytes) = Vec::from_slice(alloc, BEGIN) else {
+        return false;
+    };
     let answer = copy_and_tell(host, from, to, &mut bytes);
-    push_answer_with(out, answer, bytes.as_slice())?;
-    Ok(())
+    add_answer_with(page, answer, bytes.as_slice());
+    true
 }

@@ -1,72 +1,103 @@
-// Steps on a host in memory.
+// Steps on a host in memory. Each tells whether its line could be read.
 
 use crate::compiling::compile_words;
 use crate::hosts::{copy, read, tell, write};
-use crate::text::{bytes_of, number, push_named, split_word};
-use crate::unread::Unread;
+use crate::page::Page;
+use crate::text::{bytes_of, numbers_of, split_word};
 use cc_host::MemoryHost;
-use std::alloc::{AllocError, Global};
-use std::fmt::Write;
+use std::alloc::Global;
 
-pub fn answer(
-    alloc: Global,
-    host: &mut MemoryHost,
-    line: &str,
-    out: &mut String,
-) -> Result<(), Unread> {
+pub fn answer(alloc: Global, host: &mut MemoryHost, line: &str, page: &mut Page) -> bool {
     let (word, rest) = split_word(line);
     match word {
         "new" => begin(alloc, host),
         "set" => set(alloc, host, rest),
-        "fail" => fail(host, rest),
-        "read" => read(alloc, host, rest, out),
-        "write" => write(alloc, host, rest, out),
-        "tell" => tell(alloc, host, rest, out),
-        "copy" => copy(alloc, host, rest, out),
-        "compile" => compile_words(alloc, host, rest, out),
-        "file" => Ok(push_file(host, rest, out)?),
-        "told" => Ok(push_named(out, "told", host.told.as_slice())?),
-        "counts" => Ok(push_counts(host, out)?),
-        _ => Err(Unread::Line),
+        "fail" => fail(alloc, host, rest),
+        "compile" => compile_words(alloc, host, rest, page),
+        "shows" => shows(host, rest, page),
+        _ => call(alloc, host, line, page),
+    }
+}
+
+fn call(alloc: Global, host: &mut MemoryHost, line: &str, page: &mut Page) -> bool {
+    let (word, rest) = split_word(line);
+    match word {
+        "read" => read(alloc, host, rest, page),
+        "write" => write(alloc, host, rest, page),
+        "tell" => tell(alloc, host, rest, page),
+        "copy" => copy(alloc, host, rest, page),
+        _ => false,
     }
 }
 
 /// Puts a host with no files in the place of the one that was used.
-fn begin(alloc: Global, host: &mut MemoryHost) -> Result<(), Unread> {
+fn begin(alloc: Global, host: &mut MemoryHost) -> bool {
     *host = MemoryHost::new(alloc);
-    Ok(())
+    true
 }
 
-/// `NAME TEXT`.
-fn set(alloc: Global, host: &mut MemoryHost, text: &str) -> Result<(), Unread> {
+/// `NAME TEXT`: makes a file hold the text, which is no call of the host.
+fn set(alloc: Global, host: &mut MemoryHost, text: &str) -> bool {
     let (name, text) = split_word(text);
-    let bytes = bytes_of(alloc, text)?;
-    host.set_file(name, bytes.as_slice())?;
-    Ok(())
+    let Some(bytes) = bytes_of(alloc, text) else {
+        return false;
+    };
+    host.set_file(name, bytes.as_slice()).is_ok()
 }
 
 /// The numbers of calls that fail.
-fn fail(host: &mut MemoryHost, text: &str) -> Result<(), Unread> {
-    for call in text.split(' ') {
-        let call = number(call)?;
-        host.fail.push(u64::from(call))?;
+fn fail(alloc: Global, host: &mut MemoryHost, text: &str) -> bool {
+    let Some(calls) = numbers_of(alloc, text) else {
+        return false;
+    };
+    for call in calls.as_slice() {
+        if host.fail.push(u64::from(*call)).is_err() {
+            return false;
+        }
     }
-    Ok(())
+    true
 }
 
-fn push_file(host: &MemoryHost, name: &str, out: &mut String) -> Result<(), AllocError> {
+/// What the host holds: what was `told`, its `counts`, or the file of a name.
+fn shows(host: &MemoryHost, name: &str, page: &mut Page) -> bool {
+    match name {
+        "told" => add_told(host, page),
+        "counts" => add_counts(host, page),
+        _ => add_file(host, name, page),
+    }
+    true
+}
+
+pub fn add_told(host: &MemoryHost, page: &mut Page) {
+    page.add("  told");
+    page.end_with(host.told.as_slice());
+}
+
+pub fn add_file(host: &MemoryHost, name: &str, page: &mut Page) {
     match host.file(name) {
-        Some(bytes) => push_named(out, name, bytes),
-        None => writeln!(out, "  no {name}"),
+        Some(bytes) => add_bytes(name, bytes, page),
+        None => add_missing(name, page),
     }
 }
 
-fn push_counts(host: &MemoryHost, out: &mut String) -> Result<(), AllocError> {
-    let calls = host.calls;
-    let count = host.count;
-    let tell_count = host.tell_count;
-    writeln!(
-        out,
-        "  calls {calls}, faults {count}, faults of tell {tell_count}"
-    )
+fn add_bytes(name: &str, bytes: &[u8], page: &mut Page) {
+    page.add("  ");
+    page.add(name);
+    page.end_with(bytes);
+}
+
+fn add_missing(name: &str, page: &mut Page) {
+    page.add("  no ");
+    page.add(name);
+    page.add("\n");
+}
+
+fn add_counts(host: &MemoryHost, page: &mut Page) {
+    page.add("  calls ");
+    page.add_number(host.calls);
+    page.add(", faults ");
+    page.add_number(host.count);
+    page.add(", faults of tell ");
+    page.add_number(host.tell_count);
+    page.add("\n");
 }

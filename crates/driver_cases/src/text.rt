@@ -1,9 +1,9 @@
-// The texts of cases, as they are read and as they are shown.
+// The texts of cases.
 
-use crate::unread::Unread;
-use std::alloc::{AllocError, Global};
-use std::fmt::Write;
-use std::str;
+mod escapes;
+
+use crate::text::escapes::Escapes;
+use std::alloc::Global;
 
 /// What stands before the first space, and what stands behind it.
 pub fn split_word(text: &str) -> (&str, &str) {
@@ -11,105 +11,58 @@ pub fn split_word(text: &str) -> (&str, &str) {
 }
 
 /// A whole number in decimal digits.
-pub fn number(text: &str) -> Result<u32, Unread> {
-    text.parse::<u32>().map_err(|_| Unread::Line)
+pub fn number(text: &str) -> Option<u32> {
+    text.parse::<u32>().ok()
 }
 
-/// The bytes that a text stands for. Its pieces between backslashes begin with an escape each, but for
-/// the first one, and for those behind an empty piece, which is an escaped backslash.
-pub fn bytes_of(alloc: Global, text: &str) -> Result<Vec<u8>, Unread> {
-    let mut bytes = Vec::new(alloc);
-    let mut plain = true;
-    for piece in text.split('\\') {
-        if plain {
-            bytes.extend_from_slice(piece.as_bytes())?;
-            plain = false;
-        } else {
-            plain = piece.is_empty();
-            push_escaped(&mut bytes, piece.as_bytes())?;
+/// The numbers of a line, with one space between them.
+pub fn numbers_of(alloc: Global, line: &str) -> Option<Vec<u32>> {
+    let mut numbers = Vec::new(alloc);
+    for word in line.split(' ') {
+        let Some(number) = number(word) else {
+            return None;
+        };
+        if numbers.push(number).is_err() {
+            return None;
         }
     }
-    if plain { Err(Unread::Line) } else { Ok(bytes) }
+    Some(numbers)
 }
 
-/// Pushes what a piece behind a backslash stands for.
-fn push_escaped(bytes: &mut Vec<u8>, piece: &[u8]) -> Result<(), Unread> {
-    match piece {
-        [] => push_behind(bytes, b'\\', &[]),
-        [b'n', rest @ ..] => push_behind(bytes, b'\n', rest),
-        [b'r', rest @ ..] => push_behind(bytes, b'\r', rest),
-        [b't', rest @ ..] => push_behind(bytes, b'\t', rest),
-        [b's', rest @ ..] => push_behind(bytes, b' ', rest),
-        [b'x', high, low, rest @ ..] => push_hex(bytes, *high, *low, rest),
-        _ => Err(Unread::Line),
+/// The bytes that a text stands for.
+pub fn bytes_of(alloc: Global, text: &str) -> Option<Vec<u8>> {
+    let mut escapes = Escapes::new(alloc);
+    for piece in text.split('\\') {
+        escapes.add(piece.as_bytes());
     }
-}
-
-fn push_behind(bytes: &mut Vec<u8>, byte: u8, rest: &[u8]) -> Result<(), Unread> {
-    bytes.push(byte)?;
-    bytes.extend_from_slice(rest)?;
-    Ok(())
-}
-
-fn push_hex(bytes: &mut Vec<u8>, high: u8, low: u8, rest: &[u8]) -> Result<(), Unread> {
-    let digits = [high, low];
-    let Ok(digits) = str::from_utf8(&digits) else {
-        return Err(Unread::Line);
-    };
-    match u8::from_str_radix(digits, 16) {
-        Ok(byte) => push_behind(bytes, byte, rest),
-        Err(_) => Err(Unread::Line),
-    }
+    escapes.bytes()
 }
 
 /// The text of a case as a word of a command line.
-pub fn word_of(alloc: Global, text: &str) -> Result<String, Unread> {
-    let bytes = bytes_of(alloc, text)?;
-    String::from_utf8(bytes).map_err(|_| Unread::Line)
+fn word_of(alloc: Global, text: &str) -> Option<String> {
+    let Some(bytes) = bytes_of(alloc, text) else {
+        return None;
+    };
+    String::from_utf8(bytes).ok()
 }
 
 /// The words of a line, with one space between them; none where it is empty.
-pub fn words_of(alloc: Global, line: &str) -> Result<Vec<String>, Unread> {
+pub fn words_of(alloc: Global, line: &str) -> Option<Vec<String>> {
     let mut words = Vec::new(alloc);
     if line.is_empty() {
-        return Ok(words);
+        return Some(words);
     }
-    for word in line.split(' ') {
-        words.push(word_of(alloc, word)?)?;
-    }
-    Ok(words)
-}
-
-/// Shows bytes with escapes, so that one line has them all and its end is seen.
-pub fn push_shown(out: &mut String, bytes: &[u8]) -> Result<(), AllocError> {
-    let ends = bytes.len().saturating_sub(1);
-    for (place, byte) in bytes.iter().enumerate() {
-        if *byte == b' ' && (place == 0 || place == ends) {
-            out.push_str("\\s")?;
-        } else {
-            push_byte(out, *byte)?;
+    for text in line.split(' ') {
+        if !push_word(alloc, &mut words, text) {
+            return None;
         }
     }
-    Ok(())
+    Some(words)
 }
 
-fn push_byte(out: &mut String, byte: u8) -> Result<(), AllocError> {
-    match byte {
-        b'\n' => out.push_str("\\n"),
-        b'\r' => out.push_str("\\r"),
-        b'\t' => out.push_str("\\t"),
-        b'\\' => out.push_str("\\\\"),
-        32..=126 => out.push(char::from(byte)),
-        _ => write!(out, "\\x{byte:02x}"),
+pub fn push_word(alloc: Global, words: &mut Vec<String>, text: &str) -> bool {
+    match word_of(alloc, text) {
+        Some(word) => words.push(word).is_ok(),
+        None => false,
     }
-}
-
-/// A line with a name and bytes.
-pub fn push_named(out: &mut String, name: &str, bytes: &[u8]) -> Result<(), AllocError> {
-    write!(out, "  {name}:")?;
-    if !bytes.is_empty() {
-        out.push_str(" ")?;
-    }
-    push_shown(out, bytes)?;
-    out.push_str("\n")
 }

@@ -1,69 +1,102 @@
-// The words of command lines.
+// The words of command lines. Each case tells whether its line could be read.
 
 mod job;
 
-use crate::text::{number, split_word, word_of, words_of};
-use crate::unread::Unread;
-use crate::words::job::{push_job, push_replay, push_sizes};
+use crate::page::Page;
+use crate::text::{number, push_word, split_word, words_of};
+use crate::words::job::{add_job, add_replay};
 use cc_flags::{Usage, read_replay, read_words};
-use std::alloc::{AllocError, Global};
-use std::fmt::Write;
-
-fn push_usage(out: &mut String, usage: Usage) -> Result<(), AllocError> {
-    match usage {
-        Usage::Word { at, kind } => writeln!(out, "  {at} {kind:?}"),
-        Usage::Limit { at, kind } => writeln!(out, "  {at} limit {kind:?}"),
-        Usage::Memory => writeln!(out, "  memory"),
-    }
-}
+use std::alloc::Global;
+use std::fmt::Debug;
 
 /// The job of a compilation's words, or their first fault.
-pub fn words(alloc: Global, text: &str, out: &mut String) -> Result<(), Unread> {
-    let words = words_of(alloc, text)?;
-    let shown = match read_words(alloc, words.as_slice()) {
-        Ok(job) => push_job(out, &job),
-        Err(usage) => push_usage(out, usage),
+pub fn words(alloc: Global, text: &str, page: &mut Page) -> bool {
+    let Some(words) = words_of(alloc, text) else {
+        return false;
     };
-    Ok(shown?)
+    add_reading(alloc, words.as_slice(), page);
+    true
+}
+
+/// The same with a word so many times.
+pub fn words_and(alloc: Global, text: &str, page: &mut Page) -> bool {
+    let Some(words) = with_more(alloc, text) else {
+        return false;
+    };
+    add_reading(alloc, words.as_slice(), page);
+    true
+}
+
+fn add_reading(alloc: Global, words: &[String], page: &mut Page) {
+    match read_words(alloc, words) {
+        Ok(job) => add_job(&job, page),
+        Err(usage) => add_usage(usage, page),
+    }
 }
 
 /// The job of a replay's words, or their first fault.
-pub fn replay(alloc: Global, text: &str, out: &mut String) -> Result<(), Unread> {
-    let words = words_of(alloc, text)?;
-    let shown = match read_replay(alloc, words.as_slice()) {
-        Ok(job) => push_replay(out, &job),
-        Err(usage) => push_usage(out, usage),
+pub fn replay(alloc: Global, text: &str, page: &mut Page) -> bool {
+    let Some(words) = words_of(alloc, text) else {
+        return false;
     };
-    Ok(shown?)
+    add_replay_reading(alloc, words.as_slice(), page);
+    true
+}
+
+/// The same with a word so many times.
+pub fn replay_and(alloc: Global, text: &str, page: &mut Page) -> bool {
+    let Some(words) = with_more(alloc, text) else {
+        return false;
+    };
+    add_replay_reading(alloc, words.as_slice(), page);
+    true
+}
+
+fn add_replay_reading(alloc: Global, words: &[String], page: &mut Page) {
+    match read_replay(alloc, words) {
+        Ok(job) => add_replay(&job, page),
+        Err(usage) => add_usage(usage, page),
+    }
 }
 
 /// `COUNT WORD WORDS`: these words, and one more so many times.
-fn with_more(alloc: Global, text: &str) -> Result<Vec<String>, Unread> {
+fn with_more(alloc: Global, text: &str) -> Option<Vec<String>> {
     let (count, rest) = split_word(text);
     let (more, line) = split_word(rest);
-    let mut words = words_of(alloc, line)?;
-    for _ in 0..number(count)? {
-        words.push(word_of(alloc, more)?)?;
+    let Some(count) = number(count) else {
+        return None;
+    };
+    let Some(mut words) = words_of(alloc, line) else {
+        return None;
+    };
+    if add_words(alloc, &mut words, count, more) {
+        Some(words)
+    } else {
+        None
     }
-    Ok(words)
 }
 
-/// As `words`, but with a word so many times, and with the sizes of a job alone.
-pub fn words_and(alloc: Global, text: &str, out: &mut String) -> Result<(), Unread> {
-    let words = with_more(alloc, text)?;
-    let shown = match read_words(alloc, words.as_slice()) {
-        Ok(job) => push_sizes(out, &job.externs, &job.sources, &job.chunks),
-        Err(usage) => push_usage(out, usage),
-    };
-    Ok(shown?)
+fn add_words(alloc: Global, words: &mut Vec<String>, count: u32, more: &str) -> bool {
+    for _ in 0..count {
+        if !push_word(alloc, words, more) {
+            return false;
+        }
+    }
+    true
 }
 
-/// The same as `words_and`, of a replay.
-pub fn replay_and(alloc: Global, text: &str, out: &mut String) -> Result<(), Unread> {
-    let words = with_more(alloc, text)?;
-    let shown = match read_replay(alloc, words.as_slice()) {
-        Ok(job) => push_sizes(out, &job.externs, &job.sources, &job.chunks),
-        Err(usage) => push_usage(out, usage),
-    };
-    Ok(shown?)
+fn add_usage(usage: Usage, page: &mut Page) {
+    match usage {
+        Usage::Word { at, kind } => add_fault(at, " ", &kind, page),
+        Usage::Limit { at, kind } => add_fault(at, " limit ", &kind, page),
+        Usage::Memory => page.add("  memory\n"),
+    }
+}
+
+fn add_fault<T: Debug>(at: usize, behind: &str, kind: &T, page: &mut Page) {
+    page.add("  ");
+    page.add_number(at as u64);
+    page.add(behind);
+    page.add_value(kind);
+    page.add("\n");
 }

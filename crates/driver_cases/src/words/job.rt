@@ -1,134 +1,139 @@
 // What words ask for, line by line.
 
+use crate::page::Page;
 use cc_chunks::ChunkSpec;
 use cc_flags::{Define, DefineValue, Job, Output, ReplayJob, Synthesis, Wrapper};
-use std::alloc::AllocError;
-use std::fmt::Write;
+use std::fmt::Debug;
 
-fn push_files(
-    out: &mut String,
-    externs: &Vec<String>,
-    sources: &Vec<String>,
-) -> Result<(), AllocError> {
-    writeln!(out, "  externs {externs:?} sources {sources:?}")
-}
-
-fn push_chunks(out: &mut String, chunks: &Vec<ChunkSpec>) -> Result<(), AllocError> {
-    for chunk in chunks.as_slice() {
-        let name = &chunk.name;
-        let count = chunk.count;
-        let deps = &chunk.deps;
-        writeln!(out, "  chunk {name:?} takes {count} needs {deps:?}")?;
-    }
-    Ok(())
-}
-
-fn push_wrapper(out: &mut String, wrapper: &Option<Wrapper>) -> Result<(), AllocError> {
-    match wrapper {
-        Some(wrapper) => push_sides(out, wrapper),
-        None => writeln!(out, "  no wrapper"),
-    }
-}
-
-fn push_sides(out: &mut String, wrapper: &Wrapper) -> Result<(), AllocError> {
-    let before = &wrapper.before;
-    let behind = &wrapper.behind;
-    writeln!(out, "  wrapper {before:?} {behind:?}")
-}
-
-fn push_output(out: &mut String, output: &Output) -> Result<(), AllocError> {
-    match output {
-        Output::File { name, wrapper } => push_file(out, name, wrapper),
-        Output::Chunks { prefix, wrappers } => push_prefix(out, prefix, wrappers),
-        Output::Nothing => writeln!(out, "  no output"),
-    }
-}
-
-fn push_file(out: &mut String, name: &String, wrapper: &Option<Wrapper>) -> Result<(), AllocError> {
-    writeln!(out, "  file {name:?}")?;
-    push_wrapper(out, wrapper)
-}
-
-fn push_prefix(
-    out: &mut String,
-    prefix: &String,
-    wrappers: &Vec<Option<Wrapper>>,
-) -> Result<(), AllocError> {
-    writeln!(out, "  prefix {prefix:?}")?;
-    for wrapper in wrappers.as_slice() {
-        push_wrapper(out, wrapper)?;
-    }
-    Ok(())
-}
-
-fn push_define(out: &mut String, define: &Define) -> Result<(), AllocError> {
-    let name = &define.name;
-    match &define.value {
-        DefineValue::Truth(truth) => writeln!(out, "  define {name:?} {truth}"),
-        DefineValue::Whole(number) => writeln!(out, "  define {name:?} {number}"),
-        DefineValue::Text(units) => {
-            let list = &units.list;
-            writeln!(out, "  define {name:?} units {list:?}")
-        }
-    }
-}
-
-fn push_defines(out: &mut String, defines: &Vec<Define>) -> Result<(), AllocError> {
-    for define in defines.as_slice() {
-        push_define(out, define)?;
-    }
-    Ok(())
-}
-
-fn push_synthesis(out: &mut String, synthesis: Option<Synthesis>) -> Result<(), AllocError> {
-    let Some(synthesis) = synthesis else {
-        return Ok(());
-    };
-    let seed = synthesis.seed;
-    let size = synthesis.size;
-    writeln!(out, "  synthesis seed {seed} size {size}")
-}
+/// More files or chunks than these are shown by their number alone.
+const MOST_SHOWN: usize = 64;
 
 /// A job of a compilation. What it has none of has no line.
-pub fn push_job(out: &mut String, job: &Job) -> Result<(), AllocError> {
-    push_files(out, &job.externs, &job.sources)?;
-    push_chunks(out, &job.chunks)?;
-    push_output(out, &job.output)?;
-    push_defines(out, &job.defines)?;
-    push_synthesis(out, job.synthesis)?;
-    let exports = job.generate_exports;
-    let checks = job.checks_only;
-    let workers = job.workers;
-    writeln!(
-        out,
-        "  exports {exports} checks only {checks} workers {workers}"
-    )
+pub fn add_job(job: &Job, page: &mut Page) {
+    add_files(&job.externs, &job.sources, page);
+    add_chunks(&job.chunks, page);
+    add_output(&job.output, page);
+    add_defines(&job.defines, page);
+    add_synthesis(&job.synthesis, page);
+    add("  exports ", &job.generate_exports, page);
+    add(" checks only ", &job.checks_only, page);
+    add(" workers ", &job.workers, page);
+    page.add("\n");
 }
 
 /// A job of a replay.
-pub fn push_replay(out: &mut String, job: &ReplayJob) -> Result<(), AllocError> {
-    push_files(out, &job.externs, &job.sources)?;
-    push_chunks(out, &job.chunks)?;
-    push_defines(out, &job.defines)?;
-    let exports = job.generate_exports;
-    let script = &job.script;
-    let bound = job.bound;
-    let plain = job.plain;
-    writeln!(
-        out,
-        "  exports {exports} script {script:?} bound {bound} plain {plain}"
-    )
+pub fn add_replay(job: &ReplayJob, page: &mut Page) {
+    add_files(&job.externs, &job.sources, page);
+    add_chunks(&job.chunks, page);
+    add_defines(&job.defines, page);
+    add("  exports ", &job.generate_exports, page);
+    add(" script ", &job.script, page);
+    add(" bound ", &job.bound, page);
+    add(" plain ", &job.plain, page);
+    page.add("\n");
 }
 
-/// How many files and chunks a job has.
-pub fn push_sizes(
-    out: &mut String,
-    externs: &Vec<String>,
-    sources: &Vec<String>,
-    chunks: &Vec<ChunkSpec>,
-) -> Result<(), AllocError> {
-    let externs = externs.len();
-    let sources = sources.len();
-    let chunks = chunks.len();
-    writeln!(out, "  externs {externs} sources {sources} chunks {chunks}")
+fn add<T: Debug>(word: &str, value: &T, page: &mut Page) {
+    page.add(word);
+    page.add_value(value);
+}
+
+fn add_list(word: &str, list: &Vec<String>, page: &mut Page) {
+    if list.len() > MOST_SHOWN {
+        add(word, &list.len(), page);
+    } else {
+        add(word, list, page);
+    }
+}
+
+fn add_files(externs: &Vec<String>, sources: &Vec<String>, page: &mut Page) {
+    add_list("  externs ", externs, page);
+    add_list(" sources ", sources, page);
+    page.add("\n");
+}
+
+fn add_chunks(chunks: &Vec<ChunkSpec>, page: &mut Page) {
+    if chunks.len() > MOST_SHOWN {
+        add("  chunks ", &chunks.len(), page);
+        page.add("\n");
+        return;
+    }
+    for chunk in chunks.as_slice() {
+        add_chunk(chunk, page);
+    }
+}
+
+fn add_chunk(chunk: &ChunkSpec, page: &mut Page) {
+    add("  chunk ", &chunk.name, page);
+    add(" takes ", &chunk.count, page);
+    add(" needs ", &chunk.deps, page);
+    page.add("\n");
+}
+
+fn add_output(output: &Output, page: &mut Page) {
+    match output {
+        Output::File { name, wrapper } => add_file(name, wrapper, page),
+        Output::Chunks { prefix, wrappers } => add_prefix(prefix, wrappers, page),
+        Output::Nothing => page.add("  no output\n"),
+    }
+}
+
+fn add_file(name: &String, wrapper: &Option<Wrapper>, page: &mut Page) {
+    add("  file ", name, page);
+    page.add("\n");
+    add_wrapper(wrapper, page);
+}
+
+fn add_prefix(prefix: &String, wrappers: &Vec<Option<Wrapper>>, page: &mut Page) {
+    add("  prefix ", prefix, page);
+    page.add("\n");
+    add_wrappers(wrappers, page);
+}
+
+fn add_wrappers(wrappers: &Vec<Option<Wrapper>>, page: &mut Page) {
+    if wrappers.len() > MOST_SHOWN {
+        add("  wrappers ", &wrappers.len(), page);
+        page.add("\n");
+        return;
+    }
+    for wrapper in wrappers.as_slice() {
+        add_wrapper(wrapper, page);
+    }
+}
+
+fn add_wrapper(wrapper: &Option<Wrapper>, page: &mut Page) {
+    match wrapper {
+        Some(wrapper) => add_sides(wrapper, page),
+        None => page.add("  no wrapper\n"),
+    }
+}
+
+fn add_sides(wrapper: &Wrapper, page: &mut Page) {
+    add("  wrapper ", &wrapper.before, page);
+    add(" ", &wrapper.behind, page);
+    page.add("\n");
+}
+
+fn add_defines(defines: &Vec<Define>, page: &mut Page) {
+    for define in defines.as_slice() {
+        add("  define ", &define.name, page);
+        add_define(&define.value, page);
+        page.add("\n");
+    }
+}
+
+fn add_define(value: &DefineValue, page: &mut Page) {
+    match value {
+        DefineValue::Truth(truth) => add(" ", truth, page),
+        DefineValue::Whole(number) => add(" ", number, page),
+        DefineValue::Text(units) => add(" units ", &units.list, page),
+    }
+}
+
+fn add_synthesis(synthesis: &Option<Synthesis>, page: &mut Page) {
+    if let Some(synthesis) = synthesis {
+        add("  seed ", &synthesis.seed, page);
+        add(" size ", &synthesis.size, page);
+        page.add("\n");
+    }
 }
