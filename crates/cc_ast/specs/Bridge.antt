@@ -1,5 +1,5 @@
 -- The plain tree that a tree of src/ stands for, level by level.
-use Rattle.std.specs.Prelude.{ℕ, List, [], ◌∷◌, Option, Some, None, map}
+use Rattle.std.specs.Prelude.{List, [], ◌∷◌, Option, map}
 use Rattle.std.specs.Option.{option_map}
 use Rattle.cc_ast.specs.declared.tree.Expr as Tree
 use Rattle.cc_ast.specs.declared.tree.Target as TargetTree

@@ -6,3 +6,4 @@ pub mod StmtBridge
 pub mod StmtTerms
 pub mod StmtTrees
 pub mod Codes
+pub mod formers

@@ -1,6 +1,6 @@
 -- The plain statement that a statement of src/ stands for, level by level.
 use Rattle.std.specs.Option.{option_map}
-use Rattle.std.specs.Prelude.{ℕ, List, [], ◌∷◌, Option, Some, None, map}
+use Rattle.std.specs.Prelude.{List, [], ◌∷◌, Option, Some, None, map}
 use Rattle.cc_ast.specs.declared.tree.Stmt as Tree
 use Rattle.cc_ast.specs.declared.tree.Stmt.TheOpen.{Stmt-F, Case-F}
 use Rattle.cc_ast.specs.declared.tree.Stmt.TheFolds.{fold-Stmt, fold-Case}

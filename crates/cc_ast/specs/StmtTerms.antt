@@ -4,8 +4,8 @@ use Rattle.std.proofs.Common.{refl, sym, ap, ◌∙◌}
 use Rattle.cc_ast.specs.declared.tree.Expr.{Expr}
 use Rattle.cc_ast.specs.declared.tree.Stmt.{Stmt}
 use Rattle.cc_ast.specs.declared.tree.Stmt.TheVariants as V
-use Rattle.cc_ast.specs.declared.tree.Stmt.TheFolds.{fold-Stmt, fold-Case, fold-roll-Stmt, fold-roll-Case}
-use Rattle.cc_ast.specs.declared.tree.Case.{Case, roll-Case}
+use Rattle.cc_ast.specs.declared.tree.Stmt.TheFolds.{fold-roll-Stmt}
+use Rattle.cc_ast.specs.declared.tree.Case.{Case}
 use Rattle.cc_ast.specs.declared.tree.Ref.{Ref}
 use Rattle.cc_ast.specs.declared.tree.Declarator.{Declarator}
 use Rattle.cc_ast.specs.declared.tree.ForInit.{ForInit}

@@ -1,12 +1,11 @@
 -- Back from plain statements to those of src/, and with it the code of a list of statements.
-use Rattle.std.specs.Prelude.{◌≡◌, ℕ, List, [], ◌∷◌, map, Option, Some, None}
-use Rattle.std.specs.Option.{option_map}
+use Rattle.std.specs.Prelude.{◌≡◌, List, [], ◌∷◌, map, Option, Some, None}
 use Rattle.std.specs.Coded.{Coded, code_by, coded_list}
-use Rattle.std.proofs.Common.{refl, sym, ap, ◌∙◌}
+use Rattle.std.proofs.Common.{refl, ap, ◌∙◌}
 use Rattle.cc_ast.specs.declared.tree.Expr.{Expr}
 use Rattle.cc_ast.specs.declared.tree.Stmt.{Stmt}
 use Rattle.cc_ast.specs.declared.tree.Stmt.TheVariants as V
-use Rattle.cc_ast.specs.declared.tree.Stmt.TheFolds.{fold-Case, fold-roll-Case}
+use Rattle.cc_ast.specs.declared.tree.Stmt.TheFolds.{fold-roll-Case}
 use Rattle.cc_ast.specs.declared.tree.Case.{Case, roll-Case}
 use Rattle.cc_ast.specs.declared.tree.Declarator.{Declarator}
 use Rattle.cc_ast.specs.declared.tree.ForInit.{ForInit}
@@ -15,8 +14,8 @@ use Rattle.cc_ast.specs.declared.tree.ForTarget.{ForTarget}
 use Rattle.cc_ast.specs.declared.tree.ForTarget.TheVariants as to
 use Rattle.cc_ast.specs.contracts.tree.Stmt as row
 use Rattle.cc_ast.specs.Syntax as S
-use Rattle.cc_ast.specs.Bridge.{term, target, option_term}
-use Rattle.cc_ast.specs.StmtBridge.{CaseTerm, case_layer, stmt_layer, stmts, term_stmt, term_case, term_stmts, term_cases, maybe_stmts, declarator, for_init, for_target}
+use Rattle.cc_ast.specs.Bridge.{term, option_term}
+use Rattle.cc_ast.specs.StmtBridge.{CaseTerm, case_layer, stmt_layer, term_stmt, term_case, term_stmts, term_cases, maybe_stmts, declarator, for_init, for_target}
 use Rattle.cc_ast.specs.StmtTerms as T
 use Rattle.cc_ast.specs.Trees.{tree, target_tree, term-tree, target-tree}
 

@@ -1,17 +1,17 @@
 -- The bridge from the trees of src/ to plain trees: one equation a variant, and the set of them.
-use Rattle.std.specs.Prelude.{◌≡◌, ℕ, ℤ, Bool, List, [], ◌∷◌, map, Option}
+use Rattle.std.specs.Prelude.{◌≡◌, ℕ, ℤ, Bool, List, [], ◌∷◌, Option}
 use Rattle.std.proofs.Common.{refl, sym, ap, ◌∙◌}
 use Rattle.cc_ast.specs.declared.operator.BinOp.{BinOp}
 use Rattle.cc_ast.specs.declared.operator.UnOp.{UnOp}
 use Rattle.cc_ast.specs.declared.tree.Expr.{Expr}
 use Rattle.cc_ast.specs.declared.tree.Expr.TheVariants as V
-use Rattle.cc_ast.specs.declared.tree.Expr.TheFolds.{fold-Expr, fold-Target, fold-roll-Expr, fold-roll-Target}
+use Rattle.cc_ast.specs.declared.tree.Expr.TheFolds.{fold-roll-Expr, fold-roll-Target}
 use Rattle.cc_ast.specs.declared.tree.Target.{Target}
 use Rattle.cc_ast.specs.declared.tree.Target.TheVariants as W
 use Rattle.cc_ast.specs.declared.tree.Ref.{Ref}
 use Rattle.cc_ast.specs.declared.tree.Key.{Key}
 use Rattle.cc_ast.specs.Syntax as S
-use Rattle.cc_ast.specs.Bridge.{exprs, fields, field, expr_layer, target_layer, term, terms, term_fields, target}
+use Rattle.cc_ast.specs.Bridge.{exprs, fields, expr_layer, target_layer, term, terms, term_fields, target}
 
 pub term-Undefined : (s : ℕ) → term (V.Undefined s) ≡ S.lit s S.undefined
 unfolding term target terms term_fields expr_layer

@@ -1,16 +1,14 @@
 -- Back from plain trees to those of src/. It serves one end: a plain tree is known by the tree
 -- that it stands for, which is the code that the models of `Scope` and `Program` owe.
-use Rattle.std.specs.Prelude.{◌≡◌, ℕ, List, [], ◌∷◌, map, Option, Some, None}
-use Rattle.std.specs.Option.{option_map}
-use Rattle.std.specs.Coded.{Coded, code_by, coded_list}
-use Rattle.std.proofs.Common.{refl, sym, ap, ◌∙◌}
+use Rattle.std.specs.Prelude.{◌≡◌, List, [], ◌∷◌}
+use Rattle.std.proofs.Common.{ap, ◌∙◌}
 use Rattle.cc_ast.specs.declared.tree.Expr.{Expr}
 use Rattle.cc_ast.specs.declared.tree.Expr.TheVariants as V
 use Rattle.cc_ast.specs.declared.tree.Target.{Target}
 use Rattle.cc_ast.specs.declared.tree.Target.TheVariants as W
 use Rattle.cc_ast.specs.declared.tree.Key.{Key}
 use Rattle.cc_ast.specs.Syntax as S
-use Rattle.cc_ast.specs.Bridge.{exprs, fields, term, terms, term_fields, target, option_term}
+use Rattle.cc_ast.specs.Bridge.{term, terms, term_fields, target}
 use Rattle.cc_ast.specs.Terms as T
 
 abbrev mutual

@@ -11,6 +11,7 @@ pub mod operator;
 pub mod place;
 pub mod program;
 pub mod reading;
+pub mod shared;
 pub mod tables;
 pub mod tree;
 pub mod units;

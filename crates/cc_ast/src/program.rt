@@ -1,6 +1,7 @@
 // Scopes and programs.
 
 use crate::place::Place;
+use crate::shared::Shared;
 use crate::tables::{ChunkInfo, Class, GlobalInfo, PropInfo, SiteDoc};
 use crate::tree::Stmt;
 use crate::units::Units;
@@ -15,7 +16,7 @@ pub struct Scope {
     pub params: u32,
     pub names: u32,
     pub own: bool,
-    pub body: Items<Stmt>,
+    pub body: Shared<Items<Stmt>>,
     pub parent: Option<u32>,
     pub doc: u32,
 }
@@ -35,10 +36,10 @@ impl Model for Scope {
 /// The tables that a step may exchange beside the scopes.
 #[derive(Drop)]
 pub struct Heads {
-    pub globals: Items<GlobalInfo>,
-    pub props: Items<PropInfo>,
-    pub classes: Items<Class>,
-    pub docs: Items<SiteDoc>,
+    pub globals: Shared<Items<GlobalInfo>>,
+    pub props: Shared<Items<PropInfo>>,
+    pub classes: Shared<Items<Class>>,
+    pub docs: Shared<Items<SiteDoc>>,
 }
 
 impl Model for Heads {
@@ -76,13 +77,13 @@ impl Model for Names {
 #[derive(Drop)]
 pub struct Program {
     pub scopes: Items<Scope>,
-    pub chunks: Items<ChunkInfo>,
-    pub globals: Items<GlobalInfo>,
-    pub props: Items<PropInfo>,
-    pub kept: Items<Units>,
-    pub classes: Items<Class>,
-    pub places: Items<Place>,
-    pub docs: Items<SiteDoc>,
+    pub chunks: Shared<Items<ChunkInfo>>,
+    pub globals: Shared<Items<GlobalInfo>>,
+    pub props: Shared<Items<PropInfo>>,
+    pub kept: Shared<Items<Units>>,
+    pub classes: Shared<Items<Class>>,
+    pub places: Shared<Items<Place>>,
+    pub docs: Shared<Items<SiteDoc>>,
 }
 
 impl Model for Program {

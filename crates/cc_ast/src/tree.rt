@@ -70,29 +70,29 @@ pub enum Target {
 pub struct Declarator {
     pub site: u32,
     pub variable: Ref,
-    pub value: Option<Expr>,
+    pub value: Option<Boxed<Expr>>,
 }
 
 /// What a `for` begins with.
 #[derive(Drop)]
 pub enum ForInit {
     Nothing,
-    Value(Expr),
+    Value(Boxed<Expr>),
     Declared(Items<Declarator>),
 }
 
 /// What a `for-in` writes each name to.
 #[derive(Drop)]
 pub enum ForTarget {
-    Target(Target),
-    Declared(Declarator),
+    Target(Boxed<Target>),
+    Declared(Boxed<Declarator>),
 }
 
 /// A clause of a `switch`: its test, none for `default`, and its statements.
 #[cycle(stmt)]
 #[derive(Drop)]
 pub struct Case {
-    pub test: Option<Expr>,
+    pub test: Option<Boxed<Expr>>,
     pub body: Items<Stmt>,
 }
 
@@ -101,22 +101,22 @@ pub struct Case {
 #[cycle(stmt)]
 #[derive(Drop)]
 pub enum Stmt {
-    Simple(u32, Expr),
+    Simple(u32, Boxed<Expr>),
     Var(u32, Items<Declarator>),
     /// A function declaration: the variable that it sets, and its scope's number.
     Fun(u32, Ref, u32),
-    If(u32, Expr, Items<Stmt>, Items<Stmt>),
-    While(u32, Expr, Items<Stmt>),
-    DoWhile(u32, Items<Stmt>, Expr),
+    If(u32, Boxed<Expr>, Items<Stmt>, Items<Stmt>),
+    While(u32, Boxed<Expr>, Items<Stmt>),
+    DoWhile(u32, Items<Stmt>, Boxed<Expr>),
     /// The beginning, the test, the step and the body.
-    For(u32, ForInit, Option<Expr>, Option<Expr>, Items<Stmt>),
-    ForIn(u32, ForTarget, Expr, Items<Stmt>),
-    Return(u32, Option<Expr>),
-    Throw(u32, Expr),
+    For(u32, ForInit, Option<Boxed<Expr>>, Option<Boxed<Expr>>, Items<Stmt>),
+    ForIn(u32, ForTarget, Boxed<Expr>, Items<Stmt>),
+    Return(u32, Option<Boxed<Expr>>),
+    Throw(u32, Boxed<Expr>),
     Break(u32, Option<Units>),
     Continue(u32, Option<Units>),
     Label(u32, Units, Items<Stmt>),
-    Switch(u32, Expr, Items<Case>),
+    Switch(u32, Boxed<Expr>, Items<Case>),
     /// The body, the body of `catch`, whose variable stands alone in a frame of its own, and that
     /// of `finally`.
     Try(u32, Items<Stmt>, Option<Items<Stmt>>, Option<Items<Stmt>>),

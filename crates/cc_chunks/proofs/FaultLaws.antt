@@ -11,20 +11,17 @@ use Rattle.cc_chunks.specs.declared.spec.ChunkFault.{ChunkFault}
 use Rattle.cc_chunks.specs.declared.spec.ChunkFault.TheVariants.{DoubleName, UnknownDep, LaterDep, FileCount, Memory}
 use Rattle.cc_chunks.specs.Graph.{deps_at, deps_of, DependsDown}
 use Rattle.cc_chunks.specs.Faults.{names_of, dep_names, counts_of, IsDouble, HasUnknown, HasLater, TakesTooMany, LeavesFiles, HasFault, double_name, unknown_dep, later_dep, too_many, left_over, rank, IsFirstFault, IsChunkAt, IsFaultAt, IsCountFaultAt}
+use Rattle.cc_chunks.specs.Built.{NoneBelow, Built}
 use Rattle.cc_chunks.proofs.GraphLaws.{deps_at-read, deps_at-past}
 use Rattle.cc_chunks.proofs.ReachLaws.{get-low, get-last}
 use Rattle.cc_chunks.proofs.NameLaws.{map-more}
 
 module _ (specs : List ChunkSpec) (files : ℕ) where
-  -- each fault that stands has at least this rank
-  pub record NoneBelow (r : ℕ) : Type 0 where
-    pub each : (f : ChunkFault) → HasFault specs files f → r ≤ rank f
-
-  pub none-start : NoneBelow 0
+  pub none-start : NoneBelow specs files 0
   none-start = record { each = λ f s. omega arith }
 
   module _ (i : ℕ) where
-    pub past-double : NoneBelow (4 * i) → ¬ IsDouble specs i → NoneBelow (4 * i + 1)
+    pub past-double : NoneBelow specs files (4 * i) → ¬ IsDouble specs i → NoneBelow specs files (4 * i + 1)
     unfolding rank
     past-double none not = record { each = by }
       where
@@ -36,7 +33,7 @@ module _ (specs : List ChunkSpec) (files : ℕ) where
         by (FileCount j) (left_over s) = omega (arith, none.each (FileCount j) (left_over s))
         by Memory s = elim s [ ]
 
-    pub past-unknown : NoneBelow (4 * i + 1) → ¬ HasUnknown specs i → NoneBelow (4 * i + 2)
+    pub past-unknown : NoneBelow specs files (4 * i + 1) → ¬ HasUnknown specs i → NoneBelow specs files (4 * i + 2)
     unfolding rank
     past-unknown none not = record { each = by }
       where
@@ -48,7 +45,7 @@ module _ (specs : List ChunkSpec) (files : ℕ) where
         by (FileCount j) (left_over s) = omega (arith, none.each (FileCount j) (left_over s))
         by Memory s = elim s [ ]
 
-    pub past-later : NoneBelow (4 * i + 2) → ¬ HasLater specs i → NoneBelow (4 * i + 3)
+    pub past-later : NoneBelow specs files (4 * i + 2) → ¬ HasLater specs i → NoneBelow specs files (4 * i + 3)
     unfolding rank
     past-later none not = record { each = by }
       where
@@ -60,7 +57,7 @@ module _ (specs : List ChunkSpec) (files : ℕ) where
         by (FileCount j) (left_over s) = omega (arith, none.each (FileCount j) (left_over s))
         by Memory s = elim s [ ]
 
-    pub past-count : NoneBelow (4 * i + 3) → ¬ TakesTooMany specs files i → ¬ LeavesFiles specs files i → NoneBelow (4 * (i + 1))
+    pub past-count : NoneBelow specs files (4 * i + 3) → ¬ TakesTooMany specs files i → ¬ LeavesFiles specs files i → NoneBelow specs files (4 * (i + 1))
     unfolding rank
     past-count none not neither = record { each = by }
       where
@@ -73,7 +70,7 @@ module _ (specs : List ChunkSpec) (files : ℕ) where
         by Memory s = elim s [ ]
 
     -- the first fault of this spec is the first of all
-    pub first-at : NoneBelow (4 * i) → (f : ChunkFault) → IsFaultAt specs i f → f ≢ Memory → IsFirstFault specs files f
+    pub first-at : NoneBelow specs files (4 * i) → (f : ChunkFault) → IsFaultAt specs i f → f ≢ Memory → IsFirstFault specs files f
     unfolding rank
     first-at none (DoubleName j) h apart = record {
       stands = double_name (subst (IsDouble specs) (sym h.0) h.1);
@@ -90,7 +87,7 @@ module _ (specs : List ChunkSpec) (files : ℕ) where
     first-at none (FileCount j) h apart = absurd h
     first-at none Memory h apart = absurd (apart refl)
 
-    pub first-count : NoneBelow (4 * i + 3) → (f : ChunkFault) → IsCountFaultAt specs files i f → IsFirstFault specs files f
+    pub first-count : NoneBelow specs files (4 * i + 3) → (f : ChunkFault) → IsCountFaultAt specs files i f → IsFirstFault specs files f
     unfolding rank
     first-count none (FileCount j) h = record {
       stands = elim h.1 [
@@ -114,7 +111,7 @@ module _ (specs : List ChunkSpec) (files : ℕ) where
   stands-within (FileCount j) (left_over s) = omega (arith, s.last)
   stands-within Memory s = elim s [ ]
 
-  pub none-at_all : NoneBelow (4 * length specs) → (f : ChunkFault) → HasFault specs files f → ⊥
+  pub none-at_all : NoneBelow specs files (4 * length specs) → (f : ChunkFault) → HasFault specs files f → ⊥
   none-at_all none f s = omega (arith, none.each f s, stands-within f s)
 
 -- ---- one chunk more
@@ -138,17 +135,6 @@ down-more chunks c down new a b one =
 pub down-none : DependsDown []
 unfolding deps_at deps_of
 down-none a b one = absurd (omega (arith, one.1))
-
--- the chunks of the first i specs
-pub record Built (specs : List ChunkSpec) (files i : ℕ) (chunks : List ChunkInfo) (counts : List ℕ) (taken : ℕ) : Type 0 where
-  pub size : length chunks ≡ i
-  pub names : map (λ c. c.name) chunks ≡ take i (names_of specs)
-  pub deps : map (λ c. map (slice_get (names_of specs)) c.deps) chunks ≡ take i (map (λ s. map Some (dep_names s)) specs)
-  pub counted : counts ≡ take i (counts_of specs)
-  pub summed : taken ≡ sum (take i (counts_of specs))
-  pub enough : taken ≤ files
-  pub down : DependsDown chunks
-  pub none : NoneBelow specs files (4 * i)
 
 pub built-none : (specs : List ChunkSpec) (files : ℕ) → Built specs files 0 [] [] 0
 built-none specs files = record {

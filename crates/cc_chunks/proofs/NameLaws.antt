@@ -8,6 +8,7 @@ use Rattle.std.specs.String.{string_bytes}
 use Rattle.std.proofs.lemmas.List.{length-map, length-take-le}
 use Rattle.cc_chunks.specs.declared.spec.ChunkSpec.{ChunkSpec}
 use Rattle.cc_chunks.specs.Faults.{first_of, names_of}
+use Rattle.cc_chunks.specs.Numbers.{number_after}
 
 -- ---- one element more
 
@@ -86,3 +87,9 @@ module _ (specs : List ChunkSpec) (i : ℕ) (spec : ChunkSpec) (name : List ℕ)
         ∙ (λ t. cond (bytes_eq name q) (Some (sym length-names t)) (first q t))
         ∙ sym (first_of-new (take i (names_of specs)) name q (sym (first name) ∙ new))
         ∙ ap (λ ns. first_of ns q) (sym names-more)
+
+    pub numbers-entered : (g : List ℕ → Option ℕ) → ((q : List ℕ) → g q ≡ number_after f name i q) → (q : List ℕ) → g q ≡ first_of (take (i + 1) (names_of specs)) q
+    numbers-entered g after = elim (cases_Bool (is_some (f name))) [
+      | inl known ↦ λ q. after q ∙ ap (λ b. cond b (f q) (cond (bytes_eq name q) (Some i) (f q))) known ∙ numbers-known known q
+      | inr new ↦ numbers-new (none-of (f name) new) g (λ q. after q ∙ ap (λ b. cond b (f q) (cond (bytes_eq name q) (Some i) (f q))) new)
+    ]

@@ -3,3 +3,4 @@ pub mod Faults
 pub mod Sets
 pub mod Tables
 pub mod Numbers
+pub mod Built

@@ -1,6 +1,6 @@
 // One spec at a time.
 
-ghost use Rattle.std.specs.Prelude.{◌≡◌, ℕ, ◌+◌, ◌^◌, ◌<◌, ◌≤◌, IfOk, OnOk, IfErr, List, length, slice_get, Some, None, map, take, sum, IsTrue, ◌↔◌};
+ghost use Rattle.std.specs.Prelude.{◌≡◌, ℕ, ◌+◌, ◌^◌, ◌<◌, ◌≤◌, IfOk, OnOk, IfErr, List, length, slice_get, Some, None, map, take, sum, IsTrue, ◌↔◌, string_bytes};
 ghost use Rattle.std.specs.List.{Contains, Any};
 ghost use Rattle.cc_chunks.specs.Faults.{first_of, names_of, dep_names, counts_of, IsChunkAt, IsFaultAt, IsCountFaultAt, TakesTooMany, LeavesFiles};
 ghost use Rattle.cc_chunks.specs.Numbers.{number_in, IsUnknownFault};
@@ -10,7 +10,7 @@ use crate::names::{Numbers, number_of};
 use crate::spec::{ChunkFault, ChunkSpec};
 use cc_ast::tables::{ChunkInfo, ChunkName};
 use sqlite_items::Items;
-use std::alloc::Global;
+use std::alloc::{AllocError, Global};
 
 /// The chunk of a spec, or the first fault of it beside that of its count.
 pub(crate) fn chunk_at(
@@ -36,6 +36,16 @@ pub(crate) fn chunk_at(
     if any_from(deps.as_slice(), number) {
         return Err(ChunkFault::LaterDep(number));
     }
+    let Ok(chunk) = chunk_of(spec, deps) else {
+        return Err(ChunkFault::Memory);
+    };
+    Ok(chunk)
+}
+
+fn chunk_of(spec: &ChunkSpec, deps: Items<u32>) -> Result<ChunkInfo, AllocError>
+    ensures name { IfOk result (λ chunk. chunk.name ≡ string_bytes spec.now.name) }
+    ensures deps { IfOk result (λ chunk. chunk.deps ≡ deps) }
+{
     let text = spec.name.clone()?;
     Ok(ChunkInfo {
         name: ChunkName { text },

@@ -4,13 +4,12 @@ ghost use Rattle.std.specs.Prelude.{◌≡◌, ◌≢◌, ◌↔◌, ◌⊎◌, 
 ghost use Rattle.std.specs.List.{All};
 ghost use Rattle.std.specs.Option.{ForSome};
 
-use crate::check::{check_count, chunk_at};
-use crate::names::first_numbers;
+use crate::gathered::{Gathered, gather};
 use crate::reach::{Reach, table_of};
 use crate::set::{has_bit, with_bit};
 use crate::spec::{ChunkFault, ChunkSpec};
-use cc_ast::copy::table::copy_items;
 use cc_ast::program::Program;
+use cc_ast::shared::Shared;
 use cc_ast::tables::ChunkInfo;
 use sqlite_items::{Items, at};
 use std::alloc::{AllocError, Global};
@@ -19,7 +18,7 @@ use std::marker::Model;
 /// Chunks that depend on chunks before them, with a table of all that each depends on.
 #[derive(Drop)]
 pub struct ChunkGraph {
-    chunks: Items<ChunkInfo>,
+    chunks: Shared<Items<ChunkInfo>>,
     counts: Items<u32>,
     table: Vec<Reach>,
 }
@@ -52,17 +51,22 @@ impl ChunkGraph {
         // Of several faults the first is answered. Memory may be wanting at any time.
         ensures fault { IfErr result (λ fault. fault ≢ Memory → IsFirstFault specs.now files fault) }
     {
-        let numbers = first_numbers(alloc, specs)?;
-        let mut chunks = Items::new(alloc);
-        let mut counts = Items::new(alloc);
-        let mut taken: u64 = 0;
-        for (i, spec) in specs.iter().enumerate() {
-            chunks.push(chunk_at(alloc, specs, &numbers, i)?)?;
-            counts.push(spec.count)?;
-            taken += u64::from(spec.count);
-            check_count(specs, files, i, taken)?;
-        }
-        Ok(ChunkGraph::with_chunks(alloc, chunks, counts)?)
+        let gathered = gather(alloc, specs, files)?;
+        Ok(ChunkGraph::of_gathered(alloc, gathered)?)
+    }
+
+    fn of_gathered(alloc: Global, gathered: Gathered) -> Result<ChunkGraph, AllocError>
+        requires { DependsDown gathered.chunks }
+        ensures chunks { IfOk result (λ graph. graph.chunks ≡ gathered.chunks) }
+        ensures counts { IfOk result (λ graph. graph.counts ≡ gathered.counts) }
+    {
+        let Gathered {
+            chunks,
+            counts,
+            taken: _,
+        } = gathered;
+        let chunks = Shared::new(alloc, chunks)?;
+        ChunkGraph::with_chunks(alloc, chunks, counts)
     }
 
     /// The graph of a program's chunks, in which no chunk takes files any more.
@@ -71,20 +75,20 @@ impl ChunkGraph {
         ensures chunks { IfOk result (λ graph. graph.chunks ≡ program.now.chunks) }
         ensures counts { IfOk result (λ graph. graph.counts ≡ []) }
     {
-        let chunks = copy_items(alloc, &program.chunks)?;
+        let chunks = program.chunks.try_clone()?;
         ChunkGraph::with_chunks(alloc, chunks, Items::new(alloc))
     }
 
     fn with_chunks(
         alloc: Global,
-        chunks: Items<ChunkInfo>,
+        chunks: Shared<Items<ChunkInfo>>,
         counts: Items<u32>,
     ) -> Result<ChunkGraph, AllocError>
         requires { DependsDown chunks }
         ensures chunks { IfOk result (λ graph. graph.chunks ≡ chunks) }
         ensures counts { IfOk result (λ graph. graph.counts ≡ counts) }
     {
-        let table = table_of(alloc, chunks.as_slice())?;
+        let table = table_of(alloc, chunks.get().as_slice())?;
         Ok(ChunkGraph {
             chunks,
             counts,
@@ -97,7 +101,7 @@ impl ChunkGraph {
         ensures chunks { result.now ≡ self.now.chunks }
         ensures down { DependsDown self.now.chunks }
     {
-        self.chunks.as_slice()
+        self.chunks.get().as_slice()
     }
 
     /// How many files each chunk takes, in the order of the files; none for a program's chunks.

@@ -5,6 +5,7 @@
 #![tactic(auto)]
 
 mod check;
+mod gathered;
 mod graph;
 mod names;
 mod reach;

@@ -1,8 +1,8 @@
 // The specs by their names.
 
-ghost use Rattle.std.specs.Prelude.{◌≡◌, ℕ, ◌^◌, ◌<◌, IfOk, List, length};
+ghost use Rattle.std.specs.Prelude.{◌≡◌, ℕ, ◌^◌, ◌<◌, IfOk, OnOk, List, length};
 ghost use Rattle.cc_chunks.specs.Faults.{first_of, names_of};
-ghost use Rattle.cc_chunks.specs.Numbers.{number_in};
+ghost use Rattle.cc_chunks.specs.Numbers.{number_in, number_after};
 
 use crate::spec::ChunkSpec;
 use indexmap::IndexMap;
@@ -21,12 +21,20 @@ pub(crate) fn first_numbers<'a>(
 {
     let mut numbers = IndexMap::new(alloc);
     for (i, spec) in specs.iter().enumerate() {
-        let name = spec.name.as_str();
-        if !numbers.contains_key(name) {
-            numbers.insert(name, i as u32)?;
-        }
+        enter(&mut numbers, spec.name.as_str(), i as u32)?;
     }
     Ok(numbers)
+}
+
+/// Enters the number of a name that has none yet.
+fn enter<'a>(numbers: &mut Numbers<'a>, name: &'a str, number: u32) -> Result<(), AllocError>
+    ensures { OnOk result ((other : List ℕ) → number_in numbers.new other
+        ≡ number_after (number_in numbers.old) name.now number other) }
+{
+    if !numbers.contains_key(name) {
+        numbers.insert(name, number)?;
+    }
+    Ok(())
 }
 
 pub(crate) fn number_of(numbers: &Numbers<'_>, name: &str) -> Option<u32>

@@ -1,12 +1,12 @@
 -- What the two phases mean, and that they keep their law.
-use Rattle.std.specs.Prelude.{◌≡◌, ℕ, ◌==◌, List, [], ◌∷◌, Bool, true, false, Option, Some, None, cond, IsSome, refl}
-use Rattle.std.proofs.Common.{zero, suc, sym, ap, ◌∙◌, subst}
+use Rattle.std.specs.Prelude.{◌≡◌, ℕ, ◌==◌, List, [], ◌∷◌, Bool, true, false, Some, None, cond, refl}
+use Rattle.std.proofs.Common.{suc, sym, ap, ◌∙◌, subst}
 use Rattle.cc_ast.specs.Syntax.{Program, Scope}
 use Rattle.cc_ast.specs.StmtBridge.{term_stmts}
 use Rattle.cc_meaning.specs.Same.{Same}
 use Rattle.cc_meaning.specs.WellMade.{WellMade}
 use Rattle.cc_meaning.proofs.SameLaws.{reflexive}
-use Rattle.cc_core.specs.Work.{Work, Lawful, VisitsAll, with_scopes, with_heads, heads_of, mixed, part, phase, step_after}
+use Rattle.cc_core.specs.Work.{Work, Lawful, VisitsAll, with_scopes, with_heads, heads_of, mixed, phase}
 use Rattle.cc_clear.specs.declared.clear.ClearPlan.{ClearPlan}
 
 -- a scope whose doc says nothing

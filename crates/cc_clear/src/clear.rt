@@ -1,8 +1,9 @@
 // Two phases.
 ghost use Rattle.std.specs.Prelude.{◌≡◌, Some, IfOk};
 
-use cc_ast::copy::{copy_program, copy_scope};
+use cc_ast::copy::copy_scope;
 use cc_ast::program::{Heads, Program, Scope};
+use cc_core::programs::heads_of;
 use cc_core::rules::Rules;
 use std::alloc::{AllocError, Global};
 
@@ -15,27 +16,6 @@ pub struct Clear;
 #[derive(Drop)]
 pub struct ClearPlan {
     pub step: u32,
-}
-
-fn heads_of(program: Program) -> Heads
-    ensures { result ≡ record { globals = program.globals; props = program.props; classes = program.classes; docs = program.docs } }
-{
-    let Program {
-        scopes: _,
-        chunks: _,
-        globals,
-        props,
-        kept: _,
-        classes,
-        places: _,
-        docs,
-    } = program;
-    Heads {
-        globals,
-        props,
-        classes,
-        docs,
-    }
 }
 
 impl Rules for Clear {
@@ -56,8 +36,9 @@ impl Rules for Clear {
     }
 
     fn heads(&self, alloc: Global, plan: &ClearPlan, base: &Program) -> Result<Heads, AllocError> {
+        let _ = alloc;
         let _ = plan;
-        Ok(heads_of(copy_program(alloc, base)?))
+        heads_of(base)
     }
 
     fn rewrite(
@@ -67,8 +48,9 @@ impl Rules for Clear {
         slot: u32,
         scope: &Scope,
     ) -> Result<Scope, AllocError> {
+        let _ = alloc;
         let _ = slot;
-        let mut copy = copy_scope(alloc, scope)?;
+        let mut copy = copy_scope(scope)?;
         if plan.step == 0 {
             copy.doc = 0;
         }

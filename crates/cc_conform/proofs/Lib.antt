@@ -4,6 +4,8 @@ pub mod TypeLemmas
 pub mod SlotLemmas
 pub mod FieldLemmas
 pub mod MetLemmas
+pub mod NameLemmas
+pub mod KeyLemmas
 pub mod ReadLemmas
 pub mod PrototypeLemmas
 pub mod WriteLemmas

@@ -6,9 +6,9 @@ use Rattle.cc_heap.specs.Store.{code_in, value_if_found}
 use Rattle.cc_heap.proofs.SlotLaws.{flipped}
 use Rattle.cc_meaning.specs.Builtins.{ArrayUse, TextUse, array_method, text_method, text_methods, method_of}
 use Rattle.cc_meaning.specs.Monad.{pick}
-use Rattle.cc_meaning.specs.Names.{name_call, name_hasOwnProperty, standard_names, name_charAt, name_charCodeAt, name_indexOf, name_lastIndexOf, name_slice, name_substring}
+use Rattle.cc_meaning.specs.Names.{name_call, name_hasOwnProperty, common_names, standard_array_names, name_charAt, name_charCodeAt, name_indexOf, name_lastIndexOf, name_slice, name_substring}
 use Rattle.cc_meaning.specs.Operators.{is_in, list_eq}
-use Rattle.cc_meaning.specs.SlotRules.{is_function, unfound_rule, rule_if}
+use Rattle.cc_meaning.specs.SlotRules.{is_function, has_function, has_array, unfound_rule, rule_if}
 use Rattle.cc_meaning.specs.State.{Obj}
 use Rattle.cc_meaning.specs.Store.{Found, found_use, nothing_found, found_on, found_at, found_here, find_own, built_here, array_found, call_with, has_own}
 use Rattle.cc_meaning.specs.Typed.{elements_in}
@@ -33,48 +33,66 @@ unfolding elements_in
 hides-parts None n = refl
 hides-parts (Some o) n = refl
 
+-- ---- chains
+
+pub arrays_on : (os : List Obj) (cs : List ℕ) → has_array os cs ≡ list_any (λ c. is_some (elements_in (slice_get os c))) cs
+unfolding has_array
+arrays_on os [] = refl
+arrays_on os (c ∷ cs) = ap (λ (b : Bool). is_some (elements_in (slice_get os c)) || b) (arrays_on os cs)
+
+pub functions_on : (os : List Obj) (cs : List ℕ) → has_function os cs ≡ list_any (λ c. is_function (slice_get os c)) cs
+unfolding has_function
+functions_on os [] = refl
+functions_on os (c ∷ cs) = ap (λ (b : Bool). is_function (slice_get os c) || b) (functions_on os cs)
+
 -- ---- a look-up that comes to no value
 
+-- the name is one of the standard library without a meaning here, that a look-up on this chain would come to
+standard : List Obj → List ℕ → List ℕ → Bool
+standard os all n = is_in n common_names || (is_in n standard_array_names && has_array os all)
+
 -- what is built in at an object, or else what comes after it
-built : (n : List ℕ) (e : Bool) (m : Option ArrayUse) (k any st : Bool) (rest : Found) → value_if_found (pick e (array_found m rest) (pick k (found_use call_with) rest)) ≡ None
-    → (value_if_found rest ≡ None → unfound_rule n rest ≡ rule_if (any || st) 10)
-    → unfound_rule n (pick e (array_found m rest) (pick k (found_use call_with) rest)) ≡ rule_if ((pick e (is_some m) k || any) || st) 10
+built : (os : List Obj) (all n : List ℕ) (e : Bool) (m : Option ArrayUse) (k any st : Bool) (rest : Found) → value_if_found (pick e (array_found m rest) (pick k (found_use call_with) rest)) ≡ None
+    → (value_if_found rest ≡ None → unfound_rule os all n rest ≡ rule_if (any || st) 10)
+    → unfound_rule os all n (pick e (array_found m rest) (pick k (found_use call_with) rest)) ≡ rule_if ((pick e (is_some m) k || any) || st) 10
 unfolding array_found unfound_rule rule_if
-built n true None k any st rest h more = more h
-built n true (Some u) k any st rest h more = refl
-built n false m true any st rest h more = refl
-built n false m false any st rest h more = more h
+built os all n true None k any st rest h more = more h
+built os all n true (Some u) k any st rest h more = refl
+built os all n false m true any st rest h more = refl
+built os all n false m false any st rest h more = more h
 
-here : (own : Option Val) (o : Obj) (n : List ℕ) (any st : Bool) (rest : Found) → value_if_found (found_here own o n rest) ≡ None
-    → (value_if_found rest ≡ None → unfound_rule n rest ≡ rule_if (any || st) 10) → unfound_rule n (found_here own o n rest) ≡ rule_if ((hides_at (Some o) n || any) || st) 10
+here : (os : List Obj) (all : List ℕ) (own : Option Val) (o : Obj) (n : List ℕ) (any st : Bool) (rest : Found) → value_if_found (found_here own o n rest) ≡ None
+    → (value_if_found rest ≡ None → unfound_rule os all n rest ≡ rule_if (any || st) 10) → unfound_rule os all n (found_here own o n rest) ≡ rule_if ((hides_at (Some o) n || any) || st) 10
 unfolding found_here built_here
-here None o n any st rest h more = built n (is_some o.elements) (array_method n) (is_some o.code && list_eq n name_call) any st rest h more
-here (Some v) o n any st rest h more = cc
+here os all None o n any st rest h more = built os all n (is_some o.elements) (array_method n) (is_some o.code && list_eq n name_call) any st rest h more
+here os all (Some v) o n any st rest h more = cc
 
-at : (o : Option Obj) (n : List ℕ) (any st : Bool) (rest : Found) → value_if_found (found_at o n rest) ≡ None
-    → (value_if_found rest ≡ None → unfound_rule n rest ≡ rule_if (any || st) 10) → unfound_rule n (found_at o n rest) ≡ rule_if ((hides_at o n || any) || st) 10
+at : (os : List Obj) (all : List ℕ) (o : Option Obj) (n : List ℕ) (any st : Bool) (rest : Found) → value_if_found (found_at o n rest) ≡ None
+    → (value_if_found rest ≡ None → unfound_rule os all n rest ≡ rule_if (any || st) 10) → unfound_rule os all n (found_at o n rest) ≡ rule_if ((hides_at o n || any) || st) 10
 unfolding found_at
-at None n any st rest h more = more h
-at (Some o) n any st rest h more = here (find_own o n) o n any st rest h more
+at os all None n any st rest h more = more h
+at os all (Some o) n any st rest h more = here os all (find_own o n) o n any st rest h more
 
-ended : (n : List ℕ) (own : Bool) → unfound_rule n (pick own (found_use has_own) nothing_found) ≡ rule_if (own || is_in n standard_names) 10
-unfolding unfound_rule rule_if
-ended n true = refl
-ended n false = refl
+ended : (os : List Obj) (all n : List ℕ) (own : Bool) → unfound_rule os all n (pick own (found_use has_own) nothing_found) ≡ rule_if (own || standard os all n) 10
+unfolding unfound_rule rule_if standard
+ended os all n true = refl
+ended os all n false = refl
 
-on : (os : List Obj) (cs : List ℕ) (n : List ℕ) → value_if_found (found_on os cs n) ≡ None
-    → unfound_rule n (found_on os cs n) ≡ rule_if (list_any (λ c. hides_at (slice_get os c) n) cs || (list_eq n name_hasOwnProperty || is_in n standard_names)) 10
+-- the rule asks for arrays on the whole chain, of which the look-up goes through `cs`
+on : (os : List Obj) (all cs n : List ℕ) → value_if_found (found_on os cs n) ≡ None
+    → unfound_rule os all n (found_on os cs n) ≡ rule_if (list_any (λ c. hides_at (slice_get os c) n) cs || (list_eq n name_hasOwnProperty || standard os all n)) 10
 unfolding found_on
-on os [] n h = ended n (list_eq n name_hasOwnProperty)
-on os (c ∷ cs) n h = at (slice_get os c) n (list_any (λ d. hides_at (slice_get os d) n) cs) (list_eq n name_hasOwnProperty || is_in n standard_names) (found_on os cs n) h (on os cs n)
+on os all [] n h = ended os all n (list_eq n name_hasOwnProperty)
+on os all (c ∷ cs) n h = at os all (slice_get os c) n (list_any (λ d. hides_at (slice_get os d) n) cs) (list_eq n name_hasOwnProperty || standard os all n) (found_on os cs n) h (on os all cs n)
 
 or-assoc : (a b c : Bool) → ((a || b) || c) ≡ (a || (b || c))
 or-assoc true b c = refl
 or-assoc false b c = refl
 
-pub unfound-parts : (os : List Obj) (cs : List ℕ) (n : List ℕ) → value_if_found (found_on os cs n) ≡ None
-    → rule_if ((list_any (λ c. hides_at (slice_get os c) n) cs || list_eq n name_hasOwnProperty) || is_in n standard_names) 10 ≡ unfound_rule n (found_on os cs n)
-unfound-parts os cs n h = ap (λ (b : Bool). rule_if b 10) (or-assoc (list_any (λ c. hides_at (slice_get os c) n) cs) (list_eq n name_hasOwnProperty) (is_in n standard_names)) ∙ sym (on os cs n h)
+pub unfound-parts : (os : List Obj) (cs n : List ℕ) → value_if_found (found_on os cs n) ≡ None
+    → rule_if ((list_any (λ c. hides_at (slice_get os c) n) cs || list_eq n name_hasOwnProperty) || (is_in n common_names || (is_in n standard_array_names && has_array os cs))) 10 ≡ unfound_rule os cs n (found_on os cs n)
+unfolding standard
+unfound-parts os cs n h = ap (λ (b : Bool). rule_if b 10) (or-assoc (list_any (λ c. hides_at (slice_get os c) n) cs) (list_eq n name_hasOwnProperty) (standard os cs n)) ∙ sym (on os cs cs n h)
 
 -- ---- the methods of texts
 

@@ -1,7 +1,9 @@
 -- Prototypes of functions, and the classes of functions.
-use Rattle.std.proofs.Common.{◌≡◌, ◌≢◌, ◌∙◌, ℕ, suc, ◌+◌, ◌<◌, ◌≤◌, Bool, true, false, ◌&&◌, ◌||◌, nat_eq, eqb, List, [], ◌∷◌, length, get_or, drop, Option, Some, None, is_some, slice_get, refl, sym, ap, arith}
+use Rattle.std.proofs.Common.{◌≡◌, ◌≢◌, ◌∙◌, ℕ, suc, ◌+◌, ◌<◌, Bool, true, false, not, ◌&&◌, ◌||◌, nat_eq, eqb, List, [], ◌∷◌, length, get_or, drop, Option, Some, None, is_some, slice_get, refl, sym, ap, arith}
+use Rattle.std.specs.List.{list_any}
 use Rattle.std.proofs.Math.Bool.{and-false}
 use Rattle.std.proofs.lemmas.Bool.{ne_eqb}
+use Rattle.std.proofs.lemmas.List.{at_drop_more}
 use Rattle.std.proofs.lemmas.Option.{slice_get-get_or}
 use Rattle.cc_ast.specs.declared.tables.Class.{Class}
 use Rattle.cc_heap.specs.Store.{code_in}
@@ -9,9 +11,9 @@ use Rattle.cc_meaning.specs.Monad.{pick}
 use Rattle.cc_meaning.specs.Names.{name_prototype}
 use Rattle.cc_meaning.specs.Operators.{list_eq}
 use Rattle.cc_meaning.specs.Rules.{prototype_object}
-use Rattle.cc_meaning.specs.SlotRules.{prototype_of_function, has_function, is_object, is_prototype_of, begins_with, empty, no_slots, without_slots, declares_well, code_rule, prototype_rule, rule_unless}
+use Rattle.cc_meaning.specs.SlotRules.{prototype_of_function, is_code_of, is_object, is_prototype_of, is_prototype_of_class, function_in, extended, fits_extended, no_slots, without_slots, is_off_chains, declares_well, code_rule, prototype_rule, rule_unless}
 use Rattle.cc_meaning.specs.State.{Code, Obj, Slot, State, Tables, bare}
-use Rattle.cc_meaning.specs.Store.{class_from, class_of_function, find_slot, is_number, slots_in}
+use Rattle.cc_meaning.specs.Store.{chain_in, class_from, class_of_function, find_slot, is_number, slots_in}
 use Rattle.cc_meaning.specs.Values.{Val, prim, obj, out}
 use Rattle.cc_conform.specs.Prototypes.{has_prototype}
 use Rattle.cc_conform.proofs.Loops.{step, step_got}
@@ -52,8 +54,8 @@ without-None os (Some (obj n)) e = cc
 without-None os (Some (out n)) e = refl
 without-None os (Some (prim q)) e = refl
 
-both : (k : Option Code) (w : Option Val) (c : Code) (p f n : ℕ) → Some c ≡ k → Some p ≡ prototype_object (pick (is_some k) w None) → (nat_eq c.function f && nat_eq p n) ≡ (has_function k f && is_object w n)
-unfolding prototype_object has_function is_object
+both : (k : Option Code) (w : Option Val) (c : Code) (p f n : ℕ) → Some c ≡ k → Some p ≡ prototype_object (pick (is_some k) w None) → (nat_eq c.function f && nat_eq p n) ≡ (is_code_of k f && is_object w n)
+unfolding prototype_object is_code_of is_object
 both None w c p f n e h = cc
 both (Some d) None c p f n e h = cc
 both (Some d) (Some (obj m)) c p f n e h = let code : c ≡ d = cc in let same : p ≡ m = cc in λ i. nat_eq (code i).function f && nat_eq (same i) n
@@ -65,8 +67,8 @@ unfolding prototype_of_function
 has-both None c p f n e h = cc
 has-both (Some o) c p f n e h = both o.code (find_slot o.slots name_prototype) c p f n e h
 
-no_object : (k : Option Code) (w : Option Val) (f n : ℕ) → None ≡ prototype_object (pick (is_some k) w None) → false ≡ (has_function k f && is_object w n)
-unfolding prototype_object has_function is_object
+no_object : (k : Option Code) (w : Option Val) (f n : ℕ) → None ≡ prototype_object (pick (is_some k) w None) → false ≡ (is_code_of k f && is_object w n)
+unfolding prototype_object is_code_of is_object
 no_object None w f n h = refl
 no_object (Some d) None f n h = sym (and-false (nat_eq d.function f))
 no_object (Some d) (Some (obj m)) f n h = cc
@@ -78,8 +80,8 @@ unfolding prototype_of_function
 has-no_prototype None f n h = refl
 has-no_prototype (Some o) f n h = no_object o.code (find_slot o.slots name_prototype) f n h
 
-no_code : (k : Option Code) (w : Option Val) (f n : ℕ) → None ≡ k → false ≡ (has_function k f && is_object w n)
-unfolding has_function
+no_code : (k : Option Code) (w : Option Val) (f n : ℕ) → None ≡ k → false ≡ (is_code_of k f && is_object w n)
+unfolding is_code_of
 no_code None w f n h = refl
 no_code (Some d) w f n h = cc
 
@@ -97,21 +99,46 @@ owner-next os i f n b h e =
 
 -- ---- chains
 
-pub begins-empty : (os : List Obj) (f : Option ℕ) (c : List ℕ) → length c < 1 → false ≡ begins_with os f c
-unfolding begins_with
-begins-empty os None c h = refl
-begins-empty os (Some f) [] h = refl
-begins-empty os (Some f) (p ∷ ps) h = absurd (omega arith)
+not-or : (a b : Bool) → not (a || b) ≡ (not a && not b)
+not-or true b = refl
+not-or false b = refl
 
-pub begins-more : (os : List Obj) (f : ℕ) (c : List ℕ) → 1 ≤ length c → is_prototype_of os f (get_or c 0 0) ≡ begins_with os (Some f) c
-unfolding begins_with
-begins-more os f [] h = absurd (omega arith)
-begins-more os f (p ∷ ps) h = refl
+-- the rest of the objects, where this one is the next
+pub off-next : (os : List Obj) (i n : ℕ) (b : Bool) → i < length os → b ≡ list_any (λ m. nat_eq m n) (chain_in (slice_get os i)) → is_off_chains (drop i os) (Some (obj n)) ≡ (not b && is_off_chains (drop (i + 1) os) (Some (obj n)))
+unfolding is_off_chains chain_in
+off-next os i n b h e =
+    let here : slice_get os i ≡ Some (get_or os i bare) = slice_get-get_or os i bare h in
+    step_got (λ (xs : List Obj). is_off_chains xs (Some (obj n))) os i (get_or os i bare) (sym here)
+    ∙ not-or (list_any (λ m. nat_eq m n) (get_or os i bare).chain) (list_any (λ o. list_any (λ m. nat_eq m n) o.chain) (drop (i + 1) os))
+    ∙ ap (λ (x : Bool). not x && is_off_chains (drop (i + 1) os) (Some (obj n))) (sym (e ∙ ap (λ (o : Option Obj). list_any (λ m. nat_eq m n) (chain_in o)) here))
 
-pub empty-length : (c : List ℕ) → eqb (length c) 0 ≡ empty c
-unfolding empty
-empty-length [] = refl
-empty-length (p ∷ ps) = let some : length (p ∷ ps) ≢ 0 = omega arith in ne_eqb (length (p ∷ ps)) 0 some
+pub off-none : (n : ℕ) → is_off_chains [] (Some (obj n)) ≡ true
+unfolding is_off_chains
+off-none n = refl
+
+pub off-Some : (os : List Obj) (w : Option Val) (p : ℕ) (b : Bool) → Some p ≡ prototype_object w → b ≡ is_off_chains os (Some (obj p)) → b ≡ is_off_chains os w
+unfolding prototype_object
+off-Some os None p b e h = cc
+off-Some os (Some (obj n)) p b e h = let same : p ≡ n = cc in h ∙ ap (λ (m : ℕ). is_off_chains os (Some (obj m))) same
+off-Some os (Some (out n)) p b e h = cc
+off-Some os (Some (prim q)) p b e h = cc
+
+-- what is left of a chain, where this prototype is the next
+pub extended-none : (T : Tables) (os : List Obj) (ps : List ℕ) (i : ℕ) → i < length ps → false ≡ fits_extended T os None (drop i ps)
+unfolding fits_extended
+extended-none T os ps i h = sym (at_drop_more (fits_extended T os None) ps i 0 h)
+
+pub extended-next : (T : Tables) (os : List Obj) (d : ℕ) (ps : List ℕ) (i : ℕ) (b : Bool) → i < length ps → b ≡ is_prototype_of_class os (function_in (slice_get T.classes d)) (get_or ps i 0)
+    → fits_extended T os (Some d) (drop i ps) ≡ (b && fits_extended T os (extended (slice_get T.classes d)) (drop (i + 1) ps))
+unfolding fits_extended
+extended-next T os d ps i b h e = at_drop_more (fits_extended T os (Some d)) ps i 0 h ∙ ap (λ (x : Bool). x && fits_extended T os (extended (slice_get T.classes d)) (drop (i + 1) ps)) (sym e)
+
+pub extended-end : (T : Tables) (os : List Obj) (next : Option ℕ) (b : Bool) → is_some next ≡ not b → b ≡ fits_extended T os next []
+unfolding fits_extended
+extended-end T os None true e = refl
+extended-end T os None false e = cc
+extended-end T os (Some d) true e = cc
+extended-end T os (Some d) false e = refl
 
 -- ---- the class with a function
 

@@ -21,11 +21,11 @@ value_found-parts (found_value v) = refl
 value_found-parts (found_use u) = refl
 value_found-parts nothing_found = refl
 
-pub found-rule : (n : List ℕ) (f : Found) (v : Val) → value_if_found f ≡ Some v → None ≡ unfound_rule n f
+pub found-rule : (os : List Obj) (all n : List ℕ) (f : Found) (v : Val) → value_if_found f ≡ Some v → None ≡ unfound_rule os all n f
 unfolding unfound_rule
-found-rule n (found_value w) v h = refl
-found-rule n (found_use u) v h = cc
-found-rule n nothing_found v h = cc
+found-rule os all n (found_value w) v h = refl
+found-rule os all n (found_use u) v h = cc
+found-rule os all n nothing_found v h = cc
 
 -- ---- numbers are of the same types
 

@@ -48,7 +48,7 @@ one : (T : Tables) (a : Access) (n : List ℕ) (x : Slot) → slot_rule T a n x.
 unfolding slot_rule
 one T (dotted p) n x = refl
 one T (quoted t) n x = refl
-one T (runtime t) n x = refl
+one T (runtime t w) n x = refl
 
 both : (b : Bool) (r s : Option ℕ) → least (pick b None r) (pick b None s) ≡ pick b None (least r s)
 unfolding least
@@ -87,6 +87,6 @@ pub outside-Quoted : (T : Tables) (t n : List ℕ) → slot_rule T (quoted t) n 
 unfolding slot_rule is_dotted rule_if
 outside-Quoted T t n = refl
 
-pub outside-Runtime : (T : Tables) (t n : List ℕ) → slot_rule T (runtime t) n keyed_kind [] ≡ None
+pub outside-Runtime : (T : Tables) (t n : List ℕ) (w : Bool) → slot_rule T (runtime t w) n keyed_kind [] ≡ None
 unfolding slot_rule is_dotted rule_if
-outside-Runtime T t n = sym (no_rule (is_index n))
+outside-Runtime T t n w = sym (no_rule (is_index n))

@@ -72,7 +72,7 @@ variable_of (V.Flat g n) = flat g n
 abbrev pub access_of : key.Access → Access
 access_of (K.Dotted p) = dotted p
 access_of (K.Quoted t) = quoted t
-access_of (K.Runtime t) = runtime t
+access_of (K.Runtime t w) = runtime t w
 
 abbrev pub act_of : told.Act → Act
 act_of (A.Operate op operands) = operates (op_of op) (map value_of operands)

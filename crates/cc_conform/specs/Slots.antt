@@ -24,10 +24,10 @@ least_of t n (x ∷ xs) = least (test_rule t n x) (least_of t n xs)
 abbrev pub test_by : Access → SlotTest
 test_by (dotted p) = ByDot
 test_by (quoted t) = InQuotes
-test_by (runtime t) = NoDot 8
+test_by (runtime t w) = NoDot 8
 
 -- the name may be reached by this key on every chain
 abbrev pub is_free : Tables → Access → List ℕ → Bool
 is_free T (dotted p) n = is_kept T n
 is_free T (quoted t) n = false
-is_free T (runtime t) n = is_index n
+is_free T (runtime t w) n = is_index n

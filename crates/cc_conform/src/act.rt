@@ -68,12 +68,12 @@ pub enum Variable {
 }
 
 /// The key of an access: a property's number after a dot, a text that was written in quotes, or
-/// the text of a value.
+/// the text of a value, with whether the value was a whole number.
 #[derive(Drop)]
 pub enum Access {
     Dotted(u32),
     Quoted(Units),
-    Runtime(Units),
+    Runtime { text: Units, whole: bool },
 }
 
 /// What is about to happen. A write `declares` where it is made by the declaration statement of

@@ -61,7 +61,7 @@ fn extends_class(program: &Program, class: Option<u32>, above: usize) -> bool
     ensures { result ≡ Rules.extends_class (tables_of program.now) class above }
 {
     match class {
-        Some(class) => cc_types::extends(program.classes.as_slice(), class, above),
+        Some(class) => cc_types::extends(program.classes.get().as_slice(), class, above),
         None => false,
     }
 }
@@ -133,7 +133,7 @@ pub(crate) fn enter_rule(
 ) -> Option<u8>
     ensures { (s : State) → result ≡ Rules.enter_rule (tables_of program.now) (with_store s heap.now) function (option_map value_of receiver.now) (map value_of values.now) }
 {
-    let class = code_class_from(program.classes.as_slice(), function);
+    let class = code_class_from(program.classes.get().as_slice(), function);
     let is_run = runs_on(program, heap, class, receiver);
     let wanted = receiver_type(program, function);
     let is_received = receiver_fits(program, heap, wanted, receiver);

@@ -16,7 +16,7 @@ use cc_ast::tables::{SiteDoc, TypeSet};
 fn doc_at(program: &Program, number: u32) -> Option<&SiteDoc>
     ensures { option_copied result ≡ Typed.doc_at (tables_of program.now) (Some number) }
 {
-    program.docs.get(number as usize)
+    program.docs.get().get(number as usize)
 }
 
 // The doc of a function.
@@ -87,7 +87,7 @@ fn param_count(program: &Program, scope: u32) -> u32
 fn global_doc(program: &Program, global: u32) -> Option<&SiteDoc>
     ensures { option_copied result ≡ Typed.variable_doc (tables_of program.now) (Typed.global global) }
 {
-    match program.globals.get(global as usize) {
+    match program.globals.get().get(global as usize) {
         Some(info) => doc_at(program, info.doc),
         None => None,
     }
@@ -118,7 +118,7 @@ fn local_doc(program: &Program, scope: u32, place: u32) -> Option<&SiteDoc>
 fn path_doc(program: &Program, global: u32, number: u32) -> Option<&SiteDoc>
     ensures { option_copied result ≡ Typed.variable_doc (tables_of program.now) (Typed.flat global number) }
 {
-    match program.globals.get(global as usize) {
+    match program.globals.get().get(global as usize) {
         Some(info) => match info.flat.get(number as usize) {
             Some(path) => doc_at(program, path.doc),
             None => None,

@@ -27,7 +27,7 @@ use cc_value::value::Value;
 fn is_named(program: &Program, prop: u32, name: &[u16]) -> bool
     ensures { result ≡ list_eq (Store.prop_name (slice_get (tables_of program.now).props prop)) name.now }
 {
-    match program.props.get(prop as usize) {
+    match program.props.get().get(prop as usize) {
         Some(info) => texts::is_equal(info.name.list.as_slice(), name),
         None => name.is_empty(),
     }
@@ -82,7 +82,7 @@ fn class_fits(
         return true;
     }
     fields_fit(program, heap, class.fields.as_slice(), name, value)
-        || !cc_types::reaches(program.classes.as_slice(), of, at)
+        || !cc_types::reaches(program.classes.get().as_slice(), of, at)
 }
 
 fn classes_fit(
@@ -112,7 +112,7 @@ fn object_fits(program: &Program, heap: &Heap, object: usize, name: &[u16], valu
             program,
             heap,
             class,
-            program.classes.as_slice(),
+            program.classes.get().as_slice(),
             name,
             value,
         ),
@@ -127,7 +127,7 @@ fn is_dot(key: &Access) -> bool
     match key {
         Access::Dotted(_) => true,
         Access::Quoted(_) => false,
-        Access::Runtime(_) => false,
+        Access::Runtime { text: _, whole: _ } => false,
     }
 }
 

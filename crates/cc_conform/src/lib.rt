@@ -11,6 +11,7 @@ mod fields;
 mod global_uses;
 mod host;
 pub mod judge;
+mod keys;
 mod look_up;
 mod names;
 mod object_uses;

@@ -13,9 +13,9 @@ use cc_ast::units::Units;
 use cc_heap::names::{index_of, is_spelled};
 use cc_value::texts;
 
-// The names of the standard library that have no meaning here: of every object and function, of
-// arrays, and of texts (ECMA-262 5.1, 15).
-static STANDARD: [&[u8]; 30] = [
+// The names of the standard library that have no meaning here (ECMA-262 5.1, 15): of every object and
+// function, of arrays, and of texts.
+static COMMON: [&[u8]; 11] = [
     b"constructor",
     b"toString",
     b"toLocaleString",
@@ -27,6 +27,9 @@ static STANDARD: [&[u8]; 30] = [
     b"bind",
     b"caller",
     b"arguments",
+];
+
+static OF_ARRAYS: [&[u8]; 11] = [
     b"sort",
     b"reverse",
     b"splice",
@@ -38,6 +41,9 @@ static STANDARD: [&[u8]; 30] = [
     b"some",
     b"every",
     b"lastIndexOf",
+];
+
+static OF_TEXTS: [&[u8]; 8] = [
     b"split",
     b"replace",
     b"match",
@@ -64,7 +70,7 @@ fn is_in(name: &[u16], names: &[Units]) -> bool
 pub(crate) fn is_kept(program: &Program, name: &[u16]) -> bool
     ensures { result ≡ Store.is_kept (tables_of program.now) name.now }
 {
-    is_in(name, program.kept.as_slice())
+    is_in(name, program.kept.get().as_slice())
 }
 
 fn is_one_of(name: &[u16], texts: &[&[u8]]) -> bool
@@ -78,12 +84,35 @@ fn is_one_of(name: &[u16], texts: &[&[u8]]) -> bool
     false
 }
 
+/// Whether every object or function has a property of this name that has no meaning here.
+#[tactic(auto, unfolding(cc_meaning::specs::Names::common_names))]
+pub(crate) fn is_common(name: &[u16]) -> bool
+    ensures { result ≡ Operators.is_in name.now Names.common_names }
+{
+    is_one_of(name, &COMMON)
+}
+
+/// Whether every array has a property of this name that has no meaning here.
+#[tactic(auto, unfolding(cc_meaning::specs::Names::standard_array_names))]
+pub(crate) fn is_standard_of_arrays(name: &[u16]) -> bool
+    ensures { result ≡ Operators.is_in name.now Names.standard_array_names }
+{
+    is_one_of(name, &OF_ARRAYS)
+}
+
+#[tactic(auto, unfolding(cc_meaning::specs::Names::standard_text_names))]
+fn is_standard_of_texts(name: &[u16]) -> bool
+    ensures { result ≡ Operators.is_in name.now Names.standard_text_names }
+{
+    is_one_of(name, &OF_TEXTS)
+}
+
 /// Whether the name is one of the standard library without a meaning here.
-#[tactic(auto, unfolding(cc_meaning::specs::Names::standard_names))]
+#[tactic(auto, using(crate::proofs::NameLemmas::in_standard))]
 pub(crate) fn is_standard(name: &[u16]) -> bool
     ensures { result ≡ Operators.is_in name.now Names.standard_names }
 {
-    is_one_of(name, &STANDARD)
+    is_common(name) || is_standard_of_arrays(name) || is_standard_of_texts(name)
 }
 
 /// Whether the name is one that functions have and that isn't read.
@@ -92,6 +121,17 @@ pub(crate) fn is_function_name(name: &[u16]) -> bool
     ensures { result ≡ Operators.is_in name.now Names.function_names }
 {
     is_spelled(name, b"name") || is_spelled(name, b"length")
+}
+
+/// Whether the name is one that functions have and that an engine doesn't write.
+#[tactic(auto, unfolding(cc_meaning::specs::Names::unwritten_names, cc_meaning::specs::Operators::is_in))]
+pub(crate) fn is_unwritten(name: &[u16]) -> bool
+    ensures { result ≡ Operators.is_in name.now Names.unwritten_names }
+{
+    is_spelled(name, b"name")
+        || is_spelled(name, b"length")
+        || is_spelled(name, b"caller")
+        || is_spelled(name, b"arguments")
 }
 
 #[tactic(auto, unfolding(cc_meaning::specs::Names::is_index))]
@@ -109,11 +149,11 @@ pub(crate) fn name_of<'a>(program: &'a Program, key: &'a Access, none: &'a Units
     ensures { result.now ≡ Store.name_of (tables_of program.now) (access_of key.now) }
 {
     match key {
-        Access::Dotted(prop) => match program.props.get(*prop as usize) {
+        Access::Dotted(prop) => match program.props.get().get(*prop as usize) {
             Some(info) => &info.name,
             None => none,
         },
         Access::Quoted(text) => text,
-        Access::Runtime(text) => text,
+        Access::Runtime { text, whole: _ } => text,
     }
 }

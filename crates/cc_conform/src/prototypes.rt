@@ -1,11 +1,13 @@
 // The prototypes of constructors: rule 12.
 
-ghost use Rattle.std.specs.Prelude.{◌≡◌, Some, true, slice_get};
+ghost use Rattle.std.specs.Prelude.{◌≡◌, ◌&&◌, Some, true, nat_eq, slice_get};
+ghost use Rattle.std.specs.List.{list_any};
 ghost use Rattle.cc_meaning.specs.Rules.{prototype_object};
 ghost use Rattle.cc_meaning.specs.Shapes.{tables_of};
 ghost use Rattle.cc_meaning.specs.SlotRules as SlotRules;
 ghost use Rattle.cc_meaning.specs.State.{State};
 ghost use Rattle.cc_meaning.specs.Store as Store;
+ghost use Rattle.cc_meaning.specs.Values.{obj};
 ghost use Rattle.cc_value.specs.Bridge.{value_of};
 ghost use Rattle.cc_conform.specs.Bridge.{with_store};
 ghost use Rattle.cc_conform.specs.Prototypes as Prototypes;
@@ -44,7 +46,7 @@ fn class_from(classes: &[Class], function: u32) -> Option<usize>
 pub(crate) fn class_of_function(program: &Program, function: u32) -> Option<usize>
     ensures { result ≡ Store.class_of_function (tables_of program.now) function }
 {
-    class_from(program.classes.as_slice(), function)
+    class_from(program.classes.get().as_slice(), function)
 }
 
 // The object that a function has as its prototype.
@@ -82,7 +84,7 @@ fn is_prototype_of(heap: &Heap, function: u32, object: usize) -> bool
 fn extended(program: &Program, class: usize) -> Option<u32>
     ensures { result ≡ SlotRules.extended (slice_get (tables_of program.now).classes class) }
 {
-    match program.classes.get(class) {
+    match program.classes.get().get(class) {
         Some(class) => class.extends,
         None => None,
     }
@@ -92,31 +94,38 @@ fn extended(program: &Program, class: usize) -> Option<u32>
 fn function_of(program: &Program, class: u32) -> Option<u32>
     ensures { result ≡ SlotRules.function_in (slice_get (tables_of program.now).classes class) }
 {
-    match program.classes.get(class as usize) {
+    match program.classes.get().get(class as usize) {
         Some(class) => class.function,
         None => None,
     }
 }
 
-fn begins_with(heap: &Heap, function: Option<u32>, chain: &[usize]) -> bool
-    ensures { result ≡ SlotRules.begins_with heap.now.objs function chain.now }
+// Whether the object is the prototype of the class with this function.
+#[tactic(auto, unfolding(cc_meaning::specs::SlotRules::is_prototype_of_class))]
+fn is_prototype_of_class(heap: &Heap, function: Option<u32>, object: usize) -> bool
+    ensures { result ≡ SlotRules.is_prototype_of_class heap.now.objs function object }
 {
     match function {
-        Some(function) => match chain {
-            [first, ..] => is_prototype_of(heap, function, *first),
-            [] => false,
-        },
+        Some(function) => is_prototype_of(heap, function, object),
         None => false,
     }
 }
 
+// Whether the chain has the prototypes of this class and of those above it.
 fn fits_extended(program: &Program, heap: &Heap, above: Option<u32>, chain: &[usize]) -> bool
     ensures { result ≡ SlotRules.fits_extended (tables_of program.now) heap.now.objs above chain.now }
 {
-    match above {
-        Some(above) => begins_with(heap, function_of(program, above), chain),
-        None => chain.is_empty(),
+    let mut next = above;
+    for prototype in chain {
+        let Some(class) = next else {
+            return false;
+        };
+        if !is_prototype_of_class(heap, function_of(program, class), *prototype) {
+            return false;
+        }
+        next = extended(program, class as usize);
     }
+    next.is_none()
 }
 
 #[tactic(auto, unfolding(cc_meaning::specs::SlotRules::fits_class))]
@@ -132,12 +141,31 @@ fn fits_class(program: &Program, heap: &Heap, class: usize, value: &Value) -> bo
     }
 }
 
-// Whether the present prototype of a function is an object without slots.
+// Whether the object stands on the chain of another one.
+fn is_on_chain(heap: &Heap, object: usize, prototype: usize) -> bool
+    ensures { result ≡ list_any (λ m. nat_eq m prototype) (Store.chain_in (slice_get heap.now.objs object)) }
+{
+    heap.chain(object).iter().any(|above| *above == prototype)
+}
+
+// Whether no object has this one on its chain.
+fn is_off_chains(heap: &Heap, prototype: usize) -> bool
+    ensures { result ≡ SlotRules.is_off_chains heap.now.objs (Some (obj prototype)) }
+{
+    for object in 0..heap.object_count() {
+        if is_on_chain(heap, object, prototype) {
+            return false;
+        }
+    }
+    true
+}
+
+// Whether the present prototype of a function is an object without slots that stands on no chain.
 fn is_bare(heap: &Heap, object: usize) -> bool
-    ensures { result ≡ SlotRules.without_slots heap.now.objs (SlotRules.prototype_of_function (slice_get heap.now.objs object)) }
+    ensures { result ≡ (SlotRules.without_slots heap.now.objs (SlotRules.prototype_of_function (slice_get heap.now.objs object)) && SlotRules.is_off_chains heap.now.objs (SlotRules.prototype_of_function (slice_get heap.now.objs object))) }
 {
     match prototype_at(heap, object) {
-        Some(prototype) => heap.slot_count(prototype) == 0,
+        Some(prototype) => (heap.slot_count(prototype) == 0) & is_off_chains(heap, prototype),
         None => false,
     }
 }

@@ -14,6 +14,7 @@ ghost use Rattle.cc_conform.specs.Bridge.{access_of, with_store};
 
 use crate::act::Access;
 use crate::fields::field_rule;
+use crate::keys::whole_key_rule;
 use crate::look_up::{function_rule, text_read, unfound_rule};
 use crate::names::name_of;
 use crate::rules::least;
@@ -64,7 +65,7 @@ fn found_rule(
 
 // What a look-up breaks by what it comes to in place of a slot.
 fn missing_rule(heap: &Heap, object: usize, name: &Units) -> Option<u8>
-    ensures { result ≡ SlotRules.unfound_rule name.now (Store.look_up heap.now.objs object name.now) }
+    ensures { result ≡ SlotRules.unfound_rule heap.now.objs (Store.chain_of heap.now.objs object) name.now (Store.look_up heap.now.objs object name.now) }
 {
     match heap.read_slot(object, name) {
         Some(_) => None,
@@ -85,12 +86,13 @@ fn object_read(
     let text = name.list.as_slice();
     let broken = chain_slots_rule(program, heap, key, text, object);
     let found = heap.read_slot(object, name);
+    let by_key = whole_key_rule(heap, object, key);
     let by_type = found_rule(program, heap, object, key, text, broken, found);
     let by_name = least(
         function_rule(heap, object, name),
         missing_rule(heap, object, name),
     );
-    least(by_type, least(broken, by_name))
+    least(by_key, least(by_type, least(broken, by_name)))
 }
 
 /// What a read breaks.

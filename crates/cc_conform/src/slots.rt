@@ -98,7 +98,7 @@ fn test_of(key: &Access) -> SlotTest
     match key {
         Access::Dotted(_) => SlotTest::ByDot,
         Access::Quoted(_) => SlotTest::InQuotes,
-        Access::Runtime(_) => SlotTest::NoDot(8),
+        Access::Runtime { text: _, whole: _ } => SlotTest::NoDot(8),
     }
 }
 
@@ -109,7 +109,7 @@ fn is_free(program: &Program, key: &Access, name: &[u16]) -> bool
     match key {
         Access::Dotted(_) => is_kept(program, name),
         Access::Quoted(_) => false,
-        Access::Runtime(_) => is_index(name),
+        Access::Runtime { text: _, whole: _ } => is_index(name),
     }
 }
 
@@ -164,6 +164,6 @@ pub(crate) fn outside_rule(program: &Program, key: &Access, name: &[u16]) -> Opt
     match key {
         Access::Dotted(_) => rule_if(!is_kept(program, name), 8),
         Access::Quoted(_) => None,
-        Access::Runtime(_) => None,
+        Access::Runtime { text: _, whole: _ } => None,
     }
 }

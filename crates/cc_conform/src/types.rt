@@ -53,7 +53,11 @@ fn is_object_of(program: &Program, heap: &Heap, kinds: u8, classes: &[u32], obje
     ensures { result ≡ Typed.object_of (tables_of program.now) kinds classes.now (slice_get heap.now.objs object) }
 {
     is_of_kind(heap, kinds, object)
-        || class_of_any(program.classes.as_slice(), heap.class_of(object), classes)
+        || class_of_any(
+            program.classes.get().as_slice(),
+            heap.class_of(object),
+            classes,
+        )
 }
 
 /// Whether a value is of these kinds or classes.

@@ -11,6 +11,8 @@ ghost use Rattle.cc_conform.specs.Bridge.{access_of, with_store};
 
 use crate::act::Access;
 use crate::fields::field_rule;
+use crate::keys::whole_key_rule;
+use crate::look_up::unwritten_rule;
 use crate::names::name_of;
 use crate::prototypes::prototype_rule;
 use crate::rules::{least, rule_if, rule_unless};
@@ -70,12 +72,15 @@ fn object_write(
 {
     let index = index_of(name);
     let broken = own_slots_rule(program, heap, key, name, object);
+    let by_key = whole_key_rule(heap, object, key);
     let by_length = array_write_rule(heap, object, name, index);
     let by_element = element_rule(program, heap, object, index, value);
     let by_type = field_rule(program, heap, object, key, name, broken, value);
+    let by_name = unwritten_rule(heap, object, name);
     let by_class = prototype_rule(program, heap, object, name, value, declares);
-    let by_slots = least(broken, by_class);
-    least(by_length, least(by_element, least(by_type, by_slots)))
+    let by_slots = least(broken, least(by_name, by_class));
+    let by_value = least(by_element, least(by_type, by_slots));
+    least(by_key, least(by_length, by_value))
 }
 
 /// What a write breaks.

@@ -1,7 +1,7 @@
 -- The state that a shop stands for.
 use Rattle.std.specs.Prelude.{◌≡◌, ℕ, List}
 use Rattle.cc_ast.specs.Syntax.{Program}
-use Rattle.cc_core.specs.Work.{Work}
+use Rattle.cc_core.specs.Work.{Work, phase, step_after}
 use Rattle.cc_core.specs.State as core
 use Rattle.cc_core.specs.SlotState.{slots_of}
 use Rattle.cc_core.specs.declared.slots.Slot.{Slot}
@@ -15,3 +15,11 @@ pub record Stands {P : Type 0} (W : Work P) (s : core.State) (plan : P) (shown :
   pub sound : core.Sound W s
   pub plan_is : plan ≡ W.plan s.step s.base
   pub shown_is : shown ≡ core.reading W s
+
+-- what is laid out after a state for the step that follows
+pub record GoesOn {P : Type 0} (W : Work P) (s : core.State) (step : ℕ) (base : Program) (plan : P) (shown : Program) (slots : List core.Slot) : Type 0 where
+  pub step_is : step ≡ step_after W s.step s.base
+  pub base_is : base ≡ phase W s.step s.base
+  pub plan_is : plan ≡ W.plan step base
+  pub shown_is : shown ≡ base
+  pub slots_are : slots ≡ core.all_fresh base.scopes

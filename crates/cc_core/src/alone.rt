@@ -1,5 +1,5 @@
 // A phase that one worker does.
-ghost use Rattle.std.specs.Prelude.{◌≡◌, ◌+◌, ◌<◌, ◌≤◌, true, false, Some, None, IfOk, length, position};
+ghost use Rattle.std.specs.Prelude.{◌≡◌, ◌+◌, ◌<◌, ◌≤◌, true, false, Some, None, IfOk, OnOk, length, position};
 ghost use Rattle.cc_core.specs.State.{NoneOut, undone, with_slots, is_pending};
 ghost use Rattle.cc_core.specs.Alone.{Worked};
 
@@ -31,16 +31,15 @@ fn finish_one<R: Rules>(shop: &mut Shop<R>) -> Result<bool, AllocError>
 
 /// Does every slot of the phase in the calling thread, where no claim of the phase is out. Rules,
 /// source, number of closed phases, step and base stay.
-pub fn work_alone<R: Rules>(shop: Shop<R>) -> Result<Shop<R>, AllocError>
-    requires { NoneOut shop.state.slots }
-    ensures done { IfOk result (λ worked. undone worked.state.slots ≡ 0) }
-    ensures none_out { IfOk result (λ worked. NoneOut worked.state.slots) }
-    ensures same { IfOk result (λ worked. worked ≡ record { rules = shop.rules; state = with_slots shop.state worked.state.slots }) }
+pub fn work_alone<R: Rules>(shop: &mut Shop<R>) -> Result<(), AllocError>
+    requires { NoneOut shop.old.state.slots }
+    ensures done { OnOk result (undone shop.new.state.slots ≡ 0) }
+    ensures none_out { OnOk result (NoneOut shop.new.state.slots) }
+    ensures same { OnOk result (shop.new ≡ record { rules = shop.old.rules; state = with_slots shop.old.state shop.new.state.slots }) }
 {
-    let mut shop = shop;
     'slots: loop {
-        if !finish_one(&mut shop)? {
-            return Ok(shop);
+        if !finish_one(shop)? {
+            return Ok(());
         }
     }
 }

@@ -1,10 +1,10 @@
 // What a step begins with, and what it leaves.
-ghost use Rattle.std.specs.Prelude.{◌≡◌, ℕ, ◌+◌, ◌<◌, ◌≤◌, ◌^◌, List, [], true, IfOk, length, slice_index_or};
+ghost use Rattle.std.specs.Prelude.{◌≡◌, ℕ, ◌+◌, ◌<◌, ◌≤◌, ◌^◌, List, [], true, IfOk, OnOk, length, slice_index_or};
 ghost use Rattle.cc_core.specs.State.{all_fresh, in_place};
 ghost use Rattle.cc_core.specs.SlotState.{slots_of, place_held};
 ghost use Rattle.cc_core.specs.Work.{with_scopes};
 
-use crate::programs::set_scope;
+use crate::programs::{handle_on, set_scope};
 use crate::rules::Rules;
 use crate::slots::{Mark, Slot, Slots};
 use cc_ast::copy::{copy_program, copy_scope};
@@ -26,19 +26,36 @@ pub fn lay<R: Rules>(
     alloc: Global,
     rules: &R,
     step: u32,
-    base: Program,
+    base: Arc<Program>,
 ) -> Result<Laid<R>, AllocError>
-    requires { (R.work rules.now).fits step base }
-    ensures base { IfOk result (λ l. l.base.value ≡ base) }
-    ensures reading { IfOk result (λ l. l.reading ≡ base) }
-    ensures plan { IfOk result (λ l. l.plan.value ≡ (R.work rules.now).plan step base) }
-    ensures slots { IfOk result (λ l. slots_of base.scopes l.slots ≡ all_fresh base.scopes) }
+    requires { (R.work rules.now).fits step base.value }
+    ensures base { IfOk result (λ l. l.base.value ≡ base.value) }
+    ensures reading { IfOk result (λ l. l.reading ≡ base.value) }
+    ensures plan { IfOk result (λ l. l.plan.value ≡ (R.work rules.now).plan step base.value) }
+    ensures slots { IfOk result (λ l. slots_of base.value.scopes l.slots ≡ all_fresh base.value.scopes) }
 {
-    let reading = copy_program(alloc, &base)?;
-    let plan = rules.plan(alloc, step, &base)?;
-    let slots = Slots::fresh(alloc, base.scopes.len())?;
-    let base = Arc::new(alloc, base)?;
-    let plan = Arc::new(alloc, plan)?;
+    let Ok(plan) = plan_of(alloc, rules, step, &base) else {
+        return Err(AllocError);
+    };
+    with_plan(alloc, base, plan)
+}
+
+fn with_plan<R: Rules>(
+    alloc: Global,
+    base: Arc<Program>,
+    plan: Arc<R::Plan>,
+) -> Result<Laid<R>, AllocError>
+    ensures base { IfOk result (λ l. l.base.value ≡ base.value) }
+    ensures reading { IfOk result (λ l. l.reading ≡ base.value) }
+    ensures plan { IfOk result (λ l. l.plan.value ≡ plan.value) }
+    ensures slots { IfOk result (λ l. slots_of base.value.scopes l.slots ≡ all_fresh base.value.scopes) }
+{
+    let Ok(slots) = Slots::fresh(alloc, base.scopes.len()) else {
+        return Err(AllocError);
+    };
+    let Ok(reading) = copy_program(alloc, &base) else {
+        return Err(AllocError);
+    };
     Ok(Laid {
         base,
         reading,
@@ -47,13 +64,26 @@ pub fn lay<R: Rules>(
     })
 }
 
+fn plan_of<R: Rules>(
+    alloc: Global,
+    rules: &R,
+    step: u32,
+    base: &Program,
+) -> Result<Arc<R::Plan>, AllocError>
+    requires { (R.work rules.now).fits step base.now }
+    ensures { IfOk result (λ plan. plan.value ≡ (R.work rules.now).plan step base.now) }
+{
+    let plan = rules.plan(alloc, step, base)?;
+    handle_on(alloc, plan)
+}
+
 /// Puts the scope that a slot holds into the program.
-fn place(alloc: Global, program: &mut Program, slot: usize, mark: &Mark) -> Result<(), AllocError>
+fn place(program: &mut Program, slot: usize, mark: &Mark) -> Result<(), AllocError>
     requires { slot < length program.old.scopes }
     ensures { IfOk result (λ _. program.new ≡ with_scopes program.old (place_held slot mark.now program.old.scopes)) }
 {
     if let Mark::Held(scope) = mark {
-        set_scope(program, slot, copy_scope(alloc, scope)?);
+        set_scope(program, slot, copy_scope(scope)?);
     }
     Ok(())
 }
@@ -63,10 +93,22 @@ pub fn placed(alloc: Global, shown: &Program, slots: &[Slot]) -> Result<Program,
     requires { length slots.now ≡ length shown.now.scopes }
     ensures { IfOk result (λ p. p ≡ with_scopes shown.now (in_place shown.now.scopes (slots_of shown.now.scopes slots.now))) }
 {
-    let mut program = copy_program(alloc, shown)?;
+    let Ok(mut program) = copy_program(alloc, shown) else {
+        return Err(AllocError);
+    };
+    match place_all(&mut program, slots) {
+        Ok(()) => Ok(program),
+        Err(fault) => Err(fault),
+    }
+}
+
+fn place_all(program: &mut Program, slots: &[Slot]) -> Result<(), AllocError>
+    requires { length slots.now ≡ length program.old.scopes }
+    ensures { OnOk result (program.new ≡ with_scopes program.old (in_place program.old.scopes (slots_of program.old.scopes slots.now))) }
+{
     for i in 0..slots.len() {
         let slot = &slots[i];
-        place(alloc, &mut program, i, &slot.mark)?;
+        place(program, i, &slot.mark)?;
     }
-    Ok(program)
+    Ok(())
 }

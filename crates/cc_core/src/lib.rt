@@ -9,7 +9,7 @@ pub mod alone;
 pub mod bench;
 pub mod claim;
 mod laid;
-mod programs;
+pub mod programs;
 pub mod rules;
 pub mod shop;
 mod slots;

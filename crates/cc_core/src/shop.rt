@@ -1,15 +1,16 @@
 // The program under claims.
-ghost use Rattle.std.specs.Prelude.{◌≡◌, ℕ, ◌+◌, ◌<◌, ◌≤◌, ◌^◌, ◌==◌, List, Some, None, Ok, Err, IfOk, OnErr, IfSome, IfNone, is_some, ◌↔◌, slice_get, length, position};
+ghost use Rattle.std.specs.Prelude.{◌≡◌, ℕ, ◌+◌, ◌<◌, ◌≤◌, ◌^◌, ◌==◌, true, false, List, Some, None, Ok, Err, IfOk, OnErr, IfSome, IfNone, is_some, ◌↔◌, slice_get, length, position};
 ghost use Rattle.cc_core.specs.Events.{event, Claims, Repeats, Puts, GivesBack, Closes, IsRewrite, is_new, after_enter};
 ghost use Rattle.cc_core.specs.State.{reading, is_pending, is_claimed, undone, bench_of, Sound, started, pendings, is_done_at};
 ghost use Rattle.cc_core.specs.Work.{phase, or_stay};
+ghost use Rattle.cc_core.specs.ShopState.{GoesOn};
+ghost use Rattle.cc_core.specs.SlotState.{slots_of};
 
 use crate::bench::{Bench, lay_out};
 use crate::claim::Claim;
 use crate::laid::{Laid, lay, placed};
-use crate::programs::{exchange_heads, scope_of, set_scope};
+use crate::programs::{exchange_heads, handle_on, scope_of, set_scope};
 use crate::rules::Rules;
-use crate::slots::Slots;
 use cc_ast::program::{Program, Scope};
 use std::alloc::{AllocError, Global};
 use std::marker::Model;
@@ -52,6 +53,14 @@ fn or_stays(step: u32, next: &Option<u32>) -> u32
     }
 }
 
+/// What a close brings: whether a phase follows, and the step with what is laid out for it.
+#[derive(Drop)]
+struct Next<R: Rules> {
+    follows: bool,
+    step: u32,
+    laid: Laid<R>,
+}
+
 /// A program that is rewritten scope by scope under claims, phase after phase. Contracts see its
 /// rules and its state.
 #[derive(Drop)]
@@ -60,10 +69,7 @@ pub struct Shop<R: Rules> {
     source: Arc<Program>,
     closed: u32,
     step: u32,
-    base: Arc<Program>,
-    plan: Arc<R::Plan>,
-    reading: Program,
-    slots: Slots,
+    laid: Laid<R>,
 }
 
 impl<R: Rules> Model for Shop<R> {
@@ -76,9 +82,9 @@ impl<R: Rules> Model for Shop<R> {
 
     ghost use Rattle.cc_core.specs.ShopState.{state_of, Stands};
 
-    ghost view = { λ s. record { rules = s.rules.value; state = state_of s.source.value s.closed s.step s.base.value s.reading s.slots } };
+    ghost view = { λ s. record { rules = s.rules.value; state = state_of s.source.value s.closed s.step s.laid.base.value s.laid.reading s.laid.slots } };
 
-    ghost invariant = { λ s. Stands (R.work s.rules.value) (state_of s.source.value s.closed s.step s.base.value s.reading s.slots) s.plan.value s.reading };
+    ghost invariant = { λ s. Stands (R.work s.rules.value) (state_of s.source.value s.closed s.step s.laid.base.value s.laid.reading s.laid.slots) s.laid.plan.value s.laid.reading };
 }
 
 impl<R: Rules> Shop<R> {
@@ -91,23 +97,32 @@ impl<R: Rules> Shop<R> {
         requires few { length program.scopes < 2 ^ 32 }
         ensures { IfOk result (λ s. s ≡ record { rules = rules; state = started program }) }
     {
-        let Laid {
-            base,
-            reading,
-            plan,
-            slots,
-        } = lay(alloc, &rules, 0, program)?;
-        let source = Arc::try_clone(&base)?;
-        let rules = Arc::new(alloc, rules)?;
+        let Ok(base) = handle_on(alloc, program) else {
+            return Err(AllocError);
+        };
+        let Ok(rules) = handle_on(alloc, rules) else {
+            return Err(AllocError);
+        };
+        Shop::opened(alloc, rules, base)
+    }
+
+    fn opened(alloc: Global, rules: Arc<R>, base: Arc<Program>) -> Result<Shop<R>, AllocError>
+        requires fits { (R.work rules.value).fits 0 base.value }
+        requires few { length base.value.scopes < 2 ^ 32 }
+        ensures { IfOk result (λ s. s ≡ record { rules = rules.value; state = started base.value }) }
+    {
+        let Ok(source) = Arc::try_clone(&base) else {
+            return Err(AllocError);
+        };
+        let Ok(laid) = lay(alloc, &*rules, 0, base) else {
+            return Err(AllocError);
+        };
         Ok(Shop {
             rules,
             source,
             closed: 0,
             step: 0,
-            base,
-            plan,
-            reading,
-            slots,
+            laid,
         })
     }
 
@@ -118,7 +133,7 @@ impl<R: Rules> Shop<R> {
         ensures none { IfNone result (position is_pending self.old.state.slots ≡ None) }
     {
         let phase = self.closed;
-        let slot = self.slots.claim()?;
+        let slot = self.laid.slots.claim()?;
         Some(Claim {
             phase,
             slot,
@@ -134,7 +149,7 @@ impl<R: Rules> Shop<R> {
         ensures none { IfNone result (position is_claimed self.old.state.slots ≡ None) }
     {
         let phase = self.closed;
-        let slot = self.slots.repeat()?;
+        let slot = self.laid.slots.repeat()?;
         Some(Claim {
             phase,
             slot,
@@ -148,9 +163,14 @@ impl<R: Rules> Shop<R> {
         requires slot { claim.now.slot < length self.now.state.slots }
         ensures { IfOk result (λ y. IsRewrite (R.work self.now.rules) self.now.state claim.now.phase claim.now.slot y) }
     {
-        let alloc = self.slots.allocator();
+        let alloc = self.laid.slots.allocator();
         let slot = claim.slot;
-        self.rules.rewrite(alloc, &self.plan, slot, scope_of(&self.base, slot as usize))
+        self.rules.rewrite(
+            alloc,
+            &self.laid.plan,
+            slot,
+            scope_of(&self.laid.base, slot as usize),
+        )
     }
 
     /// Puts a slot's rewrite. The scope of a claim of an earlier phase is dropped.
@@ -171,13 +191,13 @@ impl<R: Rules> Shop<R> {
         }
         let slot = slot as usize;
         if self.rules.local(self.step) {
-            if self.slots.put(slot) {
-                set_scope(&mut self.reading, slot, scope);
+            if self.laid.slots.put(slot) {
+                set_scope(&mut self.laid.reading, slot, scope);
                 Put::New
             } else {
                 Put::Same
             }
-        } else if self.slots.hold(slot, scope) {
+        } else if self.laid.slots.hold(slot, scope) {
             Put::New
         } else {
             Put::Same
@@ -196,7 +216,7 @@ impl<R: Rules> Shop<R> {
             worker: _,
         } = claim;
         if phase == self.closed {
-            self.slots.give_back(slot as usize);
+            self.laid.slots.give_back(slot as usize);
         }
     }
 
@@ -207,7 +227,7 @@ impl<R: Rules> Shop<R> {
         requires room { (s : _) → slice_get self.old.state.slots claim.now.slot ≡ Some s → s.out + 1 < 2 ^ 32 }
         ensures { self.new ≡ record { rules = self.old.rules; state = after_enter claim.now.slot self.old.state } }
     {
-        self.slots.enter(claim.slot as usize);
+        self.laid.slots.enter(claim.slot as usize);
     }
 
     /// How many phases are closed.
@@ -222,57 +242,104 @@ impl<R: Rules> Shop<R> {
         requires { slot < length self.now.state.slots }
         ensures { result ≡ is_done_at slot self.now.state.slots }
     {
-        self.slots.is_done(slot)
+        self.laid.slots.is_done(slot)
     }
 
     /// How many slots there are.
     pub fn len(&self) -> usize
         ensures { result ≡ length self.now.state.slots }
     {
-        self.slots.len()
+        self.laid.slots.len()
     }
 
     /// How many slots are not done.
     pub fn undone(&self) -> u32
         ensures { result ≡ undone self.now.state.slots }
     {
-        self.slots.undone()
+        self.laid.slots.undone()
     }
 
     /// How many slots are pending.
     pub fn pending(&self) -> u32
         ensures { result ≡ length (pendings self.now.state.slots) }
     {
-        self.slots.pending()
+        self.laid.slots.pending()
     }
 
     /// The pending slot of a number, counted from 0 in ascending order.
     pub fn pending_slot(&self, k: u32) -> Option<u32>
         ensures { slice_get (pendings self.now.state.slots) k ≡ result }
     {
-        self.slots.pending_slot(k)
+        self.laid.slots.pending_slot(k)
     }
 
     /// The pending slots, in ascending order.
     pub fn pending_slots(&self) -> Result<Vec<u32>, AllocError>
         ensures { IfOk result (λ v. v.items ≡ pendings self.now.state.slots) }
     {
-        self.slots.pending_slots()
+        self.laid.slots.pending_slots()
     }
 
     /// The program after this phase.
-    fn after(&self) -> Result<Program, AllocError>
+    fn after(&self) -> Result<Arc<Program>, AllocError>
         requires { undone self.now.state.slots ≡ 0 }
-        ensures { IfOk result (λ p. p ≡ phase (R.work self.now.rules) self.now.state.step self.now.state.base) }
+        ensures { IfOk result (λ p. p.value ≡ phase (R.work self.now.rules) self.now.state.step self.now.state.base) }
     {
-        let alloc = self.slots.allocator();
-        let program = placed(alloc, &self.reading, self.slots.as_slice())?;
         let local = self.rules.local(self.step);
         if local {
-            return Ok(program);
+            self.after_local()
+        } else {
+            self.after_whole()
         }
-        let heads = self.rules.heads(alloc, &self.plan, &self.base)?;
-        Ok(exchange_heads(program, heads))
+    }
+
+    /// The program after a local phase.
+    fn after_local(&self) -> Result<Arc<Program>, AllocError>
+        requires none { undone self.now.state.slots ≡ 0 }
+        requires local { (R.work self.now.rules).local self.now.state.step ≡ true }
+        ensures { IfOk result (λ p. p.value ≡ phase (R.work self.now.rules) self.now.state.step self.now.state.base) }
+    {
+        let alloc = self.laid.slots.allocator();
+        let program = placed(alloc, &self.laid.reading, self.laid.slots.as_slice())?;
+        handle_on(alloc, program)
+    }
+
+    /// The program after a phase of the whole program.
+    fn after_whole(&self) -> Result<Arc<Program>, AllocError>
+        requires none { undone self.now.state.slots ≡ 0 }
+        requires whole { (R.work self.now.rules).local self.now.state.step ≡ false }
+        ensures { IfOk result (λ p. p.value ≡ phase (R.work self.now.rules) self.now.state.step self.now.state.base) }
+    {
+        let alloc = self.laid.slots.allocator();
+        let Ok(heads) = self.rules.heads(alloc, &self.laid.plan, &self.laid.base) else {
+            return Err(AllocError);
+        };
+        let Ok(mut program) = placed(alloc, &self.laid.reading, self.laid.slots.as_slice()) else {
+            return Err(AllocError);
+        };
+        exchange_heads(&mut program, heads);
+        handle_on(alloc, program)
+    }
+
+    /// Where the shop stands after this phase.
+    fn next(&self) -> Result<Next<R>, AllocError>
+        requires { undone self.now.state.slots ≡ 0 }
+        ensures follows { IfOk result (λ n. n.follows ≡ is_some ((R.work self.now.rules).next self.now.state.step self.now.state.base (phase (R.work self.now.rules) self.now.state.step self.now.state.base))) }
+        ensures goes_on { IfOk result (λ n. GoesOn (R.work self.now.rules) self.now.state n.step n.laid.base.value n.laid.plan.value n.laid.reading (slots_of n.laid.reading.scopes n.laid.slots)) }
+    {
+        let Ok(fresh) = self.after() else {
+            return Err(AllocError);
+        };
+        let next = self.rules.next(self.step, &self.laid.base, &fresh);
+        let step = or_stays(self.step, &next);
+        let Ok(laid) = lay(self.laid.slots.allocator(), &*self.rules, step, fresh) else {
+            return Err(AllocError);
+        };
+        Ok(Next {
+            follows: next.is_some(),
+            step,
+            laid,
+        })
     }
 
     /// Ends the phase, and says whether one follows. The shop then stands at its step, or where
@@ -289,29 +356,34 @@ impl<R: Rules> Shop<R> {
         if count > 0 {
             return Err(CloseFault::Undone { count });
         }
-        let fresh = self.after()?;
-        let next = self.rules.next(self.step, &self.base, &fresh);
-        let step = or_stays(self.step, &next);
-        let Laid {
-            base,
-            reading,
-            plan,
-            slots,
-        } = lay(self.slots.allocator(), &*self.rules, step, fresh)?;
+        let Ok(next) = self.next() else {
+            return Err(CloseFault::Memory);
+        };
+        let Next {
+            follows,
+            step,
+            laid,
+        } = next;
+        self.go_on(step, laid);
+        Ok(follows)
+    }
+
+    fn go_on(&mut self, step: u32, laid: Laid<R>)
+        requires room { self.old.state.closed + 1 < 2 ^ 32 }
+        requires none { undone self.old.state.slots ≡ 0 }
+        requires goes_on { GoesOn (R.work self.old.rules) self.old.state step laid.base.value laid.plan.value laid.reading (slots_of laid.reading.scopes laid.slots) }
+        ensures { self.new ≡ record { rules = self.old.rules; state = event (R.work self.old.rules) self.old.state Closes } }
+    {
         self.closed += 1;
         self.step = step;
-        self.base = base;
-        self.plan = plan;
-        self.reading = reading;
-        self.slots = slots;
-        Ok(next.is_some())
+        self.laid = laid;
     }
 
     /// The program as it stands.
     pub fn program(&self) -> &Program
         ensures { result.now ≡ reading (R.work self.now.rules) self.now.state }
     {
-        &self.reading
+        &self.laid.reading
     }
 
     /// The program as it stands, alone.
@@ -323,11 +395,14 @@ impl<R: Rules> Shop<R> {
             source: _,
             closed: _,
             step: _,
+            laid,
+        } = self;
+        let Laid {
             base: _,
             plan: _,
             reading,
             slots: _,
-        } = self;
+        } = laid;
         reading
     }
 
@@ -335,18 +410,24 @@ impl<R: Rules> Shop<R> {
     pub fn sound(&self)
         ensures { Sound (R.work self.now.rules) self.now.state }
     {
-        let _ = &self.reading;
+        let _ = &self.laid.reading;
     }
 
     /// What the workers of this phase share.
     pub fn bench(&self) -> Result<Bench<R>, AllocError>
         ensures { IfOk result (λ b. b ≡ bench_of self.now) }
     {
-        let rules = Arc::try_clone(&self.rules)?;
-        let base = Arc::try_clone(&self.base)?;
-        let plan = Arc::try_clone(&self.plan)?;
+        let Ok(rules) = Arc::try_clone(&self.rules) else {
+            return Err(AllocError);
+        };
+        let Ok(base) = Arc::try_clone(&self.laid.base) else {
+            return Err(AllocError);
+        };
+        let Ok(plan) = Arc::try_clone(&self.laid.plan) else {
+            return Err(AllocError);
+        };
         Ok(lay_out(
-            self.slots.allocator(),
+            self.laid.slots.allocator(),
             rules,
             base,
             plan,

@@ -8,7 +8,7 @@ ghost use Rattle.cc_cursor.specs.Keys as keys;
 ghost use Rattle.cc_cursor.specs.Shown as shown;
 
 use crate::lexeme::{Kind, is_spelled, spelling, units_of};
-use cc_ast::copy::table::CopyOf;
+use cc_ast::copy::CopyOf;
 use cc_ast::units::Units;
 use cc_grammar::word::Word;
 use cc_raw::tree::RawKey;

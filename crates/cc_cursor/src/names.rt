@@ -12,7 +12,7 @@ use crate::cursor::Cursor;
 use crate::error::{Cause, ReadError};
 use crate::lexeme::Kind;
 use crate::refused::{Due, refused_name};
-use cc_ast::copy::table::CopyOf;
+use cc_ast::copy::CopyOf;
 use cc_ast::units::Units;
 use cc_lexer::token::Mark;
 use cc_raw::tree::Named;

@@ -10,7 +10,8 @@ use Rattle.cc_driver.specs.declared.spelling.Piece.{Piece}
 use Rattle.cc_driver.specs.Form.{IsExterns, IsSource}
 use Rattle.cc_driver.specs.Source.{program_of}
 use Rattle.cc_driver.specs.Spelling.{spell_chunk, text_of}
-use Rattle.cc_driver.specs.Compile.{IsCompiled}
+use Rattle.cc_driver.specs.Compile.{IsOutput}
+use Rattle.cc_driver.specs.Output.{IsTextOf}
 use Rattle.cc_driver.specs.Naming.{IsNaming}
 use Rattle.cc_driver.specs.Sound.{AreSound}
 use Rattle.cc_driver.proofs.SourceLaws.{is_ascii_name, sound_ascii}
@@ -25,12 +26,16 @@ ascii_at [] e i = omega arith
 ascii_at (c ∷ cs) e zero = ltb-true c 128 (and_parts (nat_lt c 128) (is_ascii_name cs) e).0
 ascii_at (c ∷ cs) e (suc i) = ascii_at cs (and_parts (nat_lt c 128) (is_ascii_name cs) e).1 i
 
+-- the names of the globals are ASCII
+pub sound_globals_ascii : (file : List ℕ) (externs : List (List ℕ)) (size : ℕ) (ss : List Statement) → IsExterns file externs → AreSound externs ss → All (λ (g : GlobalInfo). IsAscii g.name) (program_of externs size ss).globals
+sound_globals_ascii file externs size ss h s =
+    All-weaker (λ (g : GlobalInfo). is_ascii_name g.name ≡ true) (λ (g : GlobalInfo). IsAscii g.name) (λ g e. ascii_at g.name e) (program_of externs size ss).globals (sound_ascii file externs size ss h s)
+
 -- the names that are printed are ASCII
 pub sound_printed_ascii : (file : List ℕ) (externs : List (List ℕ)) (size : ℕ) (ss : List Statement) (pieces : List Piece) (names : List (List ℕ)) → IsExterns file externs → AreSound externs ss
     → IsNaming (program_of externs size ss) pieces names → All IsAscii names
 sound_printed_ascii file externs size ss pieces names h s n =
-    names-ASCII (program_of externs size ss) pieces names n
-    (All-weaker (λ (g : GlobalInfo). is_ascii_name g.name ≡ true) (λ (g : GlobalInfo). IsAscii g.name) (λ g e. ascii_at g.name e) (program_of externs size ss).globals (sound_ascii file externs size ss h s))
+    names-ASCII (program_of externs size ss) pieces names n (sound_globals_ascii file externs size ss h s)
 
 pub printed_ascii : (file : List ℕ) (externs : List (List ℕ)) (text : List ℕ) (size : ℕ) (ss : List Statement) (pieces : List Piece) (names : List (List ℕ)) → IsExterns file externs → IsSource externs text ss
     → IsNaming (program_of externs size ss) pieces names → All IsAscii names
@@ -50,20 +55,13 @@ is_spelled externs text size ss s none = sound_is_spelled externs size ss (sound
 pub made_again : (externs : List (List ℕ)) (size : ℕ) (ss : List Statement) (P Q : Program) → AreSound externs ss → P ≡ program_of externs size ss → Q ≡ optimised P → Q ≡ program_of externs size (made_of ss)
 made_again externs size ss P Q s p q = q ∙ ap optimised p ∙ source_folds externs size ss s
 
-pub compiled_by : (file source out : List ℕ) (externs : List (List ℕ)) (ss : List Statement) (P Q : Program) (pieces : List Piece) (names : List (List ℕ)) → IsExterns file externs → IsSource externs source ss
-    → P ≡ program_of externs (length source) ss → Q ≡ optimised P → spell_chunk Q 0 ≡ Some pieces → IsNaming Q pieces names → out ≡ text_of names pieces → IsCompiled file source out
-compiled_by file source out externs ss P Q pieces names h s p q spelled named written =
-    let made : Q ≡ optimised (program_of externs (length source) ss) = q ∙ ap optimised p in
+pub output_by : (externs : List (List ℕ)) (size : ℕ) (ss : List Statement) (P Q : Program) (out : List ℕ) → P ≡ program_of externs size ss → Q ≡ optimised P → IsTextOf Q out → IsOutput externs size ss out
+output_by externs size ss P Q out p q text =
+    let made : Q ≡ optimised (program_of externs size ss) = q ∙ ap optimised p in
     record {
-      names = externs;
-      statements = ss;
-      of_externs = h;
-      of_source = s;
-      output = record {
-        pieces = pieces;
-        names = names;
-        spelled = subst (λ (z : Program). spell_chunk z 0 ≡ Some pieces) made spelled;
-        named = subst (λ (z : Program). IsNaming z pieces names) made named;
-        text = written;
-      };
+      pieces = text.pieces;
+      names = text.names;
+      spelled = subst (λ (z : Program). spell_chunk z 0 ≡ Some text.pieces) made text.spelled;
+      named = subst (λ (z : Program). IsNaming z text.pieces text.names) made text.named;
+      text = text.text;
     }

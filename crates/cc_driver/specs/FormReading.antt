@@ -3,6 +3,7 @@
 use Rattle.std.specs.Prelude.{◌≡◌, ℕ, zero, suc, ◌+◌, ◌*◌, ◌-◌, pos, Bool, not, nat_eq, nat_le, nat_lt, ◌||◌, ◌&&◌, List, [], ◌∷◌, ◌++◌, codes, length, take, drop, Option, None, Some, cond, Result, Ok, Err}
 use Rattle.std.specs.List.{prefix_len}
 use Rattle.std.specs.Str.{bytes_eq}
+use Rattle.std.specs.Borrow.{Bor}
 use Rattle.cc_driver.specs.Names.{between, is_name_part, starts_name, is_in, reserved_words, built_in_names, special_names}
 use Rattle.cc_driver.specs.Form.{is_plain, whole_limit, most_more}
 use Rattle.cc_driver.specs.declared.form.unread.Unread.{Unread}
@@ -136,6 +137,18 @@ abbrev pub Reads : {A : Type 0} → Reading A → Result A Unread → ℕ → Li
 Reads reading (Ok a) at rest = reading ≡ Some (a, at, rest)
 Reads reading (Err Form) at rest = reading ≡ None
 Reads reading (Err (Memory e)) at rest = Unit {0}
+
+-- the same for a function that gives the bytes of the text that are read
+abbrev pub ReadsBytes : Reading (List ℕ) → Result (Bor (List ℕ)) Unread → ℕ → List ℕ → Type 0
+ReadsBytes reading (Ok bytes) at rest = reading ≡ Some (bytes.now, at, rest)
+ReadsBytes reading (Err Form) at rest = reading ≡ None
+ReadsBytes reading (Err (Memory e)) at rest = Unit {0}
+
+-- the same for a function that adds what is read to what was found before
+abbrev pub Adds : {A : Type 0} → List A → Reading A → Result (Unit {0}) Unread → List A → ℕ → List ℕ → Type 0
+Adds {A} found reading (Ok u) after at rest = (a : A) × (reading ≡ Some (a, at, rest)) × (after ≡ found ++ a ∷ [])
+Adds found reading (Err Form) after at rest = reading ≡ None
+Adds found reading (Err (Memory e)) after at rest = Unit {0}
 
 abbrev pub Finds : {A : Type 0} → Option A → Result A Unread → Type 0
 Finds found (Ok a) = found ≡ Some a

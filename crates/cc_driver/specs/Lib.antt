@@ -10,6 +10,7 @@ pub mod Shapes
 pub mod Naming
 pub mod NamingSteps
 pub mod Compile
+pub mod Output
 pub mod Steps
 pub mod Status
 pub mod Again

@@ -1,14 +1,21 @@
 // The text that is written for externs and a source.
-ghost use Rattle.std.specs.Prelude.{IfOk, IfErr};
-ghost use Rattle.cc_driver.specs.Compile.{IsCompiled, IsRefused};
+ghost use Rattle.std.specs.Prelude.{◌≡◌, ◌≢◌, ℕ, List, None, IfOk, IfErr, All, length};
+ghost use Rattle.std.specs.Str.{IsAscii};
+ghost use Rattle.cc_driver.specs.Compile.{IsCompiled, IsOutput, IsRefused};
+ghost use Rattle.cc_driver.specs.Form.{IsExterns, IsSource};
+ghost use Rattle.cc_driver.specs.Output.{IsTextOf};
+ghost use Rattle.cc_driver.specs.Spelling.{spell_chunk};
 
-use crate::form::{read_externs, read_source};
+use crate::form::{Statement, read_externs, read_source};
 use crate::naming::name;
 use crate::outcome::Outcome;
 use crate::resolve::resolve;
 use crate::spelling::{spell, text};
+use cc_ast::program::Program;
+use cc_ast::units::Units;
 use cc_passes::optimise::optimise;
-use std::alloc::Global;
+use sqlite_items::Items;
+use std::alloc::{AllocError, Global};
 
 /// Reads externs and a source, resolves the program, puts it through the phases, names and spells it.
 pub fn output_of(alloc: Global, externs: &[u8], source: &[u8]) -> Result<Vec<u8>, Outcome>
@@ -21,11 +28,34 @@ pub fn output_of(alloc: Global, externs: &[u8], source: &[u8]) -> Result<Vec<u8>
     let Some(statements) = read_source(alloc, &extern_names, source)? else {
         return Err(Outcome::Unbuilt(2));
     };
-    let program = resolve(alloc, &extern_names, source.len(), &statements)?;
+    Ok(made(alloc, &extern_names, source.len(), &statements)?)
+}
+
+/// The text of what the phases make of a source of `size` bytes.
+fn made(
+    alloc: Global,
+    externs: &Items<Units>,
+    size: usize,
+    statements: &Items<Statement>,
+) -> Result<Vec<u8>, AllocError>
+    requires of_externs { (text : List ℕ) × IsExterns text externs.now }
+    requires of_source { (text : List ℕ) × (length text ≡ size) × IsSource externs.now text statements.now }
+    ensures { IfOk result (λ text. IsOutput externs.now size statements.now text.items) }
+{
+    let program = resolve(alloc, externs, size, statements)?;
     let program = optimise(alloc, program)?;
-    let Some(pieces) = spell(alloc, &program)? else {
+    Ok(written(alloc, &program)?)
+}
+
+/// The text of a program.
+fn written(alloc: Global, program: &Program) -> Result<Vec<u8>, AllocError>
+    requires spelled { spell_chunk program.now 0 ≢ None }
+    requires ascii { All (λ info. IsAscii info.name) program.now.globals }
+    ensures { IfOk result (λ text. IsTextOf program.now text.items) }
+{
+    let Some(pieces) = spell(alloc, program)? else {
         unreachable!()
     };
-    let names = name(alloc, &program, &pieces)?;
+    let names = name(alloc, program, &pieces)?;
     Ok(text(alloc, &names, &pieces)?)
 }

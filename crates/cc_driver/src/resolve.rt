@@ -7,6 +7,7 @@ ghost use Rattle.cc_ast.specs.StmtBridge.{term_stmt, term_stmts};
 ghost use Rattle.cc_driver.specs.Form.{IsExterns, IsSource};
 ghost use Rattle.cc_driver.specs.FormChecks.{names_in};
 ghost use Rattle.cc_driver.specs.Source as source;
+ghost use Rattle.cc_meaning.specs.Names.{always_kept};
 ghost use Rattle.cc_driver.specs.Reach.{reach, names_of, program_with};
 ghost use Rattle.std.specs.List.{IsDistinct};
 ghost use Rattle.std.specs.Str.{bytes_eq};
@@ -14,13 +15,14 @@ ghost use Rattle.std.specs.Str.{bytes_eq};
 mod globals;
 mod kept;
 
-use crate::form::{Operand, Statement, Value};
+use crate::form::{Added, Operand, Statement, Value};
 use crate::names::{NameTable, name_number};
 use crate::resolve::globals::{global_table, globals_of};
 use crate::resolve::kept::kept_names;
 use cc_ast::operator::BinOp;
 use cc_ast::place::Place;
-use cc_ast::program::{Program, Scope};
+use cc_ast::program::{Heads, Program, Scope};
+use cc_ast::shared::Shared;
 use cc_ast::tables::{ChunkInfo, ChunkName, GlobalInfo, SiteDoc};
 use cc_ast::tree::{Declarator, Expr, Ref, Stmt};
 use cc_ast::units::Units;
@@ -43,36 +45,67 @@ fn global_ref(table: &NameTable<'_>, name: &Units) -> Ref
 }
 
 #[tactic(auto, using(cc_ast::specs::Terms::steps))]
-fn operand_tree(alloc: Global, table: &NameTable<'_>, operand: &Operand) -> Result<Expr, AllocError>
+fn operand_tree(
+    alloc: Global,
+    table: &NameTable<'_>,
+    operand: &Operand,
+) -> Result<Boxed<Expr>, AllocError>
     requires { length (names_in table.now) < 2 ^ 32 }
     ensures { IfOk result (λ tree. term tree ≡ source.operand_tree (names_in table.now) operand.now) }
 {
     match operand {
-        Operand::Named(at, name) => Ok(Expr::Var(*at, global_ref(table, name))),
-        Operand::Text(at, text) => Ok(Expr::Text(*at, copy_units(alloc, text)?)),
-        Operand::Whole(at, number) => Ok(Expr::Whole(*at, *number)),
+        Operand::Named(at, name) => Boxed::new(alloc, Expr::Var(*at, global_ref(table, name))),
+        Operand::Text(at, text) => text_tree(alloc, *at, text),
+        Operand::Whole(at, number) => Boxed::new(alloc, Expr::Whole(*at, *number)),
     }
 }
 
 #[tactic(auto, using(cc_ast::specs::Terms::steps))]
-fn sum(alloc: Global, plus: u32, left: Expr, right: Expr) -> Result<Expr, AllocError>
-    ensures { IfOk result (λ tree. term tree ≡ S.binary plus BinOp.Add (term left) (term right)) }
+fn text_tree(alloc: Global, at: u32, text: &Units) -> Result<Boxed<Expr>, AllocError>
+    ensures { IfOk result (λ tree. term tree ≡ S.lit at (S.text text.now)) }
 {
-    let left = Boxed::new(alloc, left)?;
-    let right = Boxed::new(alloc, right)?;
-    Ok(Expr::Binary(plus, BinOp::Add, left, right))
+    let text = copy_units(alloc, text)?;
+    Boxed::new(alloc, Expr::Text(at, text))
 }
 
-fn value_tree(alloc: Global, table: &NameTable<'_>, value: &Value) -> Result<Expr, AllocError>
+#[tactic(auto, using(cc_ast::specs::Terms::steps))]
+fn sum(
+    alloc: Global,
+    plus: u32,
+    left: Boxed<Expr>,
+    right: Boxed<Expr>,
+) -> Result<Boxed<Expr>, AllocError>
+    ensures { IfOk result (λ tree. term tree ≡ S.binary plus BinOp.Add (term left) (term right)) }
+{
+    Boxed::new(alloc, Expr::Binary(plus, BinOp::Add, left, right))
+}
+
+fn value_tree(
+    alloc: Global,
+    table: &NameTable<'_>,
+    value: &Value,
+) -> Result<Boxed<Expr>, AllocError>
     requires { length (names_in table.now) < 2 ^ 32 }
     ensures { IfOk result (λ tree. term tree ≡ source.value_tree (names_in table.now) value.now) }
 {
     let mut tree = operand_tree(alloc, table, &value.first)?;
     for added in value.more.as_slice() {
-        let right = operand_tree(alloc, table, &added.operand)?;
-        tree = sum(alloc, added.plus, tree, right)?;
+        tree = added_tree(alloc, table, tree, added)?;
     }
     Ok(tree)
+}
+
+fn added_tree(
+    alloc: Global,
+    table: &NameTable<'_>,
+    left: Boxed<Expr>,
+    added: &Added,
+) -> Result<Boxed<Expr>, AllocError>
+    requires { length (names_in table.now) < 2 ^ 32 }
+    ensures { IfOk result (λ tree. term tree ≡ S.binary added.now.plus BinOp.Add (term left) (source.operand_tree (names_in table.now) added.now.operand)) }
+{
+    let right = operand_tree(alloc, table, &added.operand)?;
+    sum(alloc, added.plus, left, right)
 }
 
 fn value_trees(
@@ -85,7 +118,12 @@ fn value_trees(
 {
     let mut trees = Items::new(alloc);
     for value in values {
-        trees.push(value_tree(alloc, table, value)?)?;
+        let Ok(tree) = value_tree(alloc, table, value) else {
+            return Err(AllocError);
+        };
+        let Ok(()) = trees.push(tree.into_inner()) else {
+            return Err(AllocError);
+        };
     }
     Ok(trees)
 }
@@ -126,7 +164,8 @@ fn call_tree(
     let callee = Boxed::new(alloc, Expr::Var(at, global_ref(table, name)))?;
     let arguments = value_trees(alloc, table, values.as_slice())?;
     let site = at + name.list.len() as u32;
-    Ok(Stmt::Simple(at, Expr::Call(site, callee, arguments)))
+    let call = Boxed::new(alloc, Expr::Call(site, callee, arguments))?;
+    Ok(Stmt::Simple(at, call))
 }
 
 fn statement_tree(
@@ -155,7 +194,12 @@ fn statement_trees(
 {
     let mut trees = Items::new(alloc);
     for statement in statements {
-        trees.push(statement_tree(alloc, table, statement)?)?;
+        let Ok(tree) = statement_tree(alloc, table, statement) else {
+            return Err(AllocError);
+        };
+        let Ok(()) = trees.push(tree) else {
+            return Err(AllocError);
+        };
     }
     Ok(trees)
 }
@@ -211,7 +255,7 @@ fn only<T: Drop>(alloc: Global, item: T) -> Result<Items<T>, AllocError>
     Ok(all)
 }
 
-fn main_scope(body: Items<Stmt>) -> Scope
+fn main_scope(body: Shared<Items<Stmt>>) -> Scope
     ensures { result ≡ record { params = 0; names = 0; own = false; body = term_stmts body; parent = None; doc = 0 } }
 {
     Scope {
@@ -224,6 +268,99 @@ fn main_scope(body: Items<Stmt>) -> Scope
     }
 }
 
+fn main_scopes(alloc: Global, body: Items<Stmt>) -> Result<Items<Scope>, AllocError>
+    ensures { IfOk result (λ scopes. scopes ≡ record { params = 0; names = 0; own = false; body = term_stmts body; parent = None; doc = 0 } ∷ []) }
+{
+    let body = Shared::new(alloc, body)?;
+    only(alloc, main_scope(body))
+}
+
+fn shared_one<T: Drop>(alloc: Global, item: T) -> Result<Shared<Items<T>>, AllocError>
+    ensures { IfOk result (λ all. all ≡ item ∷ []) }
+{
+    let all = only(alloc, item)?;
+    Shared::new(alloc, all)
+}
+
+fn shared_none<T: Drop>(alloc: Global) -> Result<Shared<Items<T>>, AllocError>
+    ensures { IfOk result (λ all. all ≡ []) }
+{
+    Shared::new(alloc, Items::new(alloc))
+}
+
+fn main_chunks(alloc: Global) -> Result<Shared<Items<ChunkInfo>>, AllocError>
+    ensures { IfOk result (λ chunks. chunks ≡ source.main_chunk ∷ []) }
+{
+    let chunk = main_chunk(alloc)?;
+    shared_one(alloc, chunk)
+}
+
+fn shared_kept(alloc: Global) -> Result<Shared<Items<Units>>, AllocError>
+    ensures { IfOk result (λ names. names ≡ always_kept) }
+{
+    let names = kept_names(alloc)?;
+    Shared::new(alloc, names)
+}
+
+fn shared_places(alloc: Global, size: usize) -> Result<Shared<Items<Place>>, AllocError>
+    requires { size ≤ 16777216 }
+    ensures { IfOk result (λ places. places ≡ source.places_from 0 size) }
+{
+    let places = places(alloc, size)?;
+    Shared::new(alloc, places)
+}
+
+// The tables that no statement changes, beside the heads.
+#[derive(Drop)]
+struct Tables {
+    chunks: Shared<Items<ChunkInfo>>,
+    kept: Shared<Items<Units>>,
+    places: Shared<Items<Place>>,
+}
+
+fn tables_with(alloc: Global, size: usize) -> Result<Tables, AllocError>
+    requires { size ≤ 16777216 }
+    ensures { IfOk result (λ tables. tables ≡ record { chunks = source.main_chunk ∷ []; kept = always_kept; places = source.places_from 0 size }) }
+{
+    let Ok(chunks) = main_chunks(alloc) else {
+        return Err(AllocError);
+    };
+    let Ok(kept) = shared_kept(alloc) else {
+        return Err(AllocError);
+    };
+    let Ok(places) = shared_places(alloc, size) else {
+        return Err(AllocError);
+    };
+    Ok(Tables {
+        chunks,
+        kept,
+        places,
+    })
+}
+
+fn heads_with(alloc: Global, globals: Items<GlobalInfo>) -> Result<Heads, AllocError>
+    ensures { IfOk result (λ heads. heads ≡ record { globals = globals; props = []; classes = []; docs = source.no_doc ∷ [] }) }
+{
+    let Ok(globals) = Shared::new(alloc, globals) else {
+        return Err(AllocError);
+    };
+    let Ok(props) = shared_none(alloc) else {
+        return Err(AllocError);
+    };
+    let Ok(classes) = shared_none(alloc) else {
+        return Err(AllocError);
+    };
+    let Ok(docs) = shared_one(alloc, no_doc(alloc)) else {
+        return Err(AllocError);
+    };
+    Ok(Heads {
+        globals,
+        props,
+        classes,
+        docs,
+    })
+}
+
 fn program_with(
     alloc: Global,
     globals: Items<GlobalInfo>,
@@ -233,15 +370,24 @@ fn program_with(
     requires { size ≤ 16777216 }
     ensures { IfOk result (λ program. program ≡ program_with globals (term_stmts body) size) }
 {
+    let Ok(scopes) = main_scopes(alloc, body) else {
+        return Err(AllocError);
+    };
+    let Ok(tables) = tables_with(alloc, size) else {
+        return Err(AllocError);
+    };
+    let Ok(heads) = heads_with(alloc, globals) else {
+        return Err(AllocError);
+    };
     Ok(Program {
-        scopes: only(alloc, main_scope(body))?,
-        chunks: only(alloc, main_chunk(alloc)?)?,
-        globals,
-        props: Items::new(alloc),
-        kept: kept_names(alloc)?,
-        classes: Items::new(alloc),
-        places: places(alloc, size)?,
-        docs: only(alloc, no_doc(alloc))?,
+        scopes,
+        chunks: tables.chunks,
+        globals: heads.globals,
+        props: heads.props,
+        kept: tables.kept,
+        classes: heads.classes,
+        places: tables.places,
+        docs: heads.docs,
     })
 }
 
@@ -256,8 +402,7 @@ fn body_of(
     ensures { IfOk result (λ trees. map term_stmt trees ≡ map (source.statement_tree (names_of globals.now)) statements.now) }
 {
     let table = global_table(alloc, globals)?;
-    let trees = statement_trees(alloc, &table, statements.as_slice())?;
-    Ok(trees)
+    statement_trees(alloc, &table, statements.as_slice())
 }
 
 /// The program that a source of `size` bytes is.

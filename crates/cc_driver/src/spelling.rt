@@ -30,7 +30,7 @@ pub fn spell(alloc: Global, program: &Program) -> Result<Option<Items<Piece>>, A
     match program.scopes.get(0) {
         None => Ok(Some(pieces)),
         Some(scope) => {
-            if push_statements(alloc, &mut pieces, scope.body.as_slice())? {
+            if push_statements(alloc, &mut pieces, scope.body.get().as_slice())? {
                 Ok(Some(pieces))
             } else {
                 Ok(None)

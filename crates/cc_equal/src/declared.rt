@@ -1,25 +1,25 @@
 // Whether declarators, and what a `for` begins with, are the same.
 ghost use Rattle.std.specs.Prelude.{◌≡◌, ◌↔◌, IsTrue};
 
-use crate::expression::{same_bare_target, same_expr};
+use crate::expression::{same_boxed, same_boxed_target};
 use crate::parts::same_units;
 use cc_ast::tree::{Declarator, Expr, ForInit, ForTarget};
 use cc_ast::units::Units;
-use sqlite_items::Items;
+use sqlite_items::{Boxed, Items};
 
-pub(crate) fn same_option(a: &Option<Expr>, b: &Option<Expr>) -> bool
+pub(crate) fn same_option(a: &Option<Boxed<Expr>>, b: &Option<Boxed<Expr>>) -> bool
     ensures { IsTrue result ↔ (a.now ≡ b.now) }
 {
     match a {
         None => b.is_none(),
         Some(e) => match b {
             None => false,
-            Some(f) => same_expr(e, f),
+            Some(f) => same_boxed(e, f),
         },
     }
 }
 
-pub(crate) fn same_label(a: &Option<Units>, b: &Option<Units>) -> bool
+pub(crate) fn same_jump_label(a: &Option<Units>, b: &Option<Units>) -> bool
     ensures { IsTrue result ↔ (a.now ≡ b.now) }
 {
     match a {
@@ -60,7 +60,7 @@ pub(crate) fn same_init(a: &ForInit, b: &ForInit) -> bool
     match a {
         ForInit::Nothing => matches!(b, ForInit::Nothing),
         ForInit::Value(e) => match b {
-            ForInit::Value(f) => same_expr(e, f),
+            ForInit::Value(f) => same_boxed(e, f),
             _ => false,
         },
         ForInit::Declared(ds) => match b {
@@ -75,12 +75,12 @@ pub(crate) fn same_for_target(a: &ForTarget, b: &ForTarget) -> bool
 {
     match a {
         ForTarget::Target(t) => match b {
-            ForTarget::Target(u) => same_bare_target(t, u),
+            ForTarget::Target(u) => same_boxed_target(t, u),
             ForTarget::Declared(_) => false,
         },
         ForTarget::Declared(d) => match b {
             ForTarget::Target(_) => false,
-            ForTarget::Declared(e) => same_declarator(d, e),
+            ForTarget::Declared(e) => same_declarator(d.get(), e.get()),
         },
     }
 }

@@ -1,157 +1,315 @@
-// Whether expressions are the same.
+// Whether expressions are the same. The contract of a function for one variant speaks of the trees whose
+// second one is of this variant.
 ghost use Rattle.std.specs.Prelude.{◌≡◌, ◌↔◌, IsTrue};
 
-use crate::expression_views as view;
-use crate::parts::{same_key, same_operator, same_units};
+use crate::leaf::{
+    same_fun, same_null, same_text, same_this, same_truth, same_undefined, same_var, same_whole,
+};
+use crate::parts::{same_key, same_operator};
 use cc_ast::tree::{Expr, Key, Target};
 use sqlite_items::{Boxed, Items};
 
 #[cycle(expression)]
-pub(crate) fn same_expr(a: &Expr, b: &Expr) -> bool
+fn same_expr(a: &Expr, b: &Expr) -> bool
     ensures { IsTrue result ↔ (a.now ≡ b.now) }
 {
-    match a {
-        Expr::Undefined(s) => match view::undefined_of(b) {
-            Some(s2) => *s == s2,
-            None => false,
-        },
-        Expr::Null(s) => match view::null_of(b) {
-            Some(s2) => *s == s2,
-            None => false,
-        },
-        Expr::Truth(s, v) => match view::truth_of(b) {
-            Some((s2, v2)) => *s == s2 && *v == v2,
-            None => false,
-        },
-        Expr::Whole(s, v) => match view::whole_of(b) {
-            Some((s2, v2)) => *s == s2 && *v == v2,
-            None => false,
-        },
-        Expr::Text(s, t) => match view::text_of(b) {
-            Some((s2, t2)) => *s == s2 && same_units(t, t2),
-            None => false,
-        },
-        Expr::Var(s, v) => match view::var_of(b) {
-            Some((s2, v2)) => *s == s2 && *v == v2,
-            None => false,
-        },
-        Expr::This(s) => match view::this_of(b) {
-            Some(s2) => *s == s2,
-            None => false,
-        },
-        Expr::Fun(s, f) => match view::fun_of(b) {
-            Some((s2, f2)) => *s == s2 && *f == f2,
-            None => false,
-        },
-        Expr::List(s, es) => match view::list_of(b) {
-            Some((s2, es2)) => *s == s2 && same_exprs(es, es2),
-            None => false,
-        },
-        Expr::Object(s, fs) => match view::object_of(b) {
-            Some((s2, fs2)) => *s == s2 && same_fields(fs, fs2),
-            None => false,
-        },
-        Expr::Unary(s, op, a) => match view::unary_of(b) {
-            Some((s2, op2, a2)) => *s == s2 && *op == op2 && same_boxed(a, a2),
-            None => false,
-        },
-        Expr::Binary(s, op, a, c) => match view::binary_of(b) {
-            Some((s2, op2, a2, c2)) => *s == s2
-                && *op == op2
-                && same_boxed(a, a2)
-                && same_boxed(c, c2),
-            None => false,
-        },
-        Expr::And(s, a, c) => match view::and_of(b) {
-            Some((s2, a2, c2)) => *s == s2 && same_boxed(a, a2) && same_boxed(c, c2),
-            None => false,
-        },
-        Expr::Or(s, a, c) => match view::or_of(b) {
-            Some((s2, a2, c2)) => *s == s2 && same_boxed(a, a2) && same_boxed(c, c2),
-            None => false,
-        },
-        Expr::Cond(s, t, a, c) => match view::cond_of(b) {
-            Some((s2, t2, a2, c2)) => {
-                *s == s2 && same_boxed(t, t2) && same_boxed(a, a2) && same_boxed(c, c2)
-            }
-            None => false,
-        },
-        Expr::Assign(s, op, t, a) => match view::assign_of(b) {
-            Some((s2, op2, t2, a2)) => {
-                *s == s2 && same_operator(*op, op2) && same_target(t, t2) && same_boxed(a, a2)
-            }
-            None => false,
-        },
-        Expr::Step(s, up, prefix, t) => match view::step_of(b) {
-            Some((s2, up2, prefix2, t2)) => *s == s2
-                && *up == up2
-                && *prefix == prefix2
-                && same_target(t, t2),
-            None => false,
-        },
-        Expr::Member(s, a, p) => match view::member_of(b) {
-            Some((s2, a2, p2)) => *s == s2 && same_boxed(a, a2) && *p == p2,
-            None => false,
-        },
-        Expr::Index(s, a, c) => match view::index_of(b) {
-            Some((s2, a2, c2)) => *s == s2 && same_boxed(a, a2) && same_boxed(c, c2),
-            None => false,
-        },
-        Expr::Call(s, f, es) => match view::call_of(b) {
-            Some((s2, f2, es2)) => *s == s2 && same_boxed(f, f2) && same_exprs(es, es2),
-            None => false,
-        },
-        Expr::New(s, f, es) => match view::new_of(b) {
-            Some((s2, f2, es2)) => *s == s2 && same_boxed(f, f2) && same_exprs(es, es2),
-            None => false,
-        },
-        Expr::Comma(s, a, c) => match view::comma_of(b) {
-            Some((s2, a2, c2)) => *s == s2 && same_boxed(a, a2) && same_boxed(c, c2),
-            None => false,
-        },
-        Expr::Cast(s, d, a) => match view::cast_of(b) {
-            Some((s2, d2, a2)) => *s == s2 && *d == d2 && same_boxed(a, a2),
-            None => false,
-        },
-        Expr::Tick(s, p, a) => match view::tick_of(b) {
-            Some((s2, p2, a2)) => *s == s2 && *p == p2 && same_boxed(a, a2),
-            None => false,
-        },
+    match b {
+        Expr::Undefined(..) => same_undefined(a, b),
+        Expr::Null(..) => same_null(a, b),
+        Expr::Truth(..) => same_truth(a, b),
+        Expr::Whole(..) => same_whole(a, b),
+        Expr::Text(..) => same_text(a, b),
+        Expr::Var(..) => same_var(a, b),
+        Expr::This(..) => same_this(a, b),
+        Expr::Fun(..) => same_fun(a, b),
+        Expr::List(..) => same_list(a, b),
+        Expr::Object(..) => same_object(a, b),
+        Expr::Unary(..) => same_unary(a, b),
+        Expr::Binary(..) => same_binary(a, b),
+        Expr::And(..) => same_and(a, b),
+        Expr::Or(..) => same_or(a, b),
+        Expr::Cond(..) => same_cond(a, b),
+        Expr::Assign(..) => same_assign(a, b),
+        Expr::Step(..) => same_step(a, b),
+        Expr::Member(..) => same_member(a, b),
+        Expr::Index(..) => same_index(a, b),
+        Expr::Call(..) => same_call(a, b),
+        Expr::New(..) => same_new(a, b),
+        Expr::Comma(..) => same_comma(a, b),
+        Expr::Cast(..) => same_cast(a, b),
+        Expr::Tick(..) => same_tick(a, b),
     }
 }
 
 #[cycle(expression)]
-fn same_boxed(a: &Boxed<Expr>, b: &Boxed<Expr>) -> bool
+pub(crate) fn same_boxed(a: &Boxed<Expr>, b: &Boxed<Expr>) -> bool
     ensures { IsTrue result ↔ (a.now ≡ b.now) }
 {
     same_expr(a.get(), b.get())
 }
 
 #[cycle(expression)]
-fn same_target(a: &Boxed<Target>, b: &Boxed<Target>) -> bool
-    ensures { IsTrue result ↔ (a.now ≡ b.now) }
+fn same_list(a: &Expr, b: &Expr) -> bool
+    ensures { (s : _) (x : _) → b.now ≡ Expr.List s x → (IsTrue result ↔ (a.now ≡ b.now)) }
 {
-    same_bare_target(a.get(), b.get())
+    let Expr::List(s, x) = a else {
+        return false;
+    };
+    let Expr::List(t, u) = b else {
+        return false;
+    };
+    *s == *t && same_exprs(x, u)
 }
 
 #[cycle(expression)]
-pub(crate) fn same_bare_target(a: &Target, b: &Target) -> bool
+fn same_object(a: &Expr, b: &Expr) -> bool
+    ensures { (s : _) (x : _) → b.now ≡ Expr.Object s x → (IsTrue result ↔ (a.now ≡ b.now)) }
+{
+    let Expr::Object(s, x) = a else {
+        return false;
+    };
+    let Expr::Object(t, u) = b else {
+        return false;
+    };
+    *s == *t && same_fields(x, u)
+}
+
+#[cycle(expression)]
+fn same_unary(a: &Expr, b: &Expr) -> bool
+    ensures { (s : _) (x : _) (y : _) → b.now ≡ Expr.Unary s x y → (IsTrue result ↔ (a.now ≡ b.now)) }
+{
+    let Expr::Unary(s, x, y) = a else {
+        return false;
+    };
+    let Expr::Unary(t, u, v) = b else {
+        return false;
+    };
+    *s == *t && *x == *u && same_boxed(y, v)
+}
+
+#[cycle(expression)]
+fn same_binary(a: &Expr, b: &Expr) -> bool
+    ensures { (s : _) (x : _) (y : _) (z : _) → b.now ≡ Expr.Binary s x y z → (IsTrue result ↔ (a.now ≡ b.now)) }
+{
+    let Expr::Binary(s, x, y, z) = a else {
+        return false;
+    };
+    let Expr::Binary(t, u, v, w) = b else {
+        return false;
+    };
+    *s == *t && *x == *u && same_boxed(y, v) && same_boxed(z, w)
+}
+
+#[cycle(expression)]
+fn same_and(a: &Expr, b: &Expr) -> bool
+    ensures { (s : _) (x : _) (y : _) → b.now ≡ Expr.And s x y → (IsTrue result ↔ (a.now ≡ b.now)) }
+{
+    let Expr::And(s, x, y) = a else {
+        return false;
+    };
+    let Expr::And(t, u, v) = b else {
+        return false;
+    };
+    *s == *t && same_boxed(x, u) && same_boxed(y, v)
+}
+
+#[cycle(expression)]
+fn same_or(a: &Expr, b: &Expr) -> bool
+    ensures { (s : _) (x : _) (y : _) → b.now ≡ Expr.Or s x y → (IsTrue result ↔ (a.now ≡ b.now)) }
+{
+    let Expr::Or(s, x, y) = a else {
+        return false;
+    };
+    let Expr::Or(t, u, v) = b else {
+        return false;
+    };
+    *s == *t && same_boxed(x, u) && same_boxed(y, v)
+}
+
+#[cycle(expression)]
+fn same_cond(a: &Expr, b: &Expr) -> bool
+    ensures { (s : _) (x : _) (y : _) (z : _) → b.now ≡ Expr.Cond s x y z → (IsTrue result ↔ (a.now ≡ b.now)) }
+{
+    let Expr::Cond(s, x, y, z) = a else {
+        return false;
+    };
+    let Expr::Cond(t, u, v, w) = b else {
+        return false;
+    };
+    *s == *t && same_boxed(x, u) && same_boxed(y, v) && same_boxed(z, w)
+}
+
+#[cycle(expression)]
+fn same_assign(a: &Expr, b: &Expr) -> bool
+    ensures { (s : _) (x : _) (y : _) (z : _) → b.now ≡ Expr.Assign s x y z → (IsTrue result ↔ (a.now ≡ b.now)) }
+{
+    let Expr::Assign(s, x, y, z) = a else {
+        return false;
+    };
+    let Expr::Assign(t, u, v, w) = b else {
+        return false;
+    };
+    *s == *t && same_operator(*x, *u) && same_boxed_target(y, v) && same_boxed(z, w)
+}
+
+#[cycle(expression)]
+fn same_step(a: &Expr, b: &Expr) -> bool
+    ensures { (s : _) (x : _) (y : _) (z : _) → b.now ≡ Expr.Step s x y z → (IsTrue result ↔ (a.now ≡ b.now)) }
+{
+    let Expr::Step(s, x, y, z) = a else {
+        return false;
+    };
+    let Expr::Step(t, u, v, w) = b else {
+        return false;
+    };
+    *s == *t && *x == *u && *y == *v && same_boxed_target(z, w)
+}
+
+#[cycle(expression)]
+fn same_member(a: &Expr, b: &Expr) -> bool
+    ensures { (s : _) (x : _) (y : _) → b.now ≡ Expr.Member s x y → (IsTrue result ↔ (a.now ≡ b.now)) }
+{
+    let Expr::Member(s, x, y) = a else {
+        return false;
+    };
+    let Expr::Member(t, u, v) = b else {
+        return false;
+    };
+    *s == *t && same_boxed(x, u) && *y == *v
+}
+
+#[cycle(expression)]
+fn same_index(a: &Expr, b: &Expr) -> bool
+    ensures { (s : _) (x : _) (y : _) → b.now ≡ Expr.Index s x y → (IsTrue result ↔ (a.now ≡ b.now)) }
+{
+    let Expr::Index(s, x, y) = a else {
+        return false;
+    };
+    let Expr::Index(t, u, v) = b else {
+        return false;
+    };
+    *s == *t && same_boxed(x, u) && same_boxed(y, v)
+}
+
+#[cycle(expression)]
+fn same_call(a: &Expr, b: &Expr) -> bool
+    ensures { (s : _) (x : _) (y : _) → b.now ≡ Expr.Call s x y → (IsTrue result ↔ (a.now ≡ b.now)) }
+{
+    let Expr::Call(s, x, y) = a else {
+        return false;
+    };
+    let Expr::Call(t, u, v) = b else {
+        return false;
+    };
+    *s == *t && same_boxed(x, u) && same_exprs(y, v)
+}
+
+#[cycle(expression)]
+fn same_new(a: &Expr, b: &Expr) -> bool
+    ensures { (s : _) (x : _) (y : _) → b.now ≡ Expr.New s x y → (IsTrue result ↔ (a.now ≡ b.now)) }
+{
+    let Expr::New(s, x, y) = a else {
+        return false;
+    };
+    let Expr::New(t, u, v) = b else {
+        return false;
+    };
+    *s == *t && same_boxed(x, u) && same_exprs(y, v)
+}
+
+#[cycle(expression)]
+fn same_comma(a: &Expr, b: &Expr) -> bool
+    ensures { (s : _) (x : _) (y : _) → b.now ≡ Expr.Comma s x y → (IsTrue result ↔ (a.now ≡ b.now)) }
+{
+    let Expr::Comma(s, x, y) = a else {
+        return false;
+    };
+    let Expr::Comma(t, u, v) = b else {
+        return false;
+    };
+    *s == *t && same_boxed(x, u) && same_boxed(y, v)
+}
+
+#[cycle(expression)]
+fn same_cast(a: &Expr, b: &Expr) -> bool
+    ensures { (s : _) (x : _) (y : _) → b.now ≡ Expr.Cast s x y → (IsTrue result ↔ (a.now ≡ b.now)) }
+{
+    let Expr::Cast(s, x, y) = a else {
+        return false;
+    };
+    let Expr::Cast(t, u, v) = b else {
+        return false;
+    };
+    *s == *t && *x == *u && same_boxed(y, v)
+}
+
+#[cycle(expression)]
+fn same_tick(a: &Expr, b: &Expr) -> bool
+    ensures { (s : _) (x : _) (y : _) → b.now ≡ Expr.Tick s x y → (IsTrue result ↔ (a.now ≡ b.now)) }
+{
+    let Expr::Tick(s, x, y) = a else {
+        return false;
+    };
+    let Expr::Tick(t, u, v) = b else {
+        return false;
+    };
+    *s == *t && *x == *u && same_boxed(y, v)
+}
+
+#[cycle(expression)]
+fn same_target(a: &Target, b: &Target) -> bool
     ensures { IsTrue result ↔ (a.now ≡ b.now) }
 {
-    match a {
-        Target::Variable(s, v) => match view::variable_of(b) {
-            Some((s2, v2)) => *s == s2 && *v == v2,
-            None => false,
-        },
-        Target::Dotted(s, o, p) => match view::dotted_of(b) {
-            Some((s2, o2, p2)) => *s == s2 && same_boxed(o, o2) && *p == p2,
-            None => false,
-        },
-        Target::Bracketed(s, o, k) => match view::bracketed_of(b) {
-            Some((s2, o2, k2)) => *s == s2 && same_boxed(o, o2) && same_boxed(k, k2),
-            None => false,
-        },
+    match b {
+        Target::Variable(..) => same_variable(a, b),
+        Target::Dotted(..) => same_dotted(a, b),
+        Target::Bracketed(..) => same_bracketed(a, b),
     }
+}
+
+#[cycle(expression)]
+pub(crate) fn same_boxed_target(a: &Boxed<Target>, b: &Boxed<Target>) -> bool
+    ensures { IsTrue result ↔ (a.now ≡ b.now) }
+{
+    same_target(a.get(), b.get())
+}
+
+fn same_variable(a: &Target, b: &Target) -> bool
+    ensures { (s : _) (x : _) → b.now ≡ Target.Variable s x → (IsTrue result ↔ (a.now ≡ b.now)) }
+{
+    let Target::Variable(s, x) = a else {
+        return false;
+    };
+    let Target::Variable(t, u) = b else {
+        return false;
+    };
+    *s == *t && *x == *u
+}
+
+#[cycle(expression)]
+fn same_dotted(a: &Target, b: &Target) -> bool
+    ensures { (s : _) (x : _) (y : _) → b.now ≡ Target.Dotted s x y → (IsTrue result ↔ (a.now ≡ b.now)) }
+{
+    let Target::Dotted(s, x, y) = a else {
+        return false;
+    };
+    let Target::Dotted(t, u, v) = b else {
+        return false;
+    };
+    *s == *t && same_boxed(x, u) && *y == *v
+}
+
+#[cycle(expression)]
+fn same_bracketed(a: &Target, b: &Target) -> bool
+    ensures { (s : _) (x : _) (y : _) → b.now ≡ Target.Bracketed s x y → (IsTrue result ↔ (a.now ≡ b.now)) }
+{
+    let Target::Bracketed(s, x, y) = a else {
+        return false;
+    };
+    let Target::Bracketed(t, u, v) = b else {
+        return false;
+    };
+    *s == *t && same_boxed(x, u) && same_boxed(y, v)
 }
 
 #[cycle(expression)]

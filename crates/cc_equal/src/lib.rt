@@ -3,8 +3,7 @@
 
 mod declared;
 mod expression;
-mod expression_views;
+mod leaf;
 mod parts;
 pub mod scope;
 mod statement;
-mod statement_views;

@@ -21,7 +21,7 @@ fn same_scope(a: &Scope, b: &Scope) -> bool
         && a.own == b.own
         && a.parent == b.parent
         && a.doc == b.doc
-        && same_body(&a.body, &b.body)
+        && same_body(a.body.get(), b.body.get())
 }
 
 /// Whether two lists have the same scopes in the same order.

@@ -1,110 +1,254 @@
-// Whether statements are the same.
+// Whether statements are the same. The contract of a function for one variant speaks of the trees whose
+// second one is of this variant.
 ghost use Rattle.std.specs.Prelude.{◌≡◌, ◌↔◌, IsTrue};
 
-use crate::declared::{same_declarators, same_for_target, same_init, same_label, same_option};
-use crate::expression::same_expr;
+use crate::declared::{same_declarators, same_for_target, same_init, same_jump_label, same_option};
+use crate::expression::same_boxed;
 use crate::parts::same_units;
-use crate::statement_views as view;
 use cc_ast::tree::{Case, Stmt};
 use sqlite_items::Items;
 
 #[cycle(statement)]
-pub(crate) fn same_stmt(a: &Stmt, b: &Stmt) -> bool
+fn same_stmt(a: &Stmt, b: &Stmt) -> bool
     ensures { IsTrue result ↔ (a.now ≡ b.now) }
 {
-    match a {
-        Stmt::Simple(s, e) => match view::simple_of(b) {
-            Some((s2, e2)) => *s == s2 && same_expr(e, e2),
-            None => false,
-        },
-        Stmt::Var(s, ds) => match view::var_of(b) {
-            Some((s2, ds2)) => *s == s2 && same_declarators(ds, ds2),
-            None => false,
-        },
-        Stmt::Fun(s, v, f) => match view::fun_of(b) {
-            Some((s2, v2, f2)) => *s == s2 && *v == v2 && *f == f2,
-            None => false,
-        },
-        Stmt::If(s, t, a, c) => match view::if_of(b) {
-            Some((s2, t2, a2, c2)) => *s == s2
-                && same_expr(t, t2)
-                && same_stmts(a, a2)
-                && same_stmts(c, c2),
-            None => false,
-        },
-        Stmt::While(s, t, c) => match view::while_of(b) {
-            Some((s2, t2, c2)) => *s == s2 && same_expr(t, t2) && same_stmts(c, c2),
-            None => false,
-        },
-        Stmt::DoWhile(s, c, t) => match view::do_while_of(b) {
-            Some((s2, c2, t2)) => *s == s2 && same_stmts(c, c2) && same_expr(t, t2),
-            None => false,
-        },
-        Stmt::For(s, h, t, u, c) => match view::for_of(b) {
-            Some((s2, h2, t2, u2, c2)) => {
-                *s == s2
-                    && same_init(h, h2)
-                    && same_option(t, t2)
-                    && same_option(u, u2)
-                    && same_stmts(c, c2)
-            }
-            None => false,
-        },
-        Stmt::ForIn(s, h, t, c) => match view::for_in_of(b) {
-            Some((s2, h2, t2, c2)) => {
-                *s == s2 && same_for_target(h, h2) && same_expr(t, t2) && same_stmts(c, c2)
-            }
-            None => false,
-        },
-        Stmt::Return(s, o) => match view::return_of(b) {
-            Some((s2, o2)) => *s == s2 && same_option(o, o2),
-            None => false,
-        },
-        Stmt::Throw(s, e) => match view::throw_of(b) {
-            Some((s2, e2)) => *s == s2 && same_expr(e, e2),
-            None => false,
-        },
-        Stmt::Break(s, l) => match view::break_of(b) {
-            Some((s2, l2)) => *s == s2 && same_label(l, l2),
-            None => false,
-        },
-        Stmt::Continue(s, l) => match view::continue_of(b) {
-            Some((s2, l2)) => *s == s2 && same_label(l, l2),
-            None => false,
-        },
-        Stmt::Label(s, l, c) => match view::label_of(b) {
-            Some((s2, l2, c2)) => *s == s2 && same_units(l, l2) && same_stmts(c, c2),
-            None => false,
-        },
-        Stmt::Switch(s, e, cs) => match view::switch_of(b) {
-            Some((s2, e2, cs2)) => *s == s2 && same_expr(e, e2) && same_cases(cs, cs2),
-            None => false,
-        },
-        Stmt::Try(s, c, k, f) => match view::try_of(b) {
-            Some((s2, c2, k2, f2)) => {
-                let catches = match k {
-                    None => k2.is_none(),
-                    Some(body) => match k2 {
-                        None => false,
-                        Some(other) => same_stmts(body, other),
-                    },
-                };
-                let ends = match f {
-                    None => f2.is_none(),
-                    Some(body) => match f2 {
-                        None => false,
-                        Some(other) => same_stmts(body, other),
-                    },
-                };
-                *s == s2 && same_stmts(c, c2) && catches && ends
-            }
-            None => false,
-        },
-        Stmt::Tick(s, p) => match view::tick_of(b) {
-            Some((s2, p2)) => *s == s2 && *p == p2,
-            None => false,
-        },
+    match b {
+        Stmt::Simple(..) => same_simple(a, b),
+        Stmt::Var(..) => same_var(a, b),
+        Stmt::Fun(..) => same_fun(a, b),
+        Stmt::If(..) => same_if(a, b),
+        Stmt::While(..) => same_while(a, b),
+        Stmt::DoWhile(..) => same_do_while(a, b),
+        Stmt::For(..) => same_for(a, b),
+        Stmt::ForIn(..) => same_for_in(a, b),
+        Stmt::Return(..) => same_return(a, b),
+        Stmt::Throw(..) => same_throw(a, b),
+        Stmt::Break(..) => same_break(a, b),
+        Stmt::Continue(..) => same_continue(a, b),
+        Stmt::Label(..) => same_label(a, b),
+        Stmt::Switch(..) => same_switch(a, b),
+        Stmt::Try(..) => same_try(a, b),
+        Stmt::Tick(..) => same_tick(a, b),
     }
+}
+
+fn same_simple(a: &Stmt, b: &Stmt) -> bool
+    ensures { (s : _) (x : _) → b.now ≡ Stmt.Simple s x → (IsTrue result ↔ (a.now ≡ b.now)) }
+{
+    let Stmt::Simple(s, x) = a else {
+        return false;
+    };
+    let Stmt::Simple(t, u) = b else {
+        return false;
+    };
+    *s == *t && same_boxed(x, u)
+}
+
+fn same_var(a: &Stmt, b: &Stmt) -> bool
+    ensures { (s : _) (x : _) → b.now ≡ Stmt.Var s x → (IsTrue result ↔ (a.now ≡ b.now)) }
+{
+    let Stmt::Var(s, x) = a else {
+        return false;
+    };
+    let Stmt::Var(t, u) = b else {
+        return false;
+    };
+    *s == *t && same_declarators(x, u)
+}
+
+fn same_fun(a: &Stmt, b: &Stmt) -> bool
+    ensures { (s : _) (x : _) (y : _) → b.now ≡ Stmt.Fun s x y → (IsTrue result ↔ (a.now ≡ b.now)) }
+{
+    let Stmt::Fun(s, x, y) = a else {
+        return false;
+    };
+    let Stmt::Fun(t, u, v) = b else {
+        return false;
+    };
+    *s == *t && *x == *u && *y == *v
+}
+
+#[cycle(statement)]
+fn same_if(a: &Stmt, b: &Stmt) -> bool
+    ensures { (s : _) (x : _) (y : _) (z : _) → b.now ≡ Stmt.If s x y z → (IsTrue result ↔ (a.now ≡ b.now)) }
+{
+    let Stmt::If(s, x, y, z) = a else {
+        return false;
+    };
+    let Stmt::If(t, u, v, w) = b else {
+        return false;
+    };
+    *s == *t && same_boxed(x, u) && same_stmts(y, v) && same_stmts(z, w)
+}
+
+#[cycle(statement)]
+fn same_while(a: &Stmt, b: &Stmt) -> bool
+    ensures { (s : _) (x : _) (y : _) → b.now ≡ Stmt.While s x y → (IsTrue result ↔ (a.now ≡ b.now)) }
+{
+    let Stmt::While(s, x, y) = a else {
+        return false;
+    };
+    let Stmt::While(t, u, v) = b else {
+        return false;
+    };
+    *s == *t && same_boxed(x, u) && same_stmts(y, v)
+}
+
+#[cycle(statement)]
+fn same_do_while(a: &Stmt, b: &Stmt) -> bool
+    ensures { (s : _) (x : _) (y : _) → b.now ≡ Stmt.DoWhile s x y → (IsTrue result ↔ (a.now ≡ b.now)) }
+{
+    let Stmt::DoWhile(s, x, y) = a else {
+        return false;
+    };
+    let Stmt::DoWhile(t, u, v) = b else {
+        return false;
+    };
+    *s == *t && same_stmts(x, u) && same_boxed(y, v)
+}
+
+#[cycle(statement)]
+fn same_for(a: &Stmt, b: &Stmt) -> bool
+    ensures { (s : _) (x : _) (y : _) (z : _) (p : _) → b.now ≡ Stmt.For s x y z p → (IsTrue result ↔ (a.now ≡ b.now)) }
+{
+    let Stmt::For(s, x, y, z, p) = a else {
+        return false;
+    };
+    let Stmt::For(t, u, v, w, m) = b else {
+        return false;
+    };
+    *s == *t && same_init(x, u) && same_option(y, v) && same_option(z, w) && same_stmts(p, m)
+}
+
+#[cycle(statement)]
+fn same_for_in(a: &Stmt, b: &Stmt) -> bool
+    ensures { (s : _) (x : _) (y : _) (z : _) → b.now ≡ Stmt.ForIn s x y z → (IsTrue result ↔ (a.now ≡ b.now)) }
+{
+    let Stmt::ForIn(s, x, y, z) = a else {
+        return false;
+    };
+    let Stmt::ForIn(t, u, v, w) = b else {
+        return false;
+    };
+    *s == *t && same_for_target(x, u) && same_boxed(y, v) && same_stmts(z, w)
+}
+
+fn same_return(a: &Stmt, b: &Stmt) -> bool
+    ensures { (s : _) (x : _) → b.now ≡ Stmt.Return s x → (IsTrue result ↔ (a.now ≡ b.now)) }
+{
+    let Stmt::Return(s, x) = a else {
+        return false;
+    };
+    let Stmt::Return(t, u) = b else {
+        return false;
+    };
+    *s == *t && same_option(x, u)
+}
+
+fn same_throw(a: &Stmt, b: &Stmt) -> bool
+    ensures { (s : _) (x : _) → b.now ≡ Stmt.Throw s x → (IsTrue result ↔ (a.now ≡ b.now)) }
+{
+    let Stmt::Throw(s, x) = a else {
+        return false;
+    };
+    let Stmt::Throw(t, u) = b else {
+        return false;
+    };
+    *s == *t && same_boxed(x, u)
+}
+
+fn same_break(a: &Stmt, b: &Stmt) -> bool
+    ensures { (s : _) (x : _) → b.now ≡ Stmt.Break s x → (IsTrue result ↔ (a.now ≡ b.now)) }
+{
+    let Stmt::Break(s, x) = a else {
+        return false;
+    };
+    let Stmt::Break(t, u) = b else {
+        return false;
+    };
+    *s == *t && same_jump_label(x, u)
+}
+
+fn same_continue(a: &Stmt, b: &Stmt) -> bool
+    ensures { (s : _) (x : _) → b.now ≡ Stmt.Continue s x → (IsTrue result ↔ (a.now ≡ b.now)) }
+{
+    let Stmt::Continue(s, x) = a else {
+        return false;
+    };
+    let Stmt::Continue(t, u) = b else {
+        return false;
+    };
+    *s == *t && same_jump_label(x, u)
+}
+
+#[cycle(statement)]
+fn same_label(a: &Stmt, b: &Stmt) -> bool
+    ensures { (s : _) (x : _) (y : _) → b.now ≡ Stmt.Label s x y → (IsTrue result ↔ (a.now ≡ b.now)) }
+{
+    let Stmt::Label(s, x, y) = a else {
+        return false;
+    };
+    let Stmt::Label(t, u, v) = b else {
+        return false;
+    };
+    *s == *t && same_units(x, u) && same_stmts(y, v)
+}
+
+#[cycle(statement)]
+fn same_switch(a: &Stmt, b: &Stmt) -> bool
+    ensures { (s : _) (x : _) (y : _) → b.now ≡ Stmt.Switch s x y → (IsTrue result ↔ (a.now ≡ b.now)) }
+{
+    let Stmt::Switch(s, x, y) = a else {
+        return false;
+    };
+    let Stmt::Switch(t, u, v) = b else {
+        return false;
+    };
+    *s == *t && same_boxed(x, u) && same_cases(y, v)
+}
+
+#[cycle(statement)]
+fn same_try(a: &Stmt, b: &Stmt) -> bool
+    ensures { (s : _) (x : _) (y : _) (z : _) → b.now ≡ Stmt.Try s x y z → (IsTrue result ↔ (a.now ≡ b.now)) }
+{
+    let Stmt::Try(s, x, catch, finally) = a else {
+        return false;
+    };
+    let Stmt::Try(t, u, other_catch, other_finally) = b else {
+        return false;
+    };
+    let catches = match catch {
+        None => other_catch.is_none(),
+        Some(body) => is_body(body, other_catch),
+    };
+    let ends = match finally {
+        None => other_finally.is_none(),
+        Some(body) => is_body(body, other_finally),
+    };
+    *s == *t && same_stmts(x, u) && catches && ends
+}
+
+// Whether there is a body, and this one.
+#[cycle(statement)]
+fn is_body(body: &Items<Stmt>, other: &Option<Items<Stmt>>) -> bool
+    ensures { IsTrue result ↔ (Some body.now ≡ other.now) }
+{
+    match other {
+        None => false,
+        Some(other) => same_stmts(body, other),
+    }
+}
+
+fn same_tick(a: &Stmt, b: &Stmt) -> bool
+    ensures { (s : _) (x : _) → b.now ≡ Stmt.Tick s x → (IsTrue result ↔ (a.now ≡ b.now)) }
+{
+    let Stmt::Tick(s, x) = a else {
+        return false;
+    };
+    let Stmt::Tick(t, u) = b else {
+        return false;
+    };
+    *s == *t && *x == *u
 }
 
 #[cycle(statement)]

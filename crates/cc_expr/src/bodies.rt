@@ -19,7 +19,7 @@ use cc_grammar::word::Word;
 use cc_lexer::token::Mark;
 use cc_raw::tree::{Named, RawExpr, RawStmt};
 use cc_trees::statement_trees::joined;
-use sqlite_items::Items;
+use sqlite_items::{Boxed, Items};
 use std::alloc::Global;
 
 /// The parameters and the body of a function.
@@ -42,7 +42,7 @@ fn ends_list(kind: Kind<'_>) -> bool
 }
 
 impl<
-    F: Fn(Global, &mut Cursor<'_>, Limits, bool, u8) -> Result<(RawExpr, usize), ReadError>,
+    F: Fn(Global, &mut Cursor<'_>, Limits, bool, u8) -> Result<(Boxed<RawExpr>, usize), ReadError>,
     G: Fn(
         Global,
         &mut Cursor<'_>,

@@ -25,7 +25,7 @@ use cc_grammar::word::Word;
 use cc_lexer::token::Mark;
 use cc_raw::tree::{RawCase, RawCatch, RawExpr, RawStmt};
 use cc_trees::statement_trees as trees;
-use sqlite_items::Items;
+use sqlite_items::{Boxed, Items};
 use std::alloc::Global;
 
 /// What a token is in a `switch`.
@@ -65,7 +65,7 @@ fn sees_default(clause: Clause, seen: bool) -> bool
 }
 
 impl<
-    F: Fn(Global, &mut Cursor<'_>, Limits, bool, u8) -> Result<(RawExpr, usize), ReadError>,
+    F: Fn(Global, &mut Cursor<'_>, Limits, bool, u8) -> Result<(Boxed<RawExpr>, usize), ReadError>,
     G: Fn(
         Global,
         &mut Cursor<'_>,

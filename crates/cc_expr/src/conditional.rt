@@ -16,18 +16,18 @@ use cc_cursor::limits::Limits;
 use cc_lexer::token::Mark;
 use cc_raw::tree::{RawExpr, RawStmt};
 use cc_trees::trees;
-use sqlite_items::Items;
+use sqlite_items::{Boxed, Items};
 use std::alloc::Global;
 
 /// What a conditional chooses from.
 #[derive(Drop)]
 pub(crate) struct Branches {
-    pub(crate) then: RawExpr,
-    pub(crate) otherwise: RawExpr,
+    pub(crate) then: Boxed<RawExpr>,
+    pub(crate) otherwise: Boxed<RawExpr>,
 }
 
 impl<
-    F: Fn(Global, &mut Cursor<'_>, Limits, bool, u8) -> Result<(RawExpr, usize), ReadError>,
+    F: Fn(Global, &mut Cursor<'_>, Limits, bool, u8) -> Result<(Boxed<RawExpr>, usize), ReadError>,
     G: Fn(
         Global,
         &mut Cursor<'_>,
@@ -55,9 +55,9 @@ impl<
         &self,
         cursor: &mut Cursor<'_>,
         with_in: bool,
-        e: RawExpr,
+        e: Boxed<RawExpr>,
         height: usize,
-    ) -> Result<(RawExpr, usize), ReadError>
+    ) -> Result<(Boxed<RawExpr>, usize), ReadError>
         requires expr { NestsExpr self.now.limits (F.pre self.now.expr) (F.post self.now.expr) }
         requires height { height < self.now.limits.depth }
         ensures reads { Reads shown.expr (spec.chosen self.now.limits with_in (raw_expr e, height) cursor.old) result cursor.new }
@@ -77,9 +77,9 @@ impl<
         &self,
         cursor: &mut Cursor<'_>,
         with_in: bool,
-        e: RawExpr,
+        e: Boxed<RawExpr>,
         height: usize,
-    ) -> Result<(RawExpr, usize), ReadError>
+    ) -> Result<(Boxed<RawExpr>, usize), ReadError>
         requires expr { NestsExpr self.now.limits (F.pre self.now.expr) (F.post self.now.expr) }
         requires height { height ≤ self.now.limits.depth }
         ensures reads { Reads shown.expr (spec.conditional self.now.limits with_in (raw_expr e, height) cursor.old) result cursor.new }

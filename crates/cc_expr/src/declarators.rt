@@ -18,11 +18,11 @@ use cc_grammar::word::Word;
 use cc_lexer::token::Mark;
 use cc_raw::tree::{RawDeclarator, RawExpr, RawStmt};
 use cc_trees::statement_trees as trees;
-use sqlite_items::Items;
+use sqlite_items::{Boxed, Items};
 use std::alloc::Global;
 
 impl<
-    F: Fn(Global, &mut Cursor<'_>, Limits, bool, u8) -> Result<(RawExpr, usize), ReadError>,
+    F: Fn(Global, &mut Cursor<'_>, Limits, bool, u8) -> Result<(Boxed<RawExpr>, usize), ReadError>,
     G: Fn(
         Global,
         &mut Cursor<'_>,
@@ -31,7 +31,11 @@ impl<
     ) -> Result<(Items<RawStmt>, usize), ReadError>,
 > Grammar<F, G> {
     /// The value of a declarator: one level inside where no `in` may stand, as in a `for`.
-    fn value(&self, cursor: &mut Cursor<'_>, with_in: bool) -> Result<(RawExpr, usize), ReadError>
+    fn value(
+        &self,
+        cursor: &mut Cursor<'_>,
+        with_in: bool,
+    ) -> Result<(Boxed<RawExpr>, usize), ReadError>
         requires expr { NestsExpr self.now.limits (F.pre self.now.expr) (F.post self.now.expr) }
         requires stmt { NestsStmt self.now.limits (G.pre self.now.stmt) (G.post self.now.stmt) }
         ensures reads { Reads shown.expr (spec.values self.now.limits with_in with_in 1 cursor.old) result cursor.new }

@@ -11,7 +11,7 @@ use cc_cursor::cursor::Cursor;
 use cc_cursor::error::ReadError;
 use cc_cursor::limits::Limits;
 use cc_raw::tree::{RawExpr, RawStmt};
-use sqlite_items::Items;
+use sqlite_items::{Boxed, Items};
 use std::alloc::Global;
 
 /// The readers of what stands inside, as values, so that each reader is checked alone.
@@ -24,7 +24,7 @@ pub(crate) struct Grammar<F, G> {
 }
 
 impl<
-    F: Fn(Global, &mut Cursor<'_>, Limits, bool, u8) -> Result<(RawExpr, usize), ReadError>,
+    F: Fn(Global, &mut Cursor<'_>, Limits, bool, u8) -> Result<(Boxed<RawExpr>, usize), ReadError>,
     G: Fn(
         Global,
         &mut Cursor<'_>,
@@ -38,7 +38,7 @@ impl<
         cursor: &mut Cursor<'_>,
         with_in: bool,
         level: u8,
-    ) -> Result<(RawExpr, usize), ReadError>
+    ) -> Result<(Boxed<RawExpr>, usize), ReadError>
         requires { NestsExpr self.now.limits (F.pre self.now.expr) (F.post self.now.expr) }
         ensures reads { Reads shown.expr ((spec.within self.now.limits).expr with_in level cursor.old) result cursor.new }
         ensures low { IfOk result (λ x. x.1 < self.now.limits.depth) }

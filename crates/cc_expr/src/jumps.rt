@@ -11,7 +11,7 @@ ghost use Rattle.cc_cursor.specs.Reads.{Reads};
 ghost use Rattle.cc_expr.specs.Nests.{NestsExpr, NestsStmt};
 
 use crate::grammar::Grammar;
-use cc_ast::copy::table::CopyOf;
+use cc_ast::copy::CopyOf;
 use cc_ast::place::Place;
 use cc_ast::units::Units;
 use cc_cursor::context::Context;
@@ -23,11 +23,11 @@ use cc_cursor::refused::Due;
 use cc_lexer::token::Mark;
 use cc_raw::tree::{RawExpr, RawStmt};
 use cc_trees::statement_trees::{self as trees, Jump};
-use sqlite_items::Items;
+use sqlite_items::{Boxed, Items};
 use std::alloc::Global;
 
 impl<
-    F: Fn(Global, &mut Cursor<'_>, Limits, bool, u8) -> Result<(RawExpr, usize), ReadError>,
+    F: Fn(Global, &mut Cursor<'_>, Limits, bool, u8) -> Result<(Boxed<RawExpr>, usize), ReadError>,
     G: Fn(
         Global,
         &mut Cursor<'_>,

@@ -11,7 +11,7 @@ use cc_cursor::cursor::Cursor;
 use cc_cursor::error::{Cause, ReadError};
 use cc_cursor::limits::Limits;
 use cc_raw::tree::{RawExpr, RawStmt};
-use sqlite_items::Items;
+use sqlite_items::{Boxed, Items};
 use std::alloc::Global;
 
 /// An expression inside a tree that may still be so high.
@@ -23,7 +23,7 @@ fn expr(
     limits: Limits,
     with_in: bool,
     level: u8,
-) -> Result<(RawExpr, usize), ReadError>
+) -> Result<(Boxed<RawExpr>, usize), ReadError>
     ensures reads { Reads shown.expr ((within limits).expr with_in level cursor.old) result cursor.new }
     ensures low { IfOk result (λ x. x.1 < limits.depth) }
 {

@@ -14,11 +14,11 @@ use cc_cursor::error::{Cause, ReadError};
 use cc_cursor::limits::Limits;
 use cc_lexer::token::Mark;
 use cc_raw::tree::{RawExpr, RawStmt};
-use sqlite_items::Items;
+use sqlite_items::{Boxed, Items};
 use std::alloc::Global;
 
 impl<
-    F: Fn(Global, &mut Cursor<'_>, Limits, bool, u8) -> Result<(RawExpr, usize), ReadError>,
+    F: Fn(Global, &mut Cursor<'_>, Limits, bool, u8) -> Result<(Boxed<RawExpr>, usize), ReadError>,
     G: Fn(
         Global,
         &mut Cursor<'_>,
@@ -35,7 +35,7 @@ impl<
         let mut height = 0;
         for _turn in 0..self.limits.turns {
             let (e, h) = self.inner_expr(cursor, true, 1)?;
-            found.push(e)?;
+            found.push(e.into_inner())?;
             height = height.max(h);
             if !cursor.sees(Mark::Comma) {
                 cursor.expect(Mark::CloseParen)?;

@@ -18,11 +18,11 @@ use cc_cursor::limits::Limits;
 use cc_cursor::refused::Due;
 use cc_lexer::token::Mark;
 use cc_raw::tree::{RawExpr, RawField, RawKey, RawStmt};
-use sqlite_items::Items;
+use sqlite_items::{Boxed, Items};
 use std::alloc::Global;
 
 impl<
-    F: Fn(Global, &mut Cursor<'_>, Limits, bool, u8) -> Result<(RawExpr, usize), ReadError>,
+    F: Fn(Global, &mut Cursor<'_>, Limits, bool, u8) -> Result<(Boxed<RawExpr>, usize), ReadError>,
     G: Fn(
         Global,
         &mut Cursor<'_>,
@@ -50,7 +50,7 @@ impl<
                 return Err(ReadError::Fault(cursor.stop(Cause::Refused(Construct::Hole))));
             }
             let (e, h) = self.inner_expr(cursor, true, 1)?;
-            found.push(e)?;
+            found.push(e.into_inner())?;
             height = height.max(h);
             if !cursor.sees(Mark::Comma) {
                 cursor.expect(Mark::CloseBracket)?;

@@ -25,12 +25,12 @@ use cc_grammar::word::Word;
 use cc_lexer::token::Mark;
 use cc_raw::tree::{RawDeclarator, RawExpr, RawForTarget, RawInit, RawStmt};
 use cc_trees::statement_trees as trees;
-use cc_trees::targets::{into_target, is_target};
-use sqlite_items::Items;
+use cc_trees::targets::{boxed_target, is_target};
+use sqlite_items::{Boxed, Items};
 use std::alloc::Global;
 
 impl<
-    F: Fn(Global, &mut Cursor<'_>, Limits, bool, u8) -> Result<(RawExpr, usize), ReadError>,
+    F: Fn(Global, &mut Cursor<'_>, Limits, bool, u8) -> Result<(Boxed<RawExpr>, usize), ReadError>,
     G: Fn(
         Global,
         &mut Cursor<'_>,
@@ -102,7 +102,7 @@ impl<
         &self,
         cursor: &mut Cursor<'_>,
         mark: Mark,
-    ) -> Result<(Option<RawExpr>, usize), ReadError>
+    ) -> Result<(Option<Boxed<RawExpr>>, usize), ReadError>
         requires expr { NestsExpr self.now.limits (F.pre self.now.expr) (F.post self.now.expr) }
         ensures reads { Reads parts.sized_optional (spec.optional self.now.limits mark cursor.old) result cursor.new }
         ensures low { IfOk result (λ x. x.1 ≤ self.now.limits.depth - 1) }
@@ -146,7 +146,7 @@ impl<
         &self,
         cursor: &mut Cursor<'_>,
         context: Context<'_>,
-    ) -> Result<((RawExpr, Items<RawStmt>), usize), ReadError>
+    ) -> Result<((Boxed<RawExpr>, Items<RawStmt>), usize), ReadError>
         requires expr { NestsExpr self.now.limits (F.pre self.now.expr) (F.post self.now.expr) }
         requires stmt { NestsStmt self.now.limits (G.pre self.now.stmt) (G.post self.now.stmt) }
         ensures reads { Reads steps.sized_in (steps.in_rest self.now.limits (shown.context context.entry) cursor.old) result cursor.new }
@@ -198,7 +198,8 @@ impl<
     {
         let (mut declared, height) = declared;
         if cursor.sees_word(Word::In) && declared.len() == 1 {
-            let target = trees::in_declared(declared.remove(0));
+            let variable = Boxed::new(self.alloc, declared.remove(0))?;
+            let target = trees::in_declared(variable);
             return self.for_in(cursor, context, place, target, height);
         }
         self.for_rest(cursor, context, place, (trees::init_vars(declared), height))
@@ -211,7 +212,7 @@ impl<
         cursor: &mut Cursor<'_>,
         context: Context<'_>,
         place: Place,
-        value: (RawExpr, usize),
+        value: (Boxed<RawExpr>, usize),
     ) -> Result<(Items<RawStmt>, usize), ReadError>
         requires expr { NestsExpr self.now.limits (F.pre self.now.expr) (F.post self.now.expr) }
         requires stmt { NestsStmt self.now.limits (G.pre self.now.stmt) (G.post self.now.stmt) }
@@ -220,8 +221,8 @@ impl<
         ensures low { IfOk result (λ x. x.1 ≤ self.now.limits.depth) }
     {
         let (e, height) = value;
-        if cursor.sees_word(Word::In) && is_target(&e) {
-            let target = trees::in_target(into_target(e));
+        if cursor.sees_word(Word::In) && is_target(e.get()) {
+            let target = trees::in_target(boxed_target(self.alloc, e)?);
             return self.for_in(cursor, context, place, target, height);
         }
         self.for_rest(cursor, context, place, (trees::init_value(e), height))

@@ -15,13 +15,13 @@ use cc_cursor::limits::Limits;
 use cc_cursor::signs::{assign_of, infix_of, level, prefix_of};
 use cc_lexer::token::Mark;
 use cc_raw::tree::{RawExpr, RawStmt};
-use cc_trees::targets::{into_target, is_target};
+use cc_trees::targets::{boxed_target, is_target};
 use cc_trees::trees;
-use sqlite_items::Items;
+use sqlite_items::{Boxed, Items};
 use std::alloc::Global;
 
 impl<
-    F: Fn(Global, &mut Cursor<'_>, Limits, bool, u8) -> Result<(RawExpr, usize), ReadError>,
+    F: Fn(Global, &mut Cursor<'_>, Limits, bool, u8) -> Result<(Boxed<RawExpr>, usize), ReadError>,
     G: Fn(
         Global,
         &mut Cursor<'_>,
@@ -34,9 +34,9 @@ impl<
         cursor: &mut Cursor<'_>,
         with_in: bool,
         least: u8,
-        mut e: RawExpr,
+        mut e: Boxed<RawExpr>,
         mut height: usize,
-    ) -> Result<(RawExpr, usize), ReadError>
+    ) -> Result<(Boxed<RawExpr>, usize), ReadError>
         requires expr { NestsExpr self.now.limits (F.pre self.now.expr) (F.post self.now.expr) }
         requires height { height ≤ self.now.limits.depth }
         ensures reads { Reads shown.expr (spec.climb self.now.limits with_in least (suc self.now.limits.depth) (raw_expr e, height) cursor.old) result cursor.new }
@@ -65,9 +65,9 @@ impl<
         &self,
         cursor: &mut Cursor<'_>,
         with_in: bool,
-        e: RawExpr,
+        e: Boxed<RawExpr>,
         height: usize,
-    ) -> Result<(RawExpr, usize), ReadError>
+    ) -> Result<(Boxed<RawExpr>, usize), ReadError>
         requires expr { NestsExpr self.now.limits (F.pre self.now.expr) (F.post self.now.expr) }
         requires height { height ≤ self.now.limits.depth }
         ensures reads { Reads shown.expr (spec.assign self.now.limits with_in (raw_expr e, height) cursor.old) result cursor.new }
@@ -76,7 +76,7 @@ impl<
         let Some(operator) = assign_of(cursor.kind()) else {
             return Ok((e, height));
         };
-        if !is_target(&e) {
+        if !is_target(e.get()) {
             return Ok((e, height));
         }
         if height >= usize::from(self.limits.depth) {
@@ -84,7 +84,8 @@ impl<
         }
         let place = cursor.take();
         let (value, h) = self.inner_expr(cursor, with_in, 1)?;
-        let e = trees::assign(self.alloc, place, operator, into_target(e), value)?;
+        let target = boxed_target(self.alloc, e)?;
+        let e = trees::assign(self.alloc, place, operator, target, value)?;
         Ok((e, height.max(h) + 1))
     }
 
@@ -92,9 +93,9 @@ impl<
         &self,
         cursor: &mut Cursor<'_>,
         with_in: bool,
-        mut e: RawExpr,
+        mut e: Boxed<RawExpr>,
         mut height: usize,
-    ) -> Result<(RawExpr, usize), ReadError>
+    ) -> Result<(Boxed<RawExpr>, usize), ReadError>
         requires expr { NestsExpr self.now.limits (F.pre self.now.expr) (F.post self.now.expr) }
         requires height { height ≤ self.now.limits.depth }
         ensures reads { Reads shown.expr (spec.commas self.now.limits with_in (suc self.now.limits.depth) (raw_expr e, height) cursor.old) result cursor.new }
@@ -122,9 +123,9 @@ impl<
         cursor: &mut Cursor<'_>,
         with_in: bool,
         level: u8,
-        e: RawExpr,
+        e: Boxed<RawExpr>,
         height: usize,
-    ) -> Result<(RawExpr, usize), ReadError>
+    ) -> Result<(Boxed<RawExpr>, usize), ReadError>
         requires expr { NestsExpr self.now.limits (F.pre self.now.expr) (F.post self.now.expr) }
         requires height { height ≤ self.now.limits.depth }
         ensures reads { Reads shown.expr (spec.after_unary self.now.limits with_in level (raw_expr e, height) cursor.old) result cursor.new }
@@ -152,9 +153,9 @@ impl<
         cursor: &mut Cursor<'_>,
         with_in: bool,
         level: u8,
-        e: RawExpr,
+        e: Boxed<RawExpr>,
         height: usize,
-    ) -> Result<(RawExpr, usize), ReadError>
+    ) -> Result<(Boxed<RawExpr>, usize), ReadError>
         requires expr { NestsExpr self.now.limits (F.pre self.now.expr) (F.post self.now.expr) }
         requires height { height ≤ self.now.limits.depth }
         ensures reads { Reads shown.expr (spec.after_head self.now.limits with_in level (raw_expr e, height) cursor.old) result cursor.new }
@@ -173,7 +174,7 @@ impl<
         cursor: &mut Cursor<'_>,
         with_in: bool,
         level: u8,
-    ) -> Result<(RawExpr, usize), ReadError>
+    ) -> Result<(Boxed<RawExpr>, usize), ReadError>
         requires expr { NestsExpr self.now.limits (F.pre self.now.expr) (F.post self.now.expr) }
         requires stmt { NestsStmt self.now.limits (G.pre self.now.stmt) (G.post self.now.stmt) }
         ensures reads { Reads shown.expr (spec.expr_of self.now.limits with_in level cursor.old) result cursor.new }

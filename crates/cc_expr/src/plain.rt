@@ -18,7 +18,8 @@ use cc_cursor::refused::{Due, refused_name};
 use cc_lexer::token::Mark;
 use cc_raw::tree::{RawExpr, RawStmt};
 use cc_trees::statement_trees as trees;
-use sqlite_items::Items;
+use cc_trees::trees::variable;
+use sqlite_items::{Boxed, Items};
 use std::alloc::Global;
 
 /// Whether a token ends a `return` without a value.
@@ -33,7 +34,7 @@ fn ends_return(lexeme: Lexeme<'_>) -> bool
 }
 
 impl<
-    F: Fn(Global, &mut Cursor<'_>, Limits, bool, u8) -> Result<(RawExpr, usize), ReadError>,
+    F: Fn(Global, &mut Cursor<'_>, Limits, bool, u8) -> Result<(Boxed<RawExpr>, usize), ReadError>,
     G: Fn(
         Global,
         &mut Cursor<'_>,
@@ -125,7 +126,7 @@ impl<
                 place,
             }));
         }
-        let e = trees::variable(self.alloc, place, name)?;
+        let e = variable(self.alloc, place, name)?;
         let e = self.after_head(cursor, true, 0, e, 0)?;
         self.simple(cursor, place, e)
     }

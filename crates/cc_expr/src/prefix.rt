@@ -26,9 +26,9 @@ use cc_cursor::limits::Limits;
 use cc_cursor::refused::Due;
 use cc_cursor::signs::{Prefix, step_of};
 use cc_raw::tree::{RawExpr, RawStmt};
-use cc_trees::targets::{into_target, is_target, is_variable};
+use cc_trees::targets::{boxed_target, is_target, is_variable};
 use cc_trees::trees;
-use sqlite_items::Items;
+use sqlite_items::{Boxed, Items};
 use std::alloc::{AllocError, Global};
 
 fn is_delete(prefix: Prefix) -> bool
@@ -42,42 +42,54 @@ fn is_delete(prefix: Prefix) -> bool
 
 // Minus before a whole literal that isn't 0 makes it negative.
 #[tactic(auto, using(cc_raw::specs::Terms::raw_steps, crate::proofs::PrefixLemmas::whole_steps))]
-fn minus_whole(alloc: Global, place: Place, at: Place, number: i64) -> Result<RawExpr, AllocError>
+fn minus_whole(
+    alloc: Global,
+    place: Place,
+    at: Place,
+    number: i64,
+) -> Result<Boxed<RawExpr>, AllocError>
     ensures { IfOk result (λ r. raw_expr r ≡ signs.unary_tree UnOp.Minus place (raw.lit at (whole number))) }
 {
     if number > 0 {
-        return Ok(RawExpr::Whole(place, -number));
+        return Boxed::new(alloc, RawExpr::Whole(place, -number));
     }
-    trees::unary(alloc, place, UnOp::Minus, RawExpr::Whole(at, number))
+    let whole = Boxed::new(alloc, RawExpr::Whole(at, number))?;
+    trees::unary(alloc, place, UnOp::Minus, whole)
 }
 
 #[tactic(auto, using(cc_raw::specs::Terms::raw_steps, cc_trees::proofs::TargetLemmas::minus_other))]
-fn minus_tree(alloc: Global, place: Place, e: RawExpr) -> Result<RawExpr, AllocError>
+fn minus_tree(alloc: Global, place: Place, e: Boxed<RawExpr>) -> Result<Boxed<RawExpr>, AllocError>
     ensures { IfOk result (λ r. raw_expr r ≡ signs.unary_tree UnOp.Minus place (raw_expr e)) }
 {
-    match e {
-        RawExpr::Whole(at, number) => minus_whole(alloc, place, at, number),
+    match e.get() {
+        RawExpr::Whole(at, number) => minus_whole(alloc, place, *at, *number),
         _ => trees::unary(alloc, place, UnOp::Minus, e),
     }
 }
 
 // `void 0` is undefined.
 #[tactic(auto, using(cc_raw::specs::Terms::raw_steps, crate::proofs::PrefixLemmas::whole_steps))]
-fn void_whole(alloc: Global, place: Place, at: Place, number: i64) -> Result<RawExpr, AllocError>
+fn void_whole(
+    alloc: Global,
+    place: Place,
+    at: Place,
+    number: i64,
+) -> Result<Boxed<RawExpr>, AllocError>
     ensures { IfOk result (λ r. raw_expr r ≡ signs.unary_tree UnOp.Void place (raw.lit at (whole number))) }
 {
     if number == 0 {
-        return Ok(RawExpr::Undefined(place));
+        return Boxed::new(alloc, RawExpr::Undefined(place));
     }
-    trees::unary(alloc, place, UnOp::Void, RawExpr::Whole(at, number))
+    let whole = Boxed::new(alloc, RawExpr::Whole(at, number))?;
+    trees::unary(alloc, place, UnOp::Void, whole)
 }
 
 #[tactic(auto, using(cc_raw::specs::Terms::raw_steps, cc_trees::proofs::TargetLemmas::void_other))]
-fn void_tree(alloc: Global, place: Place, e: RawExpr) -> Result<RawExpr, AllocError>
+fn void_tree(alloc: Global, place: Place, e: Boxed<RawExpr>) -> Result<Boxed<RawExpr>, AllocError>
     ensures { IfOk result (λ r. raw_expr r ≡ signs.unary_tree UnOp.Void place (raw_expr e)) }
 {
-    match e {
-        RawExpr::Whole(at, number) => void_whole(alloc, place, at, number),
+    match e.get() {
+        RawExpr::Whole(at, number) => void_whole(alloc, place, *at, *number),
         _ => trees::unary(alloc, place, UnOp::Void, e),
     }
 }
@@ -87,8 +99,8 @@ fn unary_tree(
     alloc: Global,
     operator: UnOp,
     place: Place,
-    e: RawExpr,
-) -> Result<RawExpr, AllocError>
+    e: Boxed<RawExpr>,
+) -> Result<Boxed<RawExpr>, AllocError>
     ensures { IfOk result (λ r. raw_expr r ≡ signs.unary_tree operator place (raw_expr e)) }
 {
     match operator {
@@ -103,19 +115,20 @@ fn prefix_tree(
     alloc: Global,
     prefix: Prefix,
     place: Place,
-    e: RawExpr,
-) -> Result<Option<RawExpr>, AllocError>
+    e: Boxed<RawExpr>,
+) -> Result<Option<Boxed<RawExpr>>, AllocError>
     ensures { IfOk result (λ r. option_map raw_expr r ≡ signs.prefix_tree (meant.prefix prefix) place (raw_expr e)) }
 {
     match prefix {
         Prefix::Step(up) => {
-            if !is_target(&e) {
+            if !is_target(e.get()) {
                 return Ok(None);
             }
-            Ok(Some(trees::step(alloc, place, up, true, into_target(e))?))
+            let target = boxed_target(alloc, e)?;
+            Ok(Some(trees::step(alloc, place, up, true, target)?))
         }
         Prefix::Unary(UnOp::Delete) => {
-            if is_variable(&e) {
+            if is_variable(e.get()) {
                 return Ok(None);
             }
             Ok(Some(trees::unary(alloc, place, UnOp::Delete, e)?))
@@ -141,7 +154,7 @@ fn wrong_prefix(cursor: &Cursor<'_>, limits: Limits, prefix: Prefix, place: Plac
 }
 
 impl<
-    F: Fn(Global, &mut Cursor<'_>, Limits, bool, u8) -> Result<(RawExpr, usize), ReadError>,
+    F: Fn(Global, &mut Cursor<'_>, Limits, bool, u8) -> Result<(Boxed<RawExpr>, usize), ReadError>,
     G: Fn(
         Global,
         &mut Cursor<'_>,
@@ -154,9 +167,9 @@ impl<
     pub(crate) fn postfix(
         &self,
         cursor: &mut Cursor<'_>,
-        e: RawExpr,
+        e: Boxed<RawExpr>,
         height: usize,
-    ) -> Result<(RawExpr, usize), ReadError>
+    ) -> Result<(Boxed<RawExpr>, usize), ReadError>
         requires { height ≤ self.now.limits.depth }
         ensures reads { Reads shown.expr (spec.postfix self.now.limits (raw_expr e, height) cursor.old) result cursor.new }
         ensures low { IfOk result (λ x. x.1 ≤ self.now.limits.depth) }
@@ -164,14 +177,15 @@ impl<
         let Some(up) = step_of(cursor.kind()) else {
             return Ok((e, height));
         };
-        if cursor.is_after_line() || !is_target(&e) {
+        if cursor.is_after_line() || !is_target(e.get()) {
             return Ok((e, height));
         }
         if height >= usize::from(self.limits.depth) {
             return Err(ReadError::Fault(cursor.stop(Cause::Depth)));
         }
         let place = cursor.take();
-        let e = trees::step(self.alloc, place, up, false, into_target(e))?;
+        let target = boxed_target(self.alloc, e)?;
+        let e = trees::step(self.alloc, place, up, false, target)?;
         Ok((e, height + 1))
     }
 
@@ -181,7 +195,7 @@ impl<
         cursor: &mut Cursor<'_>,
         with_in: bool,
         prefix: Prefix,
-    ) -> Result<(RawExpr, usize), ReadError>
+    ) -> Result<(Boxed<RawExpr>, usize), ReadError>
         requires { NestsExpr self.now.limits (F.pre self.now.expr) (F.post self.now.expr) }
         ensures reads { Reads shown.expr (spec.prefix_expr self.now.limits with_in (meant.prefix prefix) cursor.old) result cursor.new }
         ensures low { IfOk result (λ x. x.1 ≤ self.now.limits.depth) }
@@ -200,7 +214,7 @@ impl<
         cursor: &mut Cursor<'_>,
         with_in: bool,
         prefix: Prefix,
-    ) -> Result<(RawExpr, usize), ReadError>
+    ) -> Result<(Boxed<RawExpr>, usize), ReadError>
         requires { NestsExpr self.now.limits (F.pre self.now.expr) (F.post self.now.expr) }
         ensures reads { Reads shown.expr (spec.deep_prefix self.now.limits with_in (meant.prefix prefix) cursor.old) result cursor.new }
         ensures low { IfOk result (λ x. x.1 ≤ self.now.limits.depth) }
@@ -218,7 +232,7 @@ impl<
         cursor: &mut Cursor<'_>,
         with_in: bool,
         prefix: Prefix,
-    ) -> Result<(RawExpr, usize), ReadError>
+    ) -> Result<(Boxed<RawExpr>, usize), ReadError>
         requires { NestsExpr self.now.limits (F.pre self.now.expr) (F.post self.now.expr) }
         ensures reads { Reads shown.expr (spec.prefixed self.now.limits with_in (meant.prefix prefix) cursor.old) result cursor.new }
         ensures low { IfOk result (λ x. x.1 ≤ self.now.limits.depth) }

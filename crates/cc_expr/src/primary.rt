@@ -18,11 +18,11 @@ use cc_cursor::signs::{Head, Nested, head_of};
 use cc_lexer::token::Mark;
 use cc_raw::tree::{RawExpr, RawStmt};
 use cc_trees::trees;
-use sqlite_items::Items;
+use sqlite_items::{Boxed, Items};
 use std::alloc::Global;
 
 impl<
-    F: Fn(Global, &mut Cursor<'_>, Limits, bool, u8) -> Result<(RawExpr, usize), ReadError>,
+    F: Fn(Global, &mut Cursor<'_>, Limits, bool, u8) -> Result<(Boxed<RawExpr>, usize), ReadError>,
     G: Fn(
         Global,
         &mut Cursor<'_>,
@@ -31,7 +31,7 @@ impl<
     ) -> Result<(Items<RawStmt>, usize), ReadError>,
 > Grammar<F, G> {
     #[tactic(auto, unfolding(cc_grammar::specs::ReadingExpressions::parentheses))]
-    fn parentheses(&self, cursor: &mut Cursor<'_>) -> Result<(RawExpr, usize), ReadError>
+    fn parentheses(&self, cursor: &mut Cursor<'_>) -> Result<(Boxed<RawExpr>, usize), ReadError>
         requires { NestsExpr self.now.limits (F.pre self.now.expr) (F.post self.now.expr) }
         ensures reads { Reads shown.expr (spec.parentheses self.now.limits cursor.old) result cursor.new }
         ensures low { IfOk result (λ x. x.1 ≤ self.now.limits.depth) }
@@ -46,7 +46,7 @@ impl<
     }
 
     #[tactic(auto, unfolding(cc_grammar::specs::ReadingExpressions::array))]
-    fn array(&self, cursor: &mut Cursor<'_>) -> Result<(RawExpr, usize), ReadError>
+    fn array(&self, cursor: &mut Cursor<'_>) -> Result<(Boxed<RawExpr>, usize), ReadError>
         requires expr { NestsExpr self.now.limits (F.pre self.now.expr) (F.post self.now.expr) }
         requires some { 0 < self.now.limits.depth }
         ensures reads { Reads shown.expr (spec.array self.now.limits cursor.old) result cursor.new }
@@ -55,11 +55,11 @@ impl<
         let place = cursor.take();
         let (items, height) = self.elements(cursor)?;
         prove!(height < usize::from(self.limits.depth));
-        Ok((trees::list(place, items), height + 1))
+        Ok((trees::list(self.alloc, place, items)?, height + 1))
     }
 
     #[tactic(auto, unfolding(cc_grammar::specs::ReadingExpressions::object))]
-    fn object(&self, cursor: &mut Cursor<'_>) -> Result<(RawExpr, usize), ReadError>
+    fn object(&self, cursor: &mut Cursor<'_>) -> Result<(Boxed<RawExpr>, usize), ReadError>
         requires expr { NestsExpr self.now.limits (F.pre self.now.expr) (F.post self.now.expr) }
         requires some { 0 < self.now.limits.depth }
         ensures reads { Reads shown.expr (spec.object self.now.limits cursor.old) result cursor.new }
@@ -68,11 +68,11 @@ impl<
         let place = cursor.take();
         let (fields, height) = self.object_fields(cursor)?;
         prove!(height < usize::from(self.limits.depth));
-        Ok((trees::object(place, fields), height + 1))
+        Ok((trees::object(self.alloc, place, fields)?, height + 1))
     }
 
     #[tactic(auto, unfolding(cc_grammar::specs::ReadingExpressions::function_expr))]
-    fn function_expr(&self, cursor: &mut Cursor<'_>) -> Result<(RawExpr, usize), ReadError>
+    fn function_expr(&self, cursor: &mut Cursor<'_>) -> Result<(Boxed<RawExpr>, usize), ReadError>
         requires stmt { NestsStmt self.now.limits (G.pre self.now.stmt) (G.post self.now.stmt) }
         requires some { 0 < self.now.limits.depth }
         ensures reads { Reads shown.expr (spec.function_expr self.now.limits cursor.old) result cursor.new }
@@ -83,7 +83,8 @@ impl<
         let (function, height) = self.function(cursor)?;
         let Function { params, body } = function;
         prove!(height < usize::from(self.limits.depth));
-        Ok((trees::function(place, own, params, body), height + 1))
+        let e = trees::function(self.alloc, place, own, params, body)?;
+        Ok((e, height + 1))
     }
 
     #[tactic(auto, unfolding(cc_grammar::specs::ReadingExpressions::new_expr))]
@@ -91,7 +92,7 @@ impl<
         &self,
         cursor: &mut Cursor<'_>,
         with_in: bool,
-    ) -> Result<(RawExpr, usize), ReadError>
+    ) -> Result<(Boxed<RawExpr>, usize), ReadError>
         requires { NestsExpr self.now.limits (F.pre self.now.expr) (F.post self.now.expr) }
         ensures reads { Reads shown.expr (spec.new_expr self.now.limits with_in cursor.old) result cursor.new }
         ensures low { IfOk result (λ x. x.1 ≤ self.now.limits.depth) }
@@ -114,7 +115,7 @@ impl<
         cursor: &mut Cursor<'_>,
         with_in: bool,
         nested: Nested,
-    ) -> Result<(RawExpr, usize), ReadError>
+    ) -> Result<(Boxed<RawExpr>, usize), ReadError>
         requires expr { NestsExpr self.now.limits (F.pre self.now.expr) (F.post self.now.expr) }
         requires stmt { NestsStmt self.now.limits (G.pre self.now.stmt) (G.post self.now.stmt) }
         requires some { 0 < self.now.limits.depth }
@@ -136,7 +137,7 @@ impl<
         &self,
         cursor: &mut Cursor<'_>,
         with_in: bool,
-    ) -> Result<(RawExpr, usize), ReadError>
+    ) -> Result<(Boxed<RawExpr>, usize), ReadError>
         requires expr { NestsExpr self.now.limits (F.pre self.now.expr) (F.post self.now.expr) }
         requires stmt { NestsStmt self.now.limits (G.pre self.now.stmt) (G.post self.now.stmt) }
         ensures reads { Reads shown.expr (spec.primary self.now.limits with_in cursor.old) result cursor.new }

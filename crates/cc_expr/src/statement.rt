@@ -13,11 +13,11 @@ use cc_cursor::error::ReadError;
 use cc_cursor::limits::Limits;
 use cc_cursor::starts::{Start, start_of};
 use cc_raw::tree::{RawExpr, RawStmt};
-use sqlite_items::Items;
+use sqlite_items::{Boxed, Items};
 use std::alloc::Global;
 
 impl<
-    F: Fn(Global, &mut Cursor<'_>, Limits, bool, u8) -> Result<(RawExpr, usize), ReadError>,
+    F: Fn(Global, &mut Cursor<'_>, Limits, bool, u8) -> Result<(Boxed<RawExpr>, usize), ReadError>,
     G: Fn(
         Global,
         &mut Cursor<'_>,

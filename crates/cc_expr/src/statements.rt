@@ -21,11 +21,11 @@ use cc_grammar::word::Word;
 use cc_lexer::token::Mark;
 use cc_raw::tree::{RawExpr, RawStmt};
 use cc_trees::statement_trees as trees;
-use sqlite_items::Items;
+use sqlite_items::{Boxed, Items};
 use std::alloc::Global;
 
 impl<
-    F: Fn(Global, &mut Cursor<'_>, Limits, bool, u8) -> Result<(RawExpr, usize), ReadError>,
+    F: Fn(Global, &mut Cursor<'_>, Limits, bool, u8) -> Result<(Boxed<RawExpr>, usize), ReadError>,
     G: Fn(
         Global,
         &mut Cursor<'_>,
@@ -38,7 +38,7 @@ impl<
         &self,
         cursor: &mut Cursor<'_>,
         place: Place,
-        e: (RawExpr, usize),
+        e: (Boxed<RawExpr>, usize),
     ) -> Result<(Items<RawStmt>, usize), ReadError>
         ensures reads { Reads shown.stmts (spec.simple self.now.limits place (shown.expr e) cursor.old) result cursor.new }
         ensures low { IfOk result (λ x. x.1 ≡ e.1) }
@@ -67,7 +67,7 @@ impl<
 
     /// An expression in parentheses.
     #[tactic(auto, unfolding(cc_grammar::specs::ReadingStatements::head))]
-    pub(crate) fn head(&self, cursor: &mut Cursor<'_>) -> Result<(RawExpr, usize), ReadError>
+    pub(crate) fn head(&self, cursor: &mut Cursor<'_>) -> Result<(Boxed<RawExpr>, usize), ReadError>
         requires expr { NestsExpr self.now.limits (F.pre self.now.expr) (F.post self.now.expr) }
         ensures reads { Reads shown.expr (spec.head self.now.limits cursor.old) result cursor.new }
         ensures low { IfOk result (λ x. x.1 < self.now.limits.depth) }
@@ -85,7 +85,7 @@ impl<
         cursor: &mut Cursor<'_>,
         context: Context<'_>,
         place: Place,
-        test: (RawExpr, usize),
+        test: (Boxed<RawExpr>, usize),
         then: (Items<RawStmt>, usize),
     ) -> Result<(Items<RawStmt>, usize), ReadError>
         requires stmt { NestsStmt self.now.limits (G.pre self.now.stmt) (G.post self.now.stmt) }

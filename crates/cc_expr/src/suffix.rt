@@ -18,11 +18,11 @@ use cc_cursor::signs::{Suffix, suffix_of};
 use cc_lexer::token::Mark;
 use cc_raw::tree::{RawExpr, RawStmt};
 use cc_trees::trees;
-use sqlite_items::Items;
+use sqlite_items::{Boxed, Items};
 use std::alloc::Global;
 
 impl<
-    F: Fn(Global, &mut Cursor<'_>, Limits, bool, u8) -> Result<(RawExpr, usize), ReadError>,
+    F: Fn(Global, &mut Cursor<'_>, Limits, bool, u8) -> Result<(Boxed<RawExpr>, usize), ReadError>,
     G: Fn(
         Global,
         &mut Cursor<'_>,
@@ -34,9 +34,9 @@ impl<
     fn dotted(
         &self,
         cursor: &mut Cursor<'_>,
-        e: RawExpr,
+        e: Boxed<RawExpr>,
         height: usize,
-    ) -> Result<(RawExpr, usize), ReadError>
+    ) -> Result<(Boxed<RawExpr>, usize), ReadError>
         requires { height < self.now.limits.depth }
         ensures reads { Reads shown.expr (spec.dotted self.now.limits (raw_expr e, height) cursor.old) result cursor.new }
         ensures low { IfOk result (λ x. x.1 ≤ self.now.limits.depth) }
@@ -57,9 +57,9 @@ impl<
     fn bracketed(
         &self,
         cursor: &mut Cursor<'_>,
-        e: RawExpr,
+        e: Boxed<RawExpr>,
         height: usize,
-    ) -> Result<(RawExpr, usize), ReadError>
+    ) -> Result<(Boxed<RawExpr>, usize), ReadError>
         requires expr { NestsExpr self.now.limits (F.pre self.now.expr) (F.post self.now.expr) }
         requires height { height < self.now.limits.depth }
         ensures reads { Reads shown.expr (spec.bracketed self.now.limits (raw_expr e, height) cursor.old) result cursor.new }
@@ -78,9 +78,9 @@ impl<
     fn called(
         &self,
         cursor: &mut Cursor<'_>,
-        e: RawExpr,
+        e: Boxed<RawExpr>,
         height: usize,
-    ) -> Result<(RawExpr, usize), ReadError>
+    ) -> Result<(Boxed<RawExpr>, usize), ReadError>
         requires expr { NestsExpr self.now.limits (F.pre self.now.expr) (F.post self.now.expr) }
         requires height { height < self.now.limits.depth }
         ensures reads { Reads shown.expr (spec.called self.now.limits (raw_expr e, height) cursor.old) result cursor.new }
@@ -98,9 +98,9 @@ impl<
         &self,
         cursor: &mut Cursor<'_>,
         suffix: Suffix,
-        e: RawExpr,
+        e: Boxed<RawExpr>,
         height: usize,
-    ) -> Result<(RawExpr, usize), ReadError>
+    ) -> Result<(Boxed<RawExpr>, usize), ReadError>
         requires expr { NestsExpr self.now.limits (F.pre self.now.expr) (F.post self.now.expr) }
         requires height { height < self.now.limits.depth }
         ensures reads { Reads shown.expr (spec.suffixed self.now.limits suffix (raw_expr e, height) cursor.old) result cursor.new }
@@ -119,9 +119,9 @@ impl<
         &self,
         cursor: &mut Cursor<'_>,
         calls: bool,
-        mut e: RawExpr,
+        mut e: Boxed<RawExpr>,
         mut height: usize,
-    ) -> Result<(RawExpr, usize), ReadError>
+    ) -> Result<(Boxed<RawExpr>, usize), ReadError>
         requires expr { NestsExpr self.now.limits (F.pre self.now.expr) (F.post self.now.expr) }
         requires height { height ≤ self.now.limits.depth }
         ensures reads { Reads shown.expr (spec.suffixes self.now.limits calls (suc self.now.limits.depth) (raw_expr e, height) cursor.old) result cursor.new }

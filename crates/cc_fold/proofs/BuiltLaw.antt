@@ -1,6 +1,6 @@
 -- The plan knows of every reference whether it is built in.
-use Rattle.std.proofs.Common.{◌≡◌, refl, sym, ap, ◌∙◌, ℕ, ◌-◌, ◌<◌, ◌≤◌, Bool, true, false, List, length, map, Option, Some, None, unwrap_or, arith, ◌⊎◌, inl, inr}
-use Rattle.std.specs.Prelude.{slice_get, is_some, is_none, nat_lt, count_by}
+use Rattle.std.proofs.Common.{◌≡◌, refl, sym, ap, ◌∙◌, ℕ, ◌-◌, ◌<◌, ◌≤◌, Bool, true, false, length, map, Option, Some, None, unwrap_or, arith}
+use Rattle.std.specs.Prelude.{slice_get, is_some, is_none, nat_lt}
 use Rattle.std.specs.List.{range_with_len}
 use Rattle.std.proofs.lemmas.Bool.{ltb-true, ltb-false}
 use Rattle.std.proofs.lemmas.List.FromFn.{get_or-map-range_with_len, length-map-range_with_len}

@@ -2,12 +2,12 @@
 -- the right of an assignment, no variable and no access before a dot, and no variable under `delete`.
 use Rattle.std.proofs.Common.{◌≡◌, ℕ, Bool, true, false, Option, Some, None, refl, sym, ap, ◌∙◌}
 use Rattle.std.specs.Prelude.{not, ◌&&◌, ◌||◌}
-use Rattle.cc_ast.specs.Syntax.{Expr, lit, var, this, fun, list, object, unary, binary, and, or, cond, assign, step as step_of, member, index, call, new, comma, cast, tick, Exprs}
+use Rattle.cc_ast.specs.Syntax.{Expr, lit, var, fun, member, index, call, cast, tick, Exprs}
 use Rattle.cc_ast.specs.declared.tree.Ref.{Ref}
 use Rattle.cc_meaning.specs.State.{Path, Tables}
 use Rattle.cc_meaning.specs.Monad.{pick}
 use Rattle.cc_meaning.specs.Shapes.{longer, path_of}
-use Rattle.cc_meaning.specs.Parts.{expr_parts, is_variable, expr_well}
+use Rattle.cc_meaning.specs.Parts.{expr_parts, expr_well}
 use Rattle.cc_tied.specs.Placed.{Place, a_value, an_assigned, a_callee, a_deleted, an_object, accesses, variable, functions, builds, reaches, keeps, guard}
 use Rattle.cc_tied.specs.Rewrites.{put, put_call, put_on_value, re, re_all}
 use Rattle.cc_tied.proofs.KeptPaths.{Stays, guard_same, re_var, re_member}

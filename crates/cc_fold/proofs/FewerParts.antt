@@ -1,10 +1,10 @@
 -- Lists of parts of which some are dropped, and sites may stand twice.
-use Rattle.std.proofs.Common.{◌≡◌, ◌⊎◌, inl, inr, ℕ, Bool, List, [], ◌∷◌, ◌++◌, refl, sym, ap, subst}
+use Rattle.std.proofs.Common.{◌≡◌, inl, inr, ℕ, List, [], ◌∷◌, ◌++◌, refl, sym, ap, subst}
 use Rattle.cc_meaning.specs.Alike.{In, here, there}
 use Rattle.cc_meaning.specs.Parts.{Part, has_site, makes}
 use Rattle.cc_meaning.specs.WellMade.{functions_in}
 use Rattle.cc_tied.proofs.KeptSets.{in_left, in_right, in_either}
-use Rattle.cc_fold.proofs.Sublists.{Sublist, sub_none, sub_kept, sub_dropped, sub_same, sub_nothing, sub_before, sub_both, sub_through}
+use Rattle.cc_fold.proofs.Sublists.{Sublist, sub_kept, sub_dropped, sub_same, sub_nothing, sub_before, sub_both, sub_through}
 
 pub functions_both : (xs ys : List Part) → functions_in (xs ++ ys) ≡ functions_in xs ++ functions_in ys
 unfolding functions_in

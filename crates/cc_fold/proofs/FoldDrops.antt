@@ -8,7 +8,7 @@ use Rattle.cc_ast.specs.declared.operator.BinOp.TheVariants.{Instance, Has}
 use Rattle.cc_ast.specs.declared.operator.UnOp.{UnOp}
 use Rattle.cc_ast.specs.declared.operator.UnOp.TheVariants.{Void, Delete}
 use Rattle.cc_meaning.specs.Values.{prim}
-use Rattle.cc_meaning.specs.Operators.{Outcome, gives, truthy, unary_of, binary_of}
+use Rattle.cc_meaning.specs.Operators.{Outcome, truthy, unary_of, binary_of}
 use Rattle.cc_meaning.specs.State.{Tables}
 use Rattle.cc_meaning.specs.Parts.{Part, has_site, exact_prim, expr_parts, expr_well}
 use Rattle.cc_tied.proofs.KeptPaths.{Stays}

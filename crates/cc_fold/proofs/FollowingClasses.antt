@@ -1,6 +1,6 @@
 -- Where scopes follow those of a well made program, classes keep their functions, and the methods that
 -- are set are still of the classes whose functions their paths are set to.
-use Rattle.std.proofs.Common.{◌≡◌, ◌⊎◌, inl, inr, ℕ, zero, suc, ◌+◌, Bool, true, false, List, [], ◌∷◌, map, Option, Some, None, refl, sym, ap, subst, ◌∙◌, arith}
+use Rattle.std.proofs.Common.{◌≡◌, ◌⊎◌, inl, inr, ℕ, suc, ◌+◌, Bool, true, false, List, [], ◌∷◌, map, Option, Some, None, refl, sym, ap, subst, ◌∙◌, arith}
 use Rattle.std.specs.Prelude.{slice_get, nat_eq, ◌&&◌}
 use Rattle.std.proofs.lemmas.Bool.{eqb-true}
 use Rattle.cc_ast.specs.Syntax.{Scope, Program}
@@ -10,7 +10,7 @@ use Rattle.cc_meaning.specs.Monad.{pick}
 use Rattle.cc_meaning.specs.Store.{same_numbers, set_to, is_number, class_from, class_of_function}
 use Rattle.cc_meaning.specs.Alike.{In, here, there, ListT}
 use Rattle.cc_meaning.specs.Shapes.{head_of, tables_of, set_by, sets_by_chunks}
-use Rattle.cc_meaning.specs.WellMade.{all_functions, IsDistinct, HasMethod, IsClass, WellMade}
+use Rattle.cc_meaning.specs.WellMade.{all_functions, IsDistinct, HasMethod, WellMade}
 use Rattle.cc_tied.proofs.KeptSets.{Within}
 use Rattle.cc_fold.proofs.Sublists.{Sublist, sub_in, sub_distinct}
 use Rattle.cc_fold.proofs.OtherTables.{functions_same}

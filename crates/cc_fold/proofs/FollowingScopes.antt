@@ -1,10 +1,10 @@
 -- Scopes that follow others: with the same heads and declarations, and otherwise with fewer parts.
-use Rattle.std.proofs.Common.{◌≡◌, ℕ, zero, suc, Bool, true, List, [], ◌∷◌, ◌++◌, length, Option, Some, None, refl, sym, ap, subst, ◌∙◌}
+use Rattle.std.proofs.Common.{◌≡◌, ℕ, true, List, [], ◌∷◌, Option, Some, refl, subst}
 use Rattle.std.specs.Prelude.{slice_get}
 use Rattle.cc_ast.specs.Syntax.{Scope}
 use Rattle.cc_ast.specs.declared.tree.Ref.{Ref}
 use Rattle.cc_ast.specs.declared.tables.ChunkInfo.{ChunkInfo}
-use Rattle.cc_meaning.specs.State.{Path, Tables}
+use Rattle.cc_meaning.specs.State.{Tables}
 use Rattle.cc_meaning.specs.Alike.{In, ListT, nil_t, cons_t, OptT, none_t, some_t}
 use Rattle.cc_meaning.specs.Shapes.{body_in, sets_by_stmts, sets_by_chunks}
 use Rattle.cc_meaning.specs.Parts.{declares, stmts_parts}

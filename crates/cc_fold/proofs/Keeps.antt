@@ -1,18 +1,13 @@
 -- Whichever scopes of a well made program are folded, it does the same.
-use Rattle.std.proofs.Common.{◌≡◌, ℕ, Bool, false, Option, Some, None, is_some, refl, sym, ap, subst, ◌∙◌}
-use Rattle.cc_ast.specs.Syntax.{Stmts, more_stmts, Program}
-use Rattle.cc_ast.specs.declared.tree.Ref.{Ref}
-use Rattle.cc_meaning.specs.Shapes.{tables_of}
+use Rattle.std.proofs.Common.{refl, sym, subst}
 use Rattle.cc_meaning.specs.Same.{Same}
-use Rattle.cc_tied.specs.Tied.{built_of}
 use Rattle.cc_tied.specs.PlainFacts.{plain_facts}
-use Rattle.cc_tied.specs.Mixed.{MixedScopes, IsMixed}
 use Rattle.cc_tied.proofs.KeptPaths.{Stays}
-use Rattle.cc_tied.proofs.MixedSame.{mixed_kit, same_by_scopes, whole_rewrite}
+use Rattle.cc_tied.proofs.MixedSame.{same_by_scopes}
 use Rattle.cc_tied.proofs.InjectPass.{same_tables}
 use Rattle.cc_fold.specs.Built.{built_globals, built_in}
 use Rattle.cc_fold.specs.Fold.{fold, same_call, same_declarator, same_name, same_stmt}
-use Rattle.cc_fold.specs.Law.{folded_by, FoldingKeeps}
+use Rattle.cc_fold.specs.Law.{FoldingKeeps}
 use Rattle.cc_fold.proofs.BuiltLaw.{plan_lacks}
 use Rattle.cc_fold.proofs.Law.{fold_rules}
 use Rattle.cc_fold.proofs.Pass.{checked_adds}

@@ -1,5 +1,5 @@
 -- Whichever scopes of a well made program without flat paths are folded, it stays well made.
-use Rattle.std.proofs.Common.{◌≡◌, ℕ, Bool, List, [], refl, sym, subst}
+use Rattle.std.proofs.Common.{ℕ, Bool, List, [], refl, sym, subst}
 use Rattle.cc_ast.specs.Syntax.{Expr, Exprs, Stmts, more_stmts, Scope, Program}
 use Rattle.cc_ast.specs.declared.tree.Ref.{Ref}
 use Rattle.cc_meaning.specs.State.{Tables}
@@ -8,11 +8,11 @@ use Rattle.cc_meaning.specs.Shapes.{tables_of}
 use Rattle.cc_meaning.specs.WellMade.{WellMade}
 use Rattle.cc_tied.specs.Rewrites.{re_stmts, whole, whole_in}
 use Rattle.cc_tied.specs.Promises.{HasNoPaths}
-use Rattle.cc_tied.specs.Mixed.{MixedScopes, no_scopes, as_it_was, with_other, IsMixed}
+use Rattle.cc_tied.specs.Mixed.{MixedScopes, no_scopes, as_it_was, with_other}
 use Rattle.cc_tied.proofs.KeptSets.{whole_sets, stmts_within}
 use Rattle.cc_fold.specs.Built.{built_globals, built_in}
 use Rattle.cc_fold.specs.Fold.{fold, same_call, same_declarator, same_name, same_stmt}
-use Rattle.cc_fold.specs.Law.{folded_by, FoldingKeepsWellMade}
+use Rattle.cc_fold.specs.Law.{FoldingKeepsWellMade}
 use Rattle.cc_fold.proofs.DroppingSteps.{Drops}
 use Rattle.cc_fold.proofs.RewrittenParts.{stmts_fewer}
 use Rattle.cc_fold.proofs.RewrittenDeclarations.{declares_kept}

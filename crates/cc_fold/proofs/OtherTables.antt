@@ -8,8 +8,8 @@ use Rattle.cc_meaning.specs.Operators.{is_in}
 use Rattle.cc_meaning.specs.State.{Head, Path, Tables}
 use Rattle.cc_meaning.specs.Store.{global_kind, name_of}
 use Rattle.cc_meaning.specs.Shapes.{is_named}
-use Rattle.cc_meaning.specs.Parts.{Part, has_site, uses_prop, uses_doc, declares, method_on_prototype, method_to, method_in, key_parts, expr_parts, target_parts, exprs_parts, fields_parts, option_parts, vars_parts, init_parts, name_parts, stmt_parts, stmts_parts, maybe_parts, cases_parts, assigns, may_write, may_read, has_use, global_at, is_use, built_callee, takes_operand, expr_well, target_well, exprs_well, fields_well}
-use Rattle.cc_meaning.specs.WellMade.{Open, nested, in_loop, option_well, vars_well, some_vars, init_well, name_well, may_break, may_continue, labels_for, defaults, is_there, stmt_well, stmts_well, maybe_well, cases_well, functions_in, all_functions}
+use Rattle.cc_meaning.specs.Parts.{Part, has_site, uses_prop, uses_doc, declares, method_on_prototype, method_to, method_in, key_parts, expr_parts, target_parts, exprs_parts, fields_parts, option_parts, vars_parts, init_parts, name_parts, stmt_parts, stmts_parts, maybe_parts, cases_parts, assigns, may_write, may_read, global_at, is_use, built_callee, takes_operand, expr_well, target_well, exprs_well, fields_well}
+use Rattle.cc_meaning.specs.WellMade.{Open, nested, in_loop, option_well, vars_well, some_vars, init_well, name_well, labels_for, defaults, is_there, stmt_well, stmts_well, maybe_well, cases_well, functions_in, all_functions}
 
 joined : {A : Type 0} {xs us ys vs : List A} → xs ≡ us → ys ≡ vs → xs ++ ys ≡ us ++ vs
 joined {us = us} {ys = ys} h k = ap (λ z. z ++ ys) h ∙ ap (λ z. us ++ z) k

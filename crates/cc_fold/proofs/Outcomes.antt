@@ -1,13 +1,14 @@
 -- What folding makes of an operator's outcome.
-use Rattle.std.proofs.Common.{◌≡◌, refl, sym, ap, ◌∙◌, subst, ℕ, ◌+◌, ◌<◌, ◌^◌, ◌≤◌, Some, None, unwrap_or, arith}
-use Rattle.cc_ast.specs.Syntax.{Expr, lit, unary, binary}
+use Rattle.std.proofs.Common.{◌≡◌, refl, sym, ap, ◌∙◌, subst, ℕ, ◌+◌, ◌<◌, ◌^◌, ◌≤◌, List, ◌++◌, Some, None, unwrap_or, arith}
+use Rattle.cc_ast.specs.Syntax.{Expr, lit, text, unary, binary}
 use Rattle.cc_ast.specs.declared.operator.BinOp.{BinOp}
-use Rattle.cc_ast.specs.declared.operator.BinOp.TheVariants.{Instance, Has}
+use Rattle.cc_ast.specs.declared.operator.BinOp.TheVariants.{Add, Instance, Has}
 use Rattle.cc_ast.specs.declared.operator.UnOp.{UnOp}
 use Rattle.cc_ast.specs.declared.operator.UnOp.TheVariants.{Void, Delete}
 use Rattle.cc_meaning.specs.Values.{Val, prim, obj, out}
-use Rattle.cc_meaning.specs.Operators.{Outcome, gives, breaks}
-use Rattle.cc_fold.specs.Fold.{computed, computed_of_one, computed_of_two, fold_unary, fold_binary, literal, price_of, marked, charged}
+use Rattle.cc_meaning.specs.Operators.{Outcome, gives, breaks, binary_of, prim_binary, add_prims, prim_text}
+use Rattle.cc_meaning.specs.Parts.{exact_prim}
+use Rattle.cc_fold.specs.Fold.{computed, computed_of_one, computed_of_two, fold_unary, fold_binary, literal, literal_at, price_of, unmarked, marked, charged}
 use Rattle.cc_fold.specs.Literals.{lit_of}
 use Rattle.cc_fold.proofs.Prices.{charged_fits, charged_past}
 
@@ -71,3 +72,9 @@ unfolding fold_binary
 binary_other i Instance a b h k = absurd (h refl)
 binary_other i Has a b h k = absurd (k refl)
 binary_other i op a b h k = refl
+
+-- ---- two texts
+
+pub texts_joined : (i j k : ℕ) (s t : List ℕ) → fold_binary i Add (lit j (text s)) (lit k (text t)) ≡ lit i (text (s ++ t))
+unfolding fold_binary computed_of_two computed literal literal_at price_of unmarked charged marked exact_prim binary_of prim_binary add_prims prim_text
+texts_joined i j k s t = refl

@@ -1,7 +1,7 @@
 -- A rewriting by a step that drops parts sets no method that wasn't set before.
-use Rattle.std.proofs.Common.{◌≡◌, ℕ, Bool, true, false, List, [], ◌∷◌, Option, Some, None, refl, sym, ap, subst, ◌∙◌}
+use Rattle.std.proofs.Common.{◌≡◌, ℕ, Bool, true, false, List, [], Option, Some, None, refl, sym, ap, subst}
 use Rattle.std.specs.Prelude.{◌||◌}
-use Rattle.cc_ast.specs.Syntax.{Expr, lit, var, this, fun, list, object, unary, binary, and, or, cond, assign, step as step_of, member, index, call, new, comma, cast, tick, Target, to_var, to_member, to_index, Exprs}
+use Rattle.cc_ast.specs.Syntax.{Expr, var, fun, member, index, cast, tick, Target, to_var, to_member, to_index, Exprs}
 use Rattle.cc_ast.specs.declared.tree.Ref.{Ref}
 use Rattle.cc_meaning.specs.Names.{name_prototype}
 use Rattle.cc_meaning.specs.State.{Path, Tables}

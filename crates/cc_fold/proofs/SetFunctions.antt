@@ -1,15 +1,15 @@
 -- What globals and paths are set to are functions that stand in the trees, in the order in which they
 -- stand: where each stands once, each is set once.
-use Rattle.std.proofs.Common.{◌≡◌, ℕ, zero, suc, Bool, true, false, List, [], ◌∷◌, ◌++◌, map, Option, Some, None, refl, sym, ap, subst, ◌∙◌}
+use Rattle.std.proofs.Common.{◌≡◌, ℕ, zero, suc, List, [], ◌∷◌, ◌++◌, map, Option, Some, None, refl, sym, ap, subst, ◌∙◌}
 use Rattle.std.specs.Prelude.{slice_get}
-use Rattle.cc_ast.specs.Syntax.{Expr, lit, var, this, fun, list, object, unary, binary, and, or, cond, assign, step, member, index, call, new, comma, cast, tick, Fields, no_fields, more_fields, Declarator, Stmt, simple, vars, fun_decl, Stmts, no_stmts, more_stmts, Scope}
+use Rattle.cc_ast.specs.Syntax.{Expr, fun, object, assign, Fields, no_fields, more_fields, Declarator, Stmt, simple, vars, fun_decl, Stmts, no_stmts, more_stmts, Scope}
 use Rattle.cc_ast.specs.declared.tables.ChunkInfo.{ChunkInfo}
 use Rattle.cc_meaning.specs.State.{Path, Tables}
 use Rattle.cc_meaning.specs.Alike.{In, here, there}
 use Rattle.cc_meaning.specs.Shapes.{path_of_key, path_of_ref, path_of_target, sets_by, sets_by_fields, sets_by_option, sets_by_vars, sets_by_value, sets_by_fun, sets_by_stmt, sets_by_stmts, sets_by_chunks}
-use Rattle.cc_meaning.specs.Parts.{Part, has_site, declares, makes, method_in, key_parts, expr_parts, target_parts, fields_parts, option_parts, vars_parts, stmt_parts, stmts_parts}
+use Rattle.cc_meaning.specs.Parts.{Part, has_site, declares, method_in, key_parts, expr_parts, target_parts, fields_parts, option_parts, vars_parts, stmt_parts, stmts_parts}
 use Rattle.cc_meaning.specs.WellMade.{functions_in, all_functions, IsDistinct}
-use Rattle.cc_fold.proofs.Sublists.{Sublist, sub_same, sub_nothing, sub_after, sub_both, sub_distinct}
+use Rattle.cc_fold.proofs.Sublists.{Sublist, sub_same, sub_nothing, sub_both, sub_distinct}
 use Rattle.cc_fold.proofs.FewerParts.{functions_both}
 
 abbrev pub functions_of : List (Path × ℕ) → List ℕ

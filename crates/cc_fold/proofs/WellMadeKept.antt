@@ -1,10 +1,11 @@
 -- A program whose scopes follow those of a well made program without flat paths is well made.
-use Rattle.std.proofs.Common.{◌≡◌, ℕ, zero, suc, ◌^◌, ◌<◌, ◌≤◌, Bool, true, false, List, [], ◌∷◌, length, map, Option, Some, None, refl, sym, ap, subst, ◌∙◌}
+use Rattle.std.proofs.Common.{◌≡◌, ℕ, zero, suc, ◌^◌, ◌<◌, ◌≤◌, true, List, [], ◌∷◌, length, map, Some, sym, subst, ◌∙◌}
 use Rattle.std.specs.Prelude.{slice_get}
 use Rattle.cc_ast.specs.Syntax.{Scope, Program}
 use Rattle.cc_ast.specs.declared.tables.GlobalInfo.{GlobalInfo}
 use Rattle.cc_ast.specs.declared.tables.Class.{Class}
 use Rattle.cc_ast.specs.declared.tables.PropInfo.{PropInfo}
+use Rattle.cc_ast.specs.declared.tables.SiteDoc.{SiteDoc}
 use Rattle.cc_ast.specs.declared.tree.Ref.{Ref}
 use Rattle.cc_ast.specs.declared.tables.FlatPath.{FlatPath}
 use Rattle.cc_meaning.specs.State.{Tables}
@@ -12,7 +13,7 @@ use Rattle.cc_meaning.specs.Store.{class_of_function}
 use Rattle.cc_meaning.specs.Alike.{In, here, there, ListT}
 use Rattle.cc_meaning.specs.Shapes.{head_of, tables_of, sets_by_chunks}
 use Rattle.cc_meaning.specs.Parts.{Part, mentions, stmts_parts}
-use Rattle.cc_meaning.specs.WellMade.{is_chunk, opened, parts_of, stmts_well, Reached, IsPart, a_site, a_prop, a_doc, a_mention, a_declaration, a_function, a_method, IsScope, IsDistinct, Encloses, directly, further, IsProp, IsClass, IsGlobal, ArePaths, IsCounted, outer_names, IsOrdered, IsMeant, WellMade}
+use Rattle.cc_meaning.specs.WellMade.{is_chunk, opened, parts_of, stmts_well, Reached, IsNumbered, numbered_place, numbered_global, IsPart, a_site, a_prop, a_doc, a_mention, a_declaration, a_function, a_method, IsScope, IsDistinct, Encloses, directly, further, IsProp, IsDoc, IsClass, IsGlobal, ArePaths, IsCounted, outer_names, IsOrdered, IsMeant, WellMade}
 use Rattle.cc_tied.specs.Promises.{HasNoPaths}
 use Rattle.cc_tied.proofs.Lists.{tied_length}
 use Rattle.cc_tied.proofs.InjectFacts.{part_of}
@@ -41,11 +42,15 @@ module _ (P : Program) (W : WellMade P) (none : HasNoPaths P) (ts : List Scope) 
 
   -- ---- scopes
 
+  numbered_after : {r : Ref} → IsNumbered P r → IsNumbered R r
+  numbered_after (numbered_place u n) = numbered_place u n
+  numbered_after (numbered_global n h) = numbered_global n h
+
   part_after : (f : ℕ) {x : Part} → IsPart P f x → IsPart R f x
   part_after f (a_site i h) = a_site i h
   part_after f (a_prop p h) = a_prop p h
   part_after f (a_doc d h) = a_doc d h
-  part_after f (a_mention c r h) = a_mention c r (λ q. sound_after P W ts F (h (reached_before P W ts F q)) q)
+  part_after f (a_mention c r n h) = a_mention c r (numbered_after n) (λ q. sound_after P W ts F (h (reached_before P W ts F q)) q)
   part_after f (a_declaration c r p h) = a_declaration c r (placed_after P W ts F p) (λ q. sound_after P W ts F (h (reached_before P W ts F q)) q)
   part_after f (a_function c g d m) = a_function c g d (made_after P W ts F f g d m)
   part_after f (a_method w p g h) = a_method w p g (method_after P W ts F w p g h)
@@ -103,6 +108,9 @@ module _ (P : Program) (W : WellMade P) (none : HasNoPaths P) (ts : List Scope) 
   prop_after : (n : ℕ) (p : PropInfo) → slice_get P.props n ≡ Some p → IsProp R p
   prop_after n p e = let k = W.props n p e in record { no_index = k.no_index; kept = k.kept }
 
+  doc_after : (n : ℕ) (d : SiteDoc) → slice_get P.docs n ≡ Some d → IsDoc R d
+  doc_after n d e = let k = W.docs n d e in record { classes = k.classes; vars = k.vars }
+
   meant_after : (f c n : ℕ) → Reached R f → In (mentions c (Ref.Global n)) (parts_of R f) → IsMeant R n
   meant_after f c n r i = record { meant = (W.meant f c n (reached_before P W ts F r) (part_before P W ts F f _ i)).meant }
 
@@ -119,6 +127,7 @@ module _ (P : Program) (W : WellMade P) (none : HasNoPaths P) (ts : List Scope) 
     kept = W.kept;
     classes = class_after;
     set_once = λ i j w v f c e d h. sets_once P W ts F i j w v f e d;
+    docs = doc_after;
     globals = ordered_after;
     each_global = global_after;
     paths = λ n g e. no_paths n g.flat (none.none g (in_list P.globals n g e));

@@ -1,7 +1,6 @@
 -- The laws of folding, whichever scopes of a program are folded by its plan.
-use Rattle.std.specs.Prelude.{ℕ, Bool}
-use Rattle.cc_ast.specs.Syntax.{Stmts, more_stmts, Program}
-use Rattle.cc_ast.specs.declared.tree.Ref.{Ref}
+use Rattle.std.specs.Prelude.{ℕ}
+use Rattle.cc_ast.specs.Syntax.{Stmts, Program}
 use Rattle.cc_meaning.specs.Same.{Same}
 use Rattle.cc_meaning.specs.WellMade.{WellMade}
 use Rattle.cc_tied.specs.Rewrites.{re_stmts}

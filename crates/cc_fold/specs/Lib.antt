@@ -4,4 +4,5 @@ pub mod Built
 pub mod Made
 pub mod Literals
 pub mod Places
+pub mod Leaves
 pub mod Law

@@ -55,7 +55,7 @@ fn is_built_at(global: &GlobalInfo, externs: usize, n: usize) -> bool
 pub fn built_of(alloc: Global, program: &Program) -> Result<Plan, AllocError>
     ensures { IfOk result (λ p. p ≡ built_globals program.now) }
 {
-    let globals = program.globals.as_slice();
+    let globals = program.globals.get().as_slice();
     let externs = outer_globals(globals).saturating_sub(3);
     let mut built = Vec::new(alloc);
     for (n, global) in globals.iter().enumerate() {

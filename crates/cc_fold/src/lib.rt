@@ -10,10 +10,10 @@ ghost use Rattle.cc_fold.specs.Fold.{fold_scope};
 
 pub mod built;
 mod choice;
-mod copies;
 mod expression;
 pub mod laws;
 mod literal;
+mod make;
 mod operators;
 mod parts;
 mod place;
@@ -23,6 +23,7 @@ mod statement;
 use crate::built::{Plan, built_of};
 use crate::statement::fold_stmts;
 use cc_ast::program::{Program, Scope};
+use cc_ast::shared::Shared;
 use std::alloc::{AllocError, Global};
 
 /// The plan of folding for a program.
@@ -37,11 +38,13 @@ pub fn plan(alloc: Global, program: &Program) -> Result<Plan, AllocError>
 pub fn rewrite(alloc: Global, plan: &Plan, _slot: u32, scope: &Scope) -> Result<Scope, AllocError>
     ensures { IfOk result (λ s. s ≡ fold_scope (built_in plan.now) scope.now) }
 {
+    let body = fold_stmts(alloc, plan, scope.body.get())?;
+    let body = Shared::new(alloc, body)?;
     Ok(Scope {
         params: scope.params,
         names: scope.names,
         own: scope.own,
-        body: fold_stmts(alloc, plan, &scope.body)?,
+        body,
         parent: scope.parent,
         doc: scope.doc,
     })

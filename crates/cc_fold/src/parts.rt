@@ -10,12 +10,12 @@ use crate::built::Plan;
 use crate::expression::{fold_expr, fold_target};
 use crate::place::Place;
 use cc_ast::tree::{Declarator, Expr, ForInit, ForTarget};
-use sqlite_items::Items;
+use sqlite_items::{Boxed, Items};
 use std::alloc::{AllocError, Global};
 
 /// An expression that stands by itself, folded.
 #[tactic(auto, using(crate::proofs::StmtEquations::value_at))]
-pub fn fold_value(alloc: Global, plan: &Plan, e: &Expr) -> Result<Expr, AllocError>
+pub fn fold_value(alloc: Global, plan: &Plan, e: &Expr) -> Result<Boxed<Expr>, AllocError>
     ensures { IfOk result (λ r. term r ≡ fold_value (built_in plan.now) (term e.now)) }
 {
     fold_expr(alloc, plan, false, Place::Value, e)
@@ -23,12 +23,16 @@ pub fn fold_value(alloc: Global, plan: &Plan, e: &Expr) -> Result<Expr, AllocErr
 
 /// The same where there is one.
 #[tactic(auto, using(crate::proofs::StmtEquations::option_steps), unfolding(cc_ast::specs::Bridge::option_term))]
-pub fn fold_option(alloc: Global, plan: &Plan, e: &Option<Expr>) -> Result<Option<Expr>, AllocError>
+pub fn fold_option(
+    alloc: Global,
+    plan: &Plan,
+    e: &Option<Boxed<Expr>>,
+) -> Result<Option<Boxed<Expr>>, AllocError>
     ensures { IfOk result (λ r. option_term r ≡ fold_option (built_in plan.now) (option_term e.now)) }
 {
     match e {
         None => Ok(None),
-        Some(e) => Ok(Some(fold_value(alloc, plan, e)?)),
+        Some(e) => Ok(Some(fold_value(alloc, plan, e.get())?)),
     }
 }
 
@@ -37,10 +41,11 @@ pub fn fold_option(alloc: Global, plan: &Plan, e: &Option<Expr>) -> Result<Optio
 fn fold_declarator(alloc: Global, plan: &Plan, d: &Declarator) -> Result<Declarator, AllocError>
     ensures { IfOk result (λ r. declarator r ≡ fold_declarator (built_in plan.now) (declarator d.now)) }
 {
+    let value = fold_option(alloc, plan, &d.value)?;
     Ok(Declarator {
         site: d.site,
         variable: d.variable,
-        value: fold_option(alloc, plan, &d.value)?,
+        value,
     })
 }
 
@@ -78,7 +83,7 @@ pub fn fold_init(alloc: Global, plan: &Plan, init: &ForInit) -> Result<ForInit, 
 {
     match init {
         ForInit::Nothing => Ok(ForInit::Nothing),
-        ForInit::Value(e) => Ok(ForInit::Value(fold_value(alloc, plan, e)?)),
+        ForInit::Value(e) => Ok(ForInit::Value(fold_value(alloc, plan, e.get())?)),
         ForInit::Declared(declarators) => {
             Ok(declared(fold_declarators(alloc, plan, declarators)?))
         }
@@ -91,7 +96,10 @@ pub fn fold_names(alloc: Global, plan: &Plan, names: &ForTarget) -> Result<ForTa
     ensures { IfOk result (λ r. for_target r ≡ fold_names (built_in plan.now) (for_target names.now)) }
 {
     match names {
-        ForTarget::Target(t) => Ok(ForTarget::Target(fold_target(alloc, plan, t)?)),
-        ForTarget::Declared(d) => Ok(ForTarget::Declared(fold_declarator(alloc, plan, d)?)),
+        ForTarget::Target(t) => Ok(ForTarget::Target(fold_target(alloc, plan, t.get())?)),
+        ForTarget::Declared(d) => {
+            let d = fold_declarator(alloc, plan, d.get())?;
+            Ok(ForTarget::Declared(Boxed::new(alloc, d)?))
+        }
     }
 }

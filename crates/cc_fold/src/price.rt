@@ -38,23 +38,29 @@ pub fn fits(further: u64, e: &Expr) -> bool
 
 /// The expression with a further price before it.
 #[tactic(auto, using(cc_ast::specs::Terms::steps, crate::proofs::Prices::marked_nothing, crate::proofs::Prices::marked_more))]
-pub fn charge(alloc: Global, site: u32, further: u64, e: Expr) -> Result<Expr, AllocError>
+pub fn charge(
+    alloc: Global,
+    site: u32,
+    further: u64,
+    e: Boxed<Expr>,
+) -> Result<Boxed<Expr>, AllocError>
     requires { further + price_of (term e) < 2 ^ 64 }
     ensures { IfOk result (λ r. term r ≡ marked site further (term e)) }
 {
     if further == 0 {
         return Ok(e);
     }
-    let total = further + price(&e);
-    Ok(Expr::Tick(site, total, without_mark(alloc, e)?))
+    let total = further + price(e.get());
+    let inner = without_mark(alloc, e)?;
+    Boxed::new(alloc, Expr::Tick(site, total, inner))
 }
 
 // What the mark stands round, by value.
 #[tactic(auto, using(cc_ast::specs::Terms::steps), unfolding(crate::specs::Fold::unmarked))]
-fn without_mark(alloc: Global, e: Expr) -> Result<Boxed<Expr>, AllocError>
+fn without_mark(alloc: Global, e: Boxed<Expr>) -> Result<Boxed<Expr>, AllocError>
     ensures { IfOk result (λ c. term c ≡ unmarked (term e)) }
 {
-    match e {
+    match e.into_inner() {
         Expr::Tick(_, _, inner) => Ok(inner),
         other => Boxed::new(alloc, other),
     }

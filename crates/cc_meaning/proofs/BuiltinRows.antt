@@ -4,7 +4,7 @@ use Rattle.std.proofs.Common.{refl}
 use Rattle.cc_meaning.specs.Values.{obj}
 use Rattle.cc_meaning.specs.Operators.{gives, decimal}
 use Rattle.cc_meaning.specs.Names.{index_value, enumeration}
-use Rattle.cc_meaning.specs.Builtins.{text_char_at, text_char_code_at, text_index_of, text_last_index_of, text_slice, text_substring, text_use, string_use, from_char_codes, math_max, math_min, math_abs, math_use, array_push, array_unshift, array_pop, array_shift, array_slice, array_concat, array_join, array_index_of, array_use, concat_use, changes, array_breaks, answers, answers_array, list_arg, array_read, array_write, text_method, array_method, math_method}
+use Rattle.cc_meaning.specs.Builtins.{text_char_at, text_char_code_at, text_index_of, text_last_index_of, text_slice, text_substring, text_use, string_use, from_char_codes, math_max, math_min, math_abs, math_use, array_push, array_unshift, array_pop, array_shift, array_slice, array_concat, array_join, array_index_of, array_use, concat_use, changes, array_breaks, answers, answers_array, list_arg, text_method, array_method, math_method}
 use Rattle.cc_meaning.proofs.Shown.{w, minus, t, undef, nul, yes, rule1, rule2}
 
 rows-text_char_at : map (text_use text_char_at (codes "abc")) (((w 0) ∷ []) ∷ ((w 2) ∷ []) ∷ ((w 3) ∷ []) ∷ ((minus 1) ∷ []) ∷ ([]) ∷ [])
@@ -143,14 +143,6 @@ rows-array_kinds :
     ≡ array_breaks 2 ∷ array_breaks 2 ∷ array_breaks 2 ∷ array_breaks 2 ∷ array_breaks 2 ∷ []
 unfolding array_use
 rows-array_kinds = refl
-
-rows-elements : map (array_read (w 7 ∷ w 8 ∷ [])) (pos 0 ∷ pos 1 ∷ pos 2 ∷ negsuc 0 ∷ []) ≡ gives (w 7) ∷ gives (w 8) ∷ gives undef ∷ rule2 ∷ []
-unfolding array_read
-rows-elements = refl
-
-rows-element_writes : map (λ i. array_write (w 7 ∷ w 8 ∷ []) i (w 9)) (pos 1 ∷ pos 2 ∷ pos 3 ∷ negsuc 0 ∷ []) ≡ Some (w 7 ∷ w 9 ∷ []) ∷ Some (w 7 ∷ w 8 ∷ w 9 ∷ []) ∷ None ∷ None ∷ []
-unfolding array_write
-rows-element_writes = refl
 
 rows-methods : (text_method (codes "lastIndexOf") ≡ Some text_last_index_of) × (text_method (codes "push") ≡ None) × (array_method (codes "indexOf") ≡ Some array_index_of) × (array_method (codes "lastIndexOf") ≡ None) × (math_method (codes "abs") ≡ Some math_abs)
 unfolding text_method array_method math_method

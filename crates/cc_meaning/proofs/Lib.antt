@@ -15,5 +15,7 @@ mod RowsStore
 mod RowsBuiltIn
 mod RowsTypes
 mod RowsPrototypes
+mod RowsChains
+mod RowsKeys
 mod WellMadeRow
 mod RowsFlat

@@ -28,7 +28,7 @@ stepped = record {
   docs = (no_doc ∷ []);
 }
 
-stepped_run : run checked stepped (record { turns = (load 0 ∷ []); replies = ((record { first = []; answer = gives undef }) ∷ []) }) 40 ≡ ((called (shown_out 0) undef (undef ∷ []) ∷ ended undef ∷ []), finished)
+stepped_run : run checked stepped (record { turns = (load 0 ∷ []); replies = ((record { first = []; answer = gives undef }) ∷ []) }) 40 ≡ record { events = (called (shown_out 0) undef (undef ∷ []) ∷ ended undef ∷ []); end = finished }
 unfolding opened
 stepped_run = refl
 
@@ -46,11 +46,11 @@ value_callee = record {
   docs = (no_doc ∷ []);
 }
 
-value_callee_run : run checked value_callee (record { turns = (load 0 ∷ []); replies = ((record { first = []; answer = gives (shown_out 1) }) ∷ (record { first = []; answer = gives undef }) ∷ []) }) 40 ≡ ((got (shown_out 0) (codes "log") ∷ called (shown_out 1) undef ((shown_prim (whole (pos 1))) ∷ []) ∷ ended undef ∷ []), finished)
+value_callee_run : run checked value_callee (record { turns = (load 0 ∷ []); replies = ((record { first = []; answer = gives (shown_out 1) }) ∷ (record { first = []; answer = gives undef }) ∷ []) }) 40 ≡ record { events = (got (shown_out 0) (codes "log") ∷ called (shown_out 1) undef ((shown_prim (whole (pos 1))) ∷ []) ∷ ended undef ∷ []); end = finished }
 unfolding opened
 value_callee_run = refl
 
-value_callee_plain : run plain value_callee (record { turns = (load 0 ∷ []); replies = ((record { first = []; answer = gives (shown_out 1) }) ∷ (record { first = []; answer = gives undef }) ∷ []) }) 40 ≡ ((got (shown_out 0) (codes "log") ∷ called (shown_out 1) undef ((shown_prim (whole (pos 1))) ∷ []) ∷ ended undef ∷ []), finished)
+value_callee_plain : run plain value_callee (record { turns = (load 0 ∷ []); replies = ((record { first = []; answer = gives (shown_out 1) }) ∷ (record { first = []; answer = gives undef }) ∷ []) }) 40 ≡ record { events = (got (shown_out 0) (codes "log") ∷ called (shown_out 1) undef ((shown_prim (whole (pos 1))) ∷ []) ∷ ended undef ∷ []); end = finished }
 unfolding opened
 value_callee_plain = refl
 
@@ -69,7 +69,7 @@ three_operators = record {
   docs = (no_doc ∷ []);
 }
 
-three_operators_run : run checked three_operators (record { turns = (load 0 ∷ []); replies = ((record { first = []; answer = gives undef }) ∷ (record { first = []; answer = gives undef }) ∷ (record { first = []; answer = gives undef }) ∷ []) }) 40 ≡ ((called (shown_out 0) undef ((shown_prim (truth true)) ∷ []) ∷ called (shown_out 0) undef ((stext (codes "object")) ∷ []) ∷ called (shown_out 0) undef ((shown_prim (truth false)) ∷ []) ∷ ended undef ∷ []), finished)
+three_operators_run : run checked three_operators (record { turns = (load 0 ∷ []); replies = ((record { first = []; answer = gives undef }) ∷ (record { first = []; answer = gives undef }) ∷ (record { first = []; answer = gives undef }) ∷ []) }) 40 ≡ record { events = (called (shown_out 0) undef ((shown_prim (truth true)) ∷ []) ∷ called (shown_out 0) undef ((stext (codes "object")) ∷ []) ∷ called (shown_out 0) undef ((shown_prim (truth false)) ∷ []) ∷ ended undef ∷ []); end = finished }
 unfolding opened
 three_operators_run = refl
 
@@ -87,7 +87,7 @@ type_of_number = record {
   docs = (no_doc ∷ []);
 }
 
-type_of_number_run : run checked type_of_number (record { turns = (load 0 ∷ []); replies = ((record { first = []; answer = gives undef }) ∷ []) }) 40 ≡ ((called (shown_out 0) undef ((stext (codes "number")) ∷ []) ∷ ended undef ∷ []), finished)
+type_of_number_run : run checked type_of_number (record { turns = (load 0 ∷ []); replies = ((record { first = []; answer = gives undef }) ∷ []) }) 40 ≡ record { events = (called (shown_out 0) undef ((stext (codes "number")) ∷ []) ∷ ended undef ∷ []); end = finished }
 unfolding opened
 type_of_number_run = refl
 
@@ -106,15 +106,15 @@ calls_back = record {
   docs = (no_doc ∷ []);
 }
 
-calls_back_run : run checked calls_back (record { turns = (load 0 ∷ []); replies = ((record { first = ((record { callee = 0; this = undef; args = [] }) ∷ []); answer = gives undef }) ∷ (record { first = []; answer = gives undef }) ∷ []) }) 40 ≡ ((called (shown_out 1) undef ((handle 0) ∷ []) ∷ ended undef ∷ called (shown_out 0) undef ((shown_prim (whole (pos 1))) ∷ []) ∷ ended undef ∷ []), finished)
+calls_back_run : run checked calls_back (record { turns = (load 0 ∷ []); replies = ((record { first = ((record { callee = 0; this = undef; args = [] }) ∷ []); answer = gives undef }) ∷ (record { first = []; answer = gives undef }) ∷ []) }) 40 ≡ record { events = (called (shown_out 1) undef ((handle 0) ∷ []) ∷ ended undef ∷ called (shown_out 0) undef ((shown_prim (whole (pos 1))) ∷ []) ∷ ended undef ∷ []); end = finished }
 unfolding opened
 calls_back_run = refl
 
-calls_back_not_given : run checked calls_back (record { turns = (load 0 ∷ []); replies = ((record { first = ((record { callee = 7; this = undef; args = [] }) ∷ []); answer = gives undef }) ∷ (record { first = []; answer = gives undef }) ∷ []) }) 40 ≡ ((called (shown_out 1) undef ((handle 0) ∷ []) ∷ []), stopped (broken 13 (at_site 1011)))
+calls_back_not_given : run checked calls_back (record { turns = (load 0 ∷ []); replies = ((record { first = ((record { callee = 7; this = undef; args = [] }) ∷ []); answer = gives undef }) ∷ (record { first = []; answer = gives undef }) ∷ []) }) 40 ≡ record { events = (called (shown_out 1) undef ((handle 0) ∷ []) ∷ []); end = stopped (broken 13 (at_site 1011)) }
 unfolding opened
 calls_back_not_given = refl
 
-calls_back_not_given_plain : run plain calls_back (record { turns = (load 0 ∷ []); replies = ((record { first = ((record { callee = 7; this = undef; args = [] }) ∷ []); answer = gives undef }) ∷ (record { first = []; answer = gives undef }) ∷ []) }) 40 ≡ ((called (shown_out 1) undef ((handle 0) ∷ []) ∷ []), stopped (strayed (at_site 1011)))
+calls_back_not_given_plain : run plain calls_back (record { turns = (load 0 ∷ []); replies = ((record { first = ((record { callee = 7; this = undef; args = [] }) ∷ []); answer = gives undef }) ∷ (record { first = []; answer = gives undef }) ∷ []) }) 40 ≡ record { events = (called (shown_out 1) undef ((handle 0) ∷ []) ∷ []); end = stopped (strayed (at_site 1011)) }
 unfolding opened
 calls_back_not_given_plain = refl
 
@@ -132,11 +132,11 @@ element_type = record {
   docs = (no_doc ∷ (record no_doc { value = Some (record { kinds = 16; classes = []; unknown = false; element = Some (record { kinds = 1; classes = [] }) }); constant = false; define = false }) ∷ []);
 }
 
-element_type_run : run checked element_type (record { turns = (load 0 ∷ []); replies = [] }) 40 ≡ ([], stopped (broken 6 (at_site 1040)))
+element_type_run : run checked element_type (record { turns = (load 0 ∷ []); replies = [] }) 40 ≡ record { events = []; end = stopped (broken 6 (at_site 1040)) }
 unfolding opened
 element_type_run = refl
 
-element_type_plain : run plain element_type (record { turns = (load 0 ∷ []); replies = [] }) 40 ≡ ((ended undef ∷ []), finished)
+element_type_plain : run plain element_type (record { turns = (load 0 ∷ []); replies = [] }) 40 ≡ record { events = (ended undef ∷ []); end = finished }
 unfolding opened
 element_type_plain = refl
 
@@ -166,6 +166,6 @@ cats = record {
   docs = (no_doc ∷ (record no_doc { params = []; result = None; receiver = None; vars = [] }) ∷ (record no_doc { params = []; result = None; receiver = None; vars = [] }) ∷ (record no_doc { value = Some (record { kinds = 16; classes = []; unknown = false; element = Some (record { kinds = 0; classes = (0 ∷ []) }) }); constant = false; define = false }) ∷ []);
 }
 
-cats_run : run checked cats (record { turns = (load 0 ∷ []); replies = ((record { first = []; answer = gives undef }) ∷ (record { first = []; answer = gives undef }) ∷ []) }) 40 ≡ ((called (shown_out 0) undef ((stext (codes "c")) ∷ []) ∷ called (shown_out 0) undef ((stext (codes "d")) ∷ []) ∷ ended undef ∷ []), finished)
+cats_run : run checked cats (record { turns = (load 0 ∷ []); replies = ((record { first = []; answer = gives undef }) ∷ (record { first = []; answer = gives undef }) ∷ []) }) 40 ≡ record { events = (called (shown_out 0) undef ((stext (codes "c")) ∷ []) ∷ called (shown_out 0) undef ((stext (codes "d")) ∷ []) ∷ ended undef ∷ []); end = finished }
 unfolding opened
 cats_run = refl

@@ -60,6 +60,6 @@ application = record {
   docs = (no_doc ∷ (record no_doc { value = Some (record { kinds = 4; classes = []; unknown = false; element = None }); constant = false; define = true }) ∷ (record no_doc { params = (Some (record { kinds = 2; classes = []; unknown = false; element = None }) ∷ []); result = None; receiver = None; vars = [] }) ∷ (record no_doc { params = (Some (record { kinds = 2; classes = []; unknown = false; element = None }) ∷ []); result = None; receiver = None; vars = [] }) ∷ (record no_doc { params = []; result = Some (record { kinds = 2; classes = []; unknown = false; element = None }); receiver = None; vars = [] }) ∷ (record no_doc { value = Some (record { kinds = 16; classes = []; unknown = false; element = Some (record { kinds = 0; classes = (0 ∷ []) }) }); constant = false }) ∷ []);
 }
 
-application_run : run checked application (record { turns = (load 0 ∷ load 1 ∷ load 2 ∷ call_turn (record { callee = 0; this = undef; args = ((stext (codes "pen")) ∷ []) }) ∷ call_turn (record { callee = 1; this = undef; args = [] }) ∷ []); replies = ((record { first = []; answer = gives undef }) ∷ (record { first = []; answer = gives undef }) ∷ (record { first = []; answer = gives (shown_out 2) }) ∷ (record { first = []; answer = gives undef }) ∷ (record { first = []; answer = gives (shown_out 2) }) ∷ (record { first = []; answer = gives undef }) ∷ []) }) 40 ≡ ((ended undef ∷ called (shown_out 1) undef ((stext (codes "add")) ∷ (handle 0) ∷ []) ∷ ended undef ∷ called (shown_out 1) undef ((stext (codes "clear")) ∷ (handle 1) ∷ []) ∷ ended undef ∷ got (shown_out 0) (codes "log") ∷ called (shown_out 2) (shown_out 0) ((stext (codes "pen:6")) ∷ []) ∷ ended undef ∷ got (shown_out 0) (codes "log") ∷ called (shown_out 2) (shown_out 0) ((stext (codes "none")) ∷ []) ∷ ended undef ∷ []), finished)
+application_run : run checked application (record { turns = (load 0 ∷ load 1 ∷ load 2 ∷ call_turn (record { callee = 0; this = undef; args = ((stext (codes "pen")) ∷ []) }) ∷ call_turn (record { callee = 1; this = undef; args = [] }) ∷ []); replies = ((record { first = []; answer = gives undef }) ∷ (record { first = []; answer = gives undef }) ∷ (record { first = []; answer = gives (shown_out 2) }) ∷ (record { first = []; answer = gives undef }) ∷ (record { first = []; answer = gives (shown_out 2) }) ∷ (record { first = []; answer = gives undef }) ∷ []) }) 40 ≡ record { events = (ended undef ∷ called (shown_out 1) undef ((stext (codes "add")) ∷ (handle 0) ∷ []) ∷ ended undef ∷ called (shown_out 1) undef ((stext (codes "clear")) ∷ (handle 1) ∷ []) ∷ ended undef ∷ got (shown_out 0) (codes "log") ∷ called (shown_out 2) (shown_out 0) ((stext (codes "pen:6")) ∷ []) ∷ ended undef ∷ got (shown_out 0) (codes "log") ∷ called (shown_out 2) (shown_out 0) ((stext (codes "none")) ∷ []) ∷ ended undef ∷ []); end = finished }
 unfolding opened
 application_run = refl

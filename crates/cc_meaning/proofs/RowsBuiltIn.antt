@@ -27,7 +27,7 @@ delete_element = record {
   docs = (no_doc ∷ []);
 }
 
-delete_element_run : run checked delete_element (record { turns = (load 0 ∷ []); replies = [] }) 40 ≡ ([], stopped (broken 2 (at_site 1019)))
+delete_element_run : run checked delete_element (record { turns = (load 0 ∷ []); replies = [] }) 40 ≡ record { events = []; end = stopped (broken 2 (at_site 1019)) }
 unfolding opened
 delete_element_run = refl
 
@@ -45,7 +45,7 @@ arrays = record {
   docs = (no_doc ∷ []);
 }
 
-arrays_run : run checked arrays (record { turns = (load 0 ∷ []); replies = ((record { first = []; answer = gives undef }) ∷ (record { first = []; answer = gives undef }) ∷ (record { first = []; answer = gives undef }) ∷ (record { first = []; answer = gives undef }) ∷ (record { first = []; answer = gives undef }) ∷ (record { first = []; answer = gives undef }) ∷ (record { first = []; answer = gives undef }) ∷ (record { first = []; answer = gives undef }) ∷ []) }) 40 ≡ ((called (shown_out 0) undef ((shown_prim (whole (pos 3))) ∷ []) ∷ called (shown_out 0) undef ((shown_prim (whole (pos 3))) ∷ []) ∷ called (shown_out 0) undef ((stext (codes "1-2-3")) ∷ []) ∷ called (shown_out 0) undef ((shown_prim (whole (pos 3))) ∷ []) ∷ called (shown_out 0) undef ((shown_prim (whole (pos 2))) ∷ []) ∷ called (shown_out 0) undef ((stext (codes "1,2,7,1,2")) ∷ []) ∷ called (shown_out 0) undef ((shown_prim (whole (pos 1))) ∷ []) ∷ called (shown_out 0) undef (undef ∷ []) ∷ ended undef ∷ []), finished)
+arrays_run : run checked arrays (record { turns = (load 0 ∷ []); replies = ((record { first = []; answer = gives undef }) ∷ (record { first = []; answer = gives undef }) ∷ (record { first = []; answer = gives undef }) ∷ (record { first = []; answer = gives undef }) ∷ (record { first = []; answer = gives undef }) ∷ (record { first = []; answer = gives undef }) ∷ (record { first = []; answer = gives undef }) ∷ (record { first = []; answer = gives undef }) ∷ []) }) 40 ≡ record { events = (called (shown_out 0) undef ((shown_prim (whole (pos 3))) ∷ []) ∷ called (shown_out 0) undef ((shown_prim (whole (pos 3))) ∷ []) ∷ called (shown_out 0) undef ((stext (codes "1-2-3")) ∷ []) ∷ called (shown_out 0) undef ((shown_prim (whole (pos 3))) ∷ []) ∷ called (shown_out 0) undef ((shown_prim (whole (pos 2))) ∷ []) ∷ called (shown_out 0) undef ((stext (codes "1,2,7,1,2")) ∷ []) ∷ called (shown_out 0) undef ((shown_prim (whole (pos 1))) ∷ []) ∷ called (shown_out 0) undef (undef ∷ []) ∷ ended undef ∷ []); end = finished }
 unfolding opened
 arrays_run = refl
 
@@ -63,7 +63,7 @@ array_beyond = record {
   docs = (no_doc ∷ []);
 }
 
-array_beyond_run : run checked array_beyond (record { turns = (load 0 ∷ []); replies = ((record { first = []; answer = gives undef }) ∷ []) }) 40 ≡ ((called (shown_out 0) undef ((shown_prim (whole (pos 2))) ∷ []) ∷ []), stopped (broken 2 (at_site 1035)))
+array_beyond_run : run checked array_beyond (record { turns = (load 0 ∷ []); replies = ((record { first = []; answer = gives undef }) ∷ []) }) 40 ≡ record { events = (called (shown_out 0) undef ((shown_prim (whole (pos 2))) ∷ []) ∷ []); end = stopped (broken 2 (at_site 1035)) }
 unfolding opened
 array_beyond_run = refl
 
@@ -81,7 +81,7 @@ array_length_write = record {
   docs = (no_doc ∷ []);
 }
 
-array_length_write_run : run checked array_length_write (record { turns = (load 0 ∷ []); replies = [] }) 40 ≡ ([], stopped (broken 2 (at_site 1012)))
+array_length_write_run : run checked array_length_write (record { turns = (load 0 ∷ []); replies = [] }) 40 ≡ record { events = []; end = stopped (broken 2 (at_site 1012)) }
 unfolding opened
 array_length_write_run = refl
 
@@ -99,7 +99,7 @@ method_as_value = record {
   docs = (no_doc ∷ []);
 }
 
-method_as_value_run : run checked method_as_value (record { turns = (load 0 ∷ []); replies = [] }) 40 ≡ ([], stopped (broken 10 (at_site 1018)))
+method_as_value_run : run checked method_as_value (record { turns = (load 0 ∷ []); replies = [] }) 40 ≡ record { events = []; end = stopped (broken 10 (at_site 1018)) }
 unfolding opened
 method_as_value_run = refl
 
@@ -118,7 +118,7 @@ own_method = record {
   docs = (no_doc ∷ []);
 }
 
-own_method_run : run checked own_method (record { turns = (load 0 ∷ []); replies = ((record { first = []; answer = gives undef }) ∷ []) }) 40 ≡ ((called (shown_out 0) undef ((shown_prim (whole (pos 4))) ∷ []) ∷ ended undef ∷ []), finished)
+own_method_run : run checked own_method (record { turns = (load 0 ∷ []); replies = ((record { first = []; answer = gives undef }) ∷ []) }) 40 ≡ record { events = (called (shown_out 0) undef ((shown_prim (whole (pos 4))) ∷ []) ∷ ended undef ∷ []); end = finished }
 unfolding opened
 own_method_run = refl
 
@@ -136,7 +136,7 @@ texts = record {
   docs = (no_doc ∷ []);
 }
 
-texts_run : run checked texts (record { turns = (load 0 ∷ []); replies = ((record { first = []; answer = gives undef }) ∷ (record { first = []; answer = gives undef }) ∷ (record { first = []; answer = gives undef }) ∷ (record { first = []; answer = gives undef }) ∷ (record { first = []; answer = gives undef }) ∷ (record { first = []; answer = gives undef }) ∷ (record { first = []; answer = gives undef }) ∷ []) }) 40 ≡ ((called (shown_out 0) undef ((shown_prim (whole (pos 3))) ∷ []) ∷ called (shown_out 0) undef ((stext (codes "b")) ∷ []) ∷ called (shown_out 0) undef ((shown_prim (whole (pos 2))) ∷ []) ∷ called (shown_out 0) undef ((stext (codes "bc")) ∷ []) ∷ called (shown_out 0) undef ((stext (codes "abc1")) ∷ []) ∷ called (shown_out 0) undef ((stext (codes "null")) ∷ []) ∷ called (shown_out 0) undef ((stext (codes "hi")) ∷ []) ∷ []), stopped (broken 1 (at_site 1173)))
+texts_run : run checked texts (record { turns = (load 0 ∷ []); replies = ((record { first = []; answer = gives undef }) ∷ (record { first = []; answer = gives undef }) ∷ (record { first = []; answer = gives undef }) ∷ (record { first = []; answer = gives undef }) ∷ (record { first = []; answer = gives undef }) ∷ (record { first = []; answer = gives undef }) ∷ (record { first = []; answer = gives undef }) ∷ []) }) 40 ≡ record { events = (called (shown_out 0) undef ((shown_prim (whole (pos 3))) ∷ []) ∷ called (shown_out 0) undef ((stext (codes "b")) ∷ []) ∷ called (shown_out 0) undef ((shown_prim (whole (pos 2))) ∷ []) ∷ called (shown_out 0) undef ((stext (codes "bc")) ∷ []) ∷ called (shown_out 0) undef ((stext (codes "abc1")) ∷ []) ∷ called (shown_out 0) undef ((stext (codes "null")) ∷ []) ∷ called (shown_out 0) undef ((stext (codes "hi")) ∷ []) ∷ []); end = stopped (broken 1 (at_site 1173)) }
 unfolding opened
 texts_run = refl
 
@@ -154,7 +154,7 @@ text_member = record {
   docs = (no_doc ∷ []);
 }
 
-text_member_run : run checked text_member (record { turns = (load 0 ∷ []); replies = [] }) 40 ≡ ([], stopped (broken 2 (at_site 1006)))
+text_member_run : run checked text_member (record { turns = (load 0 ∷ []); replies = [] }) 40 ≡ record { events = []; end = stopped (broken 2 (at_site 1006)) }
 unfolding opened
 text_member_run = refl
 
@@ -172,7 +172,7 @@ maths = record {
   docs = (no_doc ∷ []);
 }
 
-maths_run : run checked maths (record { turns = (load 0 ∷ []); replies = ((record { first = []; answer = gives undef }) ∷ (record { first = []; answer = gives undef }) ∷ []) }) 40 ≡ ((called (shown_out 0) undef ((shown_prim (whole (pos 3))) ∷ []) ∷ called (shown_out 0) undef ((shown_prim (whole (pos 4))) ∷ []) ∷ ended undef ∷ []), finished)
+maths_run : run checked maths (record { turns = (load 0 ∷ []); replies = ((record { first = []; answer = gives undef }) ∷ (record { first = []; answer = gives undef }) ∷ []) }) 40 ≡ record { events = (called (shown_out 0) undef ((shown_prim (whole (pos 3))) ∷ []) ∷ called (shown_out 0) undef ((shown_prim (whole (pos 4))) ∷ []) ∷ ended undef ∷ []); end = finished }
 unfolding opened
 maths_run = refl
 
@@ -190,7 +190,7 @@ has_own = record {
   docs = (no_doc ∷ []);
 }
 
-has_own_run : run checked has_own (record { turns = (load 0 ∷ []); replies = ((record { first = []; answer = gives undef }) ∷ (record { first = []; answer = gives undef }) ∷ (record { first = []; answer = gives undef }) ∷ []) }) 40 ≡ ((called (shown_out 0) undef ((shown_prim (truth true)) ∷ []) ∷ called (shown_out 0) undef ((shown_prim (truth false)) ∷ []) ∷ called (shown_out 0) undef ((shown_prim (truth true)) ∷ []) ∷ ended undef ∷ []), finished)
+has_own_run : run checked has_own (record { turns = (load 0 ∷ []); replies = ((record { first = []; answer = gives undef }) ∷ (record { first = []; answer = gives undef }) ∷ (record { first = []; answer = gives undef }) ∷ []) }) 40 ≡ record { events = (called (shown_out 0) undef ((shown_prim (truth true)) ∷ []) ∷ called (shown_out 0) undef ((shown_prim (truth false)) ∷ []) ∷ called (shown_out 0) undef ((shown_prim (truth true)) ∷ []) ∷ ended undef ∷ []); end = finished }
 unfolding opened
 has_own_run = refl
 
@@ -208,7 +208,7 @@ standard_read = record {
   docs = (no_doc ∷ []);
 }
 
-standard_read_run : run checked standard_read (record { turns = (load 0 ∷ []); replies = [] }) 40 ≡ ([], stopped (broken 10 (at_site 1017)))
+standard_read_run : run checked standard_read (record { turns = (load 0 ∷ []); replies = [] }) 40 ≡ record { events = []; end = stopped (broken 10 (at_site 1017)) }
 unfolding opened
 standard_read_run = refl
 
@@ -226,7 +226,7 @@ standard_slot = record {
   docs = (no_doc ∷ []);
 }
 
-standard_slot_run : run checked standard_slot (record { turns = (load 0 ∷ []); replies = ((record { first = []; answer = gives undef }) ∷ []) }) 40 ≡ ((called (shown_out 0) undef ((shown_prim (whole (pos 1))) ∷ []) ∷ ended undef ∷ []), finished)
+standard_slot_run : run checked standard_slot (record { turns = (load 0 ∷ []); replies = ((record { first = []; answer = gives undef }) ∷ []) }) 40 ≡ record { events = (called (shown_out 0) undef ((shown_prim (whole (pos 1))) ∷ []) ∷ ended undef ∷ []); end = finished }
 unfolding opened
 standard_slot_run = refl
 
@@ -244,6 +244,6 @@ proto_write = record {
   docs = (no_doc ∷ []);
 }
 
-proto_write_run : run checked proto_write (record { turns = (load 0 ∷ []); replies = [] }) 40 ≡ ([], stopped (broken 2 (at_site 1011)))
+proto_write_run : run checked proto_write (record { turns = (load 0 ∷ []); replies = [] }) 40 ≡ record { events = []; end = stopped (broken 2 (at_site 1011)) }
 unfolding opened
 proto_write_run = refl

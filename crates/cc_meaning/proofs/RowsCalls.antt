@@ -29,7 +29,7 @@ own_name = record {
   docs = (no_doc ∷ []);
 }
 
-own_name_run : run checked own_name (record { turns = (load 0 ∷ []); replies = ((record { first = []; answer = gives undef }) ∷ (record { first = []; answer = gives undef }) ∷ []) }) 40 ≡ ((called (shown_out 0) undef ((stext (codes "function")) ∷ []) ∷ called (shown_out 0) undef ((shown_prim (whole (pos 2))) ∷ []) ∷ ended undef ∷ []), finished)
+own_name_run : run checked own_name (record { turns = (load 0 ∷ []); replies = ((record { first = []; answer = gives undef }) ∷ (record { first = []; answer = gives undef }) ∷ []) }) 40 ≡ record { events = (called (shown_out 0) undef ((stext (codes "function")) ∷ []) ∷ called (shown_out 0) undef ((shown_prim (whole (pos 2))) ∷ []) ∷ ended undef ∷ []); end = finished }
 unfolding opened
 own_name_run = refl
 
@@ -48,7 +48,7 @@ compound = record {
   docs = (no_doc ∷ []);
 }
 
-compound_run : run checked compound (record { turns = (load 0 ∷ []); replies = ((record { first = []; answer = gives undef }) ∷ []) }) 40 ≡ ((called (shown_out 0) undef ((shown_prim (whole (pos 6))) ∷ []) ∷ ended undef ∷ []), finished)
+compound_run : run checked compound (record { turns = (load 0 ∷ []); replies = ((record { first = []; answer = gives undef }) ∷ []) }) 40 ≡ record { events = (called (shown_out 0) undef ((shown_prim (whole (pos 6))) ∷ []) ∷ ended undef ∷ []); end = finished }
 unfolding opened
 compound_run = refl
 
@@ -66,7 +66,7 @@ unset_callee = record {
   docs = (no_doc ∷ []);
 }
 
-unset_callee_run : run checked unset_callee (record { turns = (load 0 ∷ []); replies = ((record { first = []; answer = gives undef }) ∷ []) }) 40 ≡ ((called (shown_out 0) undef ((shown_prim (whole (pos 1))) ∷ []) ∷ []), stopped (broken 3 (at_site 1008)))
+unset_callee_run : run checked unset_callee (record { turns = (load 0 ∷ []); replies = ((record { first = []; answer = gives undef }) ∷ []) }) 40 ≡ record { events = (called (shown_out 0) undef ((shown_prim (whole (pos 1))) ∷ []) ∷ []); end = stopped (broken 3 (at_site 1008)) }
 unfolding opened
 unset_callee_run = refl
 
@@ -84,7 +84,7 @@ judged_before_cost = record {
   docs = (no_doc ∷ []);
 }
 
-judged_before_cost_run : run checked judged_before_cost (record { turns = (load 0 ∷ []); replies = [] }) 0 ≡ ([], stopped (broken 3 (at_site 1008)))
+judged_before_cost_run : run checked judged_before_cost (record { turns = (load 0 ∷ []); replies = [] }) 0 ≡ record { events = []; end = stopped (broken 3 (at_site 1008)) }
 unfolding opened
 judged_before_cost_run = refl
 
@@ -105,7 +105,7 @@ callee_first = record {
   docs = (no_doc ∷ []);
 }
 
-callee_first_run : run checked callee_first (record { turns = (load 0 ∷ []); replies = ((record { first = []; answer = gives undef }) ∷ []) }) 40 ≡ ((called (shown_out 0) undef ((shown_prim (whole (pos 1))) ∷ []) ∷ ended undef ∷ []), finished)
+callee_first_run : run checked callee_first (record { turns = (load 0 ∷ []); replies = ((record { first = []; answer = gives undef }) ∷ []) }) 40 ≡ record { events = (called (shown_out 0) undef ((shown_prim (whole (pos 1))) ∷ []) ∷ ended undef ∷ []); end = finished }
 unfolding opened
 callee_first_run = refl
 
@@ -123,7 +123,7 @@ no_function = record {
   docs = (no_doc ∷ []);
 }
 
-no_function_run : run checked no_function (record { turns = (load 0 ∷ []); replies = ((record { first = []; answer = gives undef }) ∷ []) }) 40 ≡ ((called (shown_out 0) undef ((shown_prim (whole (pos 1))) ∷ []) ∷ []), stopped (broken 2 (at_site 1011)))
+no_function_run : run checked no_function (record { turns = (load 0 ∷ []); replies = ((record { first = []; answer = gives undef }) ∷ []) }) 40 ≡ record { events = (called (shown_out 0) undef ((shown_prim (whole (pos 1))) ∷ []) ∷ []); end = stopped (broken 2 (at_site 1011)) }
 unfolding opened
 no_function_run = refl
 
@@ -142,7 +142,7 @@ left_to_right = record {
   docs = (no_doc ∷ []);
 }
 
-left_to_right_run : run checked left_to_right (record { turns = (load 0 ∷ []); replies = ((record { first = []; answer = gives undef }) ∷ (record { first = []; answer = gives undef }) ∷ (record { first = []; answer = gives undef }) ∷ []) }) 40 ≡ ((called (shown_out 0) undef ((shown_prim (whole (pos 1))) ∷ []) ∷ called (shown_out 0) undef ((shown_prim (whole (pos 2))) ∷ []) ∷ called (shown_out 0) undef ((shown_prim (whole (pos 3))) ∷ []) ∷ ended undef ∷ []), finished)
+left_to_right_run : run checked left_to_right (record { turns = (load 0 ∷ []); replies = ((record { first = []; answer = gives undef }) ∷ (record { first = []; answer = gives undef }) ∷ (record { first = []; answer = gives undef }) ∷ []) }) 40 ≡ record { events = (called (shown_out 0) undef ((shown_prim (whole (pos 1))) ∷ []) ∷ called (shown_out 0) undef ((shown_prim (whole (pos 2))) ∷ []) ∷ called (shown_out 0) undef ((shown_prim (whole (pos 3))) ∷ []) ∷ ended undef ∷ []); end = finished }
 unfolding opened
 left_to_right_run = refl
 
@@ -161,7 +161,7 @@ receiver = record {
   docs = (no_doc ∷ []);
 }
 
-receiver_run : run checked receiver (record { turns = (load 0 ∷ []); replies = ((record { first = []; answer = gives undef }) ∷ []) }) 40 ≡ ((called (shown_out 0) undef ((shown_prim (truth true)) ∷ []) ∷ []), stopped (broken 4 (at_site 1030)))
+receiver_run : run checked receiver (record { turns = (load 0 ∷ []); replies = ((record { first = []; answer = gives undef }) ∷ []) }) 40 ≡ record { events = (called (shown_out 0) undef ((shown_prim (truth true)) ∷ []) ∷ []); end = stopped (broken 4 (at_site 1030)) }
 unfolding opened
 receiver_run = refl
 
@@ -180,7 +180,7 @@ receiver_under_cast = record {
   docs = (no_doc ∷ (record no_doc { value = Some (record { kinds = 8; classes = []; unknown = false; element = None }) }) ∷ []);
 }
 
-receiver_under_cast_run : run checked receiver_under_cast (record { turns = (load 0 ∷ []); replies = ((record { first = []; answer = gives undef }) ∷ (record { first = []; answer = gives undef }) ∷ []) }) 40 ≡ ((called (shown_out 0) undef ((shown_prim (truth true)) ∷ []) ∷ called (shown_out 0) undef ((shown_prim (truth true)) ∷ []) ∷ ended undef ∷ []), finished)
+receiver_under_cast_run : run checked receiver_under_cast (record { turns = (load 0 ∷ []); replies = ((record { first = []; answer = gives undef }) ∷ (record { first = []; answer = gives undef }) ∷ []) }) 40 ≡ record { events = (called (shown_out 0) undef ((shown_prim (truth true)) ∷ []) ∷ called (shown_out 0) undef ((shown_prim (truth true)) ∷ []) ∷ ended undef ∷ []); end = finished }
 unfolding opened
 receiver_under_cast_run = refl
 
@@ -199,7 +199,7 @@ given_receiver = record {
   docs = (no_doc ∷ []);
 }
 
-given_receiver_run : run checked given_receiver (record { turns = (load 0 ∷ []); replies = ((record { first = []; answer = gives undef }) ∷ (record { first = []; answer = gives undef }) ∷ []) }) 40 ≡ ((called (shown_out 0) undef (undef ∷ []) ∷ called (shown_out 0) undef ((shown_prim (whole (pos 7))) ∷ []) ∷ ended undef ∷ []), finished)
+given_receiver_run : run checked given_receiver (record { turns = (load 0 ∷ []); replies = ((record { first = []; answer = gives undef }) ∷ (record { first = []; answer = gives undef }) ∷ []) }) 40 ≡ record { events = (called (shown_out 0) undef (undef ∷ []) ∷ called (shown_out 0) undef ((shown_prim (whole (pos 7))) ∷ []) ∷ ended undef ∷ []); end = finished }
 unfolding opened
 given_receiver_run = refl
 
@@ -220,7 +220,7 @@ new_object = record {
   docs = (no_doc ∷ []);
 }
 
-new_object_run : run checked new_object (record { turns = (load 0 ∷ []); replies = ((record { first = []; answer = gives undef }) ∷ (record { first = []; answer = gives undef }) ∷ (record { first = []; answer = gives undef }) ∷ []) }) 40 ≡ ((called (shown_out 0) undef ((shown_prim (whole (pos 1))) ∷ []) ∷ called (shown_out 0) undef ((shown_prim (whole (pos 2))) ∷ []) ∷ called (shown_out 0) undef ((shown_prim (truth true)) ∷ []) ∷ ended undef ∷ []), finished)
+new_object_run : run checked new_object (record { turns = (load 0 ∷ []); replies = ((record { first = []; answer = gives undef }) ∷ (record { first = []; answer = gives undef }) ∷ (record { first = []; answer = gives undef }) ∷ []) }) 40 ≡ record { events = (called (shown_out 0) undef ((shown_prim (whole (pos 1))) ∷ []) ∷ called (shown_out 0) undef ((shown_prim (whole (pos 2))) ∷ []) ∷ called (shown_out 0) undef ((shown_prim (truth true)) ∷ []) ∷ ended undef ∷ []); end = finished }
 unfolding opened
 new_object_run = refl
 
@@ -238,15 +238,15 @@ marks = record {
   docs = (no_doc ∷ []);
 }
 
-marks_run : run checked marks (record { turns = (load 0 ∷ []); replies = ((record { first = []; answer = gives undef }) ∷ []) }) 6 ≡ ((called (shown_out 0) undef ((shown_prim (whole (pos 1))) ∷ []) ∷ ended undef ∷ []), finished)
+marks_run : run checked marks (record { turns = (load 0 ∷ []); replies = ((record { first = []; answer = gives undef }) ∷ []) }) 6 ≡ record { events = (called (shown_out 0) undef ((shown_prim (whole (pos 1))) ∷ []) ∷ ended undef ∷ []); end = finished }
 unfolding opened
 marks_run = refl
 
-marks_spent : run checked marks (record { turns = (load 0 ∷ []); replies = ((record { first = []; answer = gives undef }) ∷ []) }) 5 ≡ ([], stopped spent)
+marks_spent : run checked marks (record { turns = (load 0 ∷ []); replies = ((record { first = []; answer = gives undef }) ∷ []) }) 5 ≡ record { events = []; end = stopped spent }
 unfolding opened
 marks_spent = refl
 
-marks_plain : run plain marks (record { turns = (load 0 ∷ []); replies = ((record { first = []; answer = gives undef }) ∷ []) }) 1 ≡ ((called (shown_out 0) undef ((shown_prim (whole (pos 1))) ∷ []) ∷ ended undef ∷ []), finished)
+marks_plain : run plain marks (record { turns = (load 0 ∷ []); replies = ((record { first = []; answer = gives undef }) ∷ []) }) 1 ≡ record { events = (called (shown_out 0) undef ((shown_prim (whole (pos 1))) ∷ []) ∷ ended undef ∷ []); end = finished }
 unfolding opened
 marks_plain = refl
 
@@ -265,10 +265,10 @@ deep = record {
   docs = (no_doc ∷ []);
 }
 
-deep_run : run checked deep (record { turns = (load 0 ∷ []); replies = ((record { first = []; answer = gives undef }) ∷ []) }) 5 ≡ ((called (shown_out 0) undef ((shown_prim (whole (pos 3))) ∷ []) ∷ ended undef ∷ []), finished)
+deep_run : run checked deep (record { turns = (load 0 ∷ []); replies = ((record { first = []; answer = gives undef }) ∷ []) }) 5 ≡ record { events = (called (shown_out 0) undef ((shown_prim (whole (pos 3))) ∷ []) ∷ ended undef ∷ []); end = finished }
 unfolding opened
 deep_run = refl
 
-deep_spent : run checked deep (record { turns = (load 0 ∷ []); replies = ((record { first = []; answer = gives undef }) ∷ []) }) 4 ≡ ([], stopped spent)
+deep_spent : run checked deep (record { turns = (load 0 ∷ []); replies = ((record { first = []; answer = gives undef }) ∷ []) }) 4 ≡ record { events = []; end = stopped spent }
 unfolding opened
 deep_spent = refl

@@ -27,7 +27,7 @@ gone_name = record {
 }
 
 -- the test whether a name is still there is an act of its own
-gone_name_run : run checked gone_name (record { turns = (load 0 ∷ []); replies = ((record { first = []; answer = gives undef }) ∷ []) }) 40 ≡ ((called (shown_out 0) undef ((stext (codes "x")) ∷ []) ∷ []), stopped (broken 8 (at_site 1021)))
+gone_name_run : run checked gone_name (record { turns = (load 0 ∷ []); replies = ((record { first = []; answer = gives undef }) ∷ []) }) 40 ≡ record { events = (called (shown_out 0) undef ((stext (codes "x")) ∷ []) ∷ []); end = stopped (broken 8 (at_site 1021)) }
 unfolding opened
 gone_name_run = refl
 
@@ -46,7 +46,7 @@ shadowed_name = record {
 }
 
 -- `for-in` is judged on each slot of the chain, also on those with a name that an object before them has
-shadowed_name_run : run checked shadowed_name (record { turns = (load 0 ∷ []); replies = [] }) 40 ≡ ([], stopped (broken 9 (at_site 1048)))
+shadowed_name_run : run checked shadowed_name (record { turns = (load 0 ∷ []); replies = [] }) 40 ≡ record { events = []; end = stopped (broken 9 (at_site 1048)) }
 unfolding opened
 shadowed_name_run = refl
 
@@ -65,7 +65,7 @@ own_slots = record {
 }
 
 -- a write looks at no prototype, a read at the whole chain
-own_slots_run : run checked own_slots (record { turns = (load 0 ∷ []); replies = ((record { first = []; answer = gives undef }) ∷ []) }) 40 ≡ ((called (shown_out 0) undef ((shown_prim (whole (pos 1))) ∷ []) ∷ []), stopped (broken 7 (at_site 1064)))
+own_slots_run : run checked own_slots (record { turns = (load 0 ∷ []); replies = ((record { first = []; answer = gives undef }) ∷ []) }) 40 ≡ record { events = (called (shown_out 0) undef ((shown_prim (whole (pos 1))) ∷ []) ∷ []); end = stopped (broken 7 (at_site 1064)) }
 unfolding opened
 own_slots_run = refl
 
@@ -85,7 +85,7 @@ leaked_holder = record {
 }
 
 -- a kept name stands as a callee, so its holder is the receiver: the paths of this global are no variables
-leaked_holder_run : run checked leaked_holder (record { turns = (load 0 ∷ []); replies = ((record { first = []; answer = gives undef }) ∷ []) }) 40 ≡ ((called (shown_out 0) undef ((shown_prim (whole (pos 1))) ∷ []) ∷ ended undef ∷ []), finished)
+leaked_holder_run : run checked leaked_holder (record { turns = (load 0 ∷ []); replies = ((record { first = []; answer = gives undef }) ∷ []) }) 40 ≡ record { events = (called (shown_out 0) undef ((shown_prim (whole (pos 1))) ∷ []) ∷ ended undef ∷ []); end = finished }
 unfolding opened
 leaked_holder_run = refl
 
@@ -105,7 +105,7 @@ inherited_name = record {
 }
 
 -- a read that comes to a function before it comes to a slot of that name
-inherited_name_run : run checked inherited_name (record { turns = (load 0 ∷ []); replies = [] }) 40 ≡ ([], stopped (broken 10 (at_site 1045)))
+inherited_name_run : run checked inherited_name (record { turns = (load 0 ∷ []); replies = [] }) 40 ≡ record { events = []; end = stopped (broken 10 (at_site 1045)) }
 unfolding opened
 inherited_name_run = refl
 
@@ -124,7 +124,8 @@ own_before_function = record {
   docs = (no_doc ∷ []);
 }
 
-own_before_function_run : run checked own_before_function (record { turns = (load 0 ∷ []); replies = ((record { first = []; answer = gives undef }) ∷ []) }) 40 ≡ ((called (shown_out 0) undef ((shown_prim (whole (pos 1))) ∷ []) ∷ ended undef ∷ []), finished)
+-- an engine doesn't carry out the write, since a function of the chain has the name
+own_before_function_run : run checked own_before_function (record { turns = (load 0 ∷ []); replies = ((record { first = []; answer = gives undef }) ∷ []) }) 40 ≡ record { events = []; end = stopped (broken 10 (at_site 1039)) }
 unfolding opened
 own_before_function_run = refl
 
@@ -143,7 +144,7 @@ function_with_name = record {
   docs = (no_doc ∷ []);
 }
 
-function_with_name_run : run checked function_with_name (record { turns = (load 0 ∷ []); replies = [] }) 40 ≡ ([], stopped (broken 10 (at_site 1031)))
+function_with_name_run : run checked function_with_name (record { turns = (load 0 ∷ []); replies = [] }) 40 ≡ record { events = []; end = stopped (broken 10 (at_site 1016)) }
 unfolding opened
 function_with_name_run = refl
 
@@ -169,6 +170,6 @@ list_stays = record {
 }
 
 -- a list that moved to the chunk that uses it would hold what its parts are by then
-list_stays_run : run checked list_stays (record { turns = (load 0 ∷ load 1 ∷ []); replies = ((record { first = []; answer = gives undef }) ∷ []) }) 40 ≡ ((ended undef ∷ called (shown_out 0) undef ((shown_prim (whole (pos 1))) ∷ []) ∷ ended undef ∷ []), finished)
+list_stays_run : run checked list_stays (record { turns = (load 0 ∷ load 1 ∷ []); replies = ((record { first = []; answer = gives undef }) ∷ []) }) 40 ≡ record { events = (ended undef ∷ called (shown_out 0) undef ((shown_prim (whole (pos 1))) ∷ []) ∷ ended undef ∷ []); end = finished }
 unfolding opened
 list_stays_run = refl

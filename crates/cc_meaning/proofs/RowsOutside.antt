@@ -25,7 +25,7 @@ new_outside = record {
   docs = (no_doc ∷ []);
 }
 
-new_outside_run : run checked new_outside (record { turns = (load 0 ∷ []); replies = ((record { first = []; answer = gives (shown_prim (whole (pos 5))) }) ∷ (record { first = []; answer = gives undef }) ∷ []) }) 40 ≡ ((constructed (shown_out 1) ((shown_prim (whole (pos 1))) ∷ []) ∷ called (shown_out 0) undef ((shown_prim (whole (pos 5))) ∷ []) ∷ ended undef ∷ []), finished)
+new_outside_run : run checked new_outside (record { turns = (load 0 ∷ []); replies = ((record { first = []; answer = gives (shown_prim (whole (pos 5))) }) ∷ (record { first = []; answer = gives undef }) ∷ []) }) 40 ≡ record { events = (constructed (shown_out 1) ((shown_prim (whole (pos 1))) ∷ []) ∷ called (shown_out 0) undef ((shown_prim (whole (pos 5))) ∷ []) ∷ ended undef ∷ []); end = finished }
 unfolding opened
 new_outside_run = refl
 
@@ -43,7 +43,7 @@ method_outside = record {
   docs = (no_doc ∷ []);
 }
 
-method_outside_run : run checked method_outside (record { turns = (load 0 ∷ []); replies = ((record { first = []; answer = gives (shown_out 5) }) ∷ (record { first = []; answer = gives undef }) ∷ []) }) 40 ≡ ((got (shown_out 0) (codes "m") ∷ called (shown_out 5) (shown_out 0) ((shown_prim (whole (pos 1))) ∷ []) ∷ put (shown_out 0) (codes "n") (shown_prim (whole (pos 2))) ∷ ended undef ∷ []), finished)
+method_outside_run : run checked method_outside (record { turns = (load 0 ∷ []); replies = ((record { first = []; answer = gives (shown_out 5) }) ∷ (record { first = []; answer = gives undef }) ∷ []) }) 40 ≡ record { events = (got (shown_out 0) (codes "m") ∷ called (shown_out 5) (shown_out 0) ((shown_prim (whole (pos 1))) ∷ []) ∷ put (shown_out 0) (codes "n") (shown_prim (whole (pos 2))) ∷ ended undef ∷ []); end = finished }
 unfolding opened
 method_outside_run = refl
 
@@ -61,7 +61,7 @@ unkept_outside = record {
   docs = (no_doc ∷ []);
 }
 
-unkept_outside_run : run checked unkept_outside (record { turns = (load 0 ∷ []); replies = [] }) 40 ≡ ([], stopped (broken 8 (at_site 1002)))
+unkept_outside_run : run checked unkept_outside (record { turns = (load 0 ∷ []); replies = [] }) 40 ≡ record { events = []; end = stopped (broken 8 (at_site 1002)) }
 unfolding opened
 unkept_outside_run = refl
 
@@ -80,7 +80,7 @@ get_calls_back = record {
   docs = (no_doc ∷ []);
 }
 
-get_calls_back_run : run checked get_calls_back (record { turns = (load 0 ∷ []); replies = ((record { first = []; answer = gives undef }) ∷ (record { first = ((record { callee = 0; this = undef; args = [] }) ∷ []); answer = gives (shown_prim (whole (pos 4))) }) ∷ (record { first = []; answer = gives undef }) ∷ []) }) 40 ≡ ((called (shown_out 1) undef ((handle 0) ∷ []) ∷ got (shown_out 2) (codes "p") ∷ ended (shown_prim (whole (pos 1))) ∷ called (shown_out 0) undef ((shown_prim (whole (pos 5))) ∷ []) ∷ ended undef ∷ []), finished)
+get_calls_back_run : run checked get_calls_back (record { turns = (load 0 ∷ []); replies = ((record { first = []; answer = gives undef }) ∷ (record { first = ((record { callee = 0; this = undef; args = [] }) ∷ []); answer = gives (shown_prim (whole (pos 4))) }) ∷ (record { first = []; answer = gives undef }) ∷ []) }) 40 ≡ record { events = (called (shown_out 1) undef ((handle 0) ∷ []) ∷ got (shown_out 2) (codes "p") ∷ ended (shown_prim (whole (pos 1))) ∷ called (shown_out 0) undef ((shown_prim (whole (pos 5))) ∷ []) ∷ ended undef ∷ []); end = finished }
 unfolding opened
 get_calls_back_run = refl
 
@@ -99,7 +99,7 @@ inner_throws = record {
   docs = (no_doc ∷ []);
 }
 
-inner_throws_run : run checked inner_throws (record { turns = (load 0 ∷ []); replies = ((record { first = ((record { callee = 0; this = undef; args = [] }) ∷ []); answer = gives undef }) ∷ (record { first = []; answer = gives undef }) ∷ []) }) 40 ≡ ((called (shown_out 1) undef ((handle 0) ∷ []) ∷ threw (shown_prim (whole (pos 3))) ∷ called (shown_out 0) undef ((shown_prim (whole (pos 1))) ∷ []) ∷ ended undef ∷ []), finished)
+inner_throws_run : run checked inner_throws (record { turns = (load 0 ∷ []); replies = ((record { first = ((record { callee = 0; this = undef; args = [] }) ∷ []); answer = gives undef }) ∷ (record { first = []; answer = gives undef }) ∷ []) }) 40 ≡ record { events = (called (shown_out 1) undef ((handle 0) ∷ []) ∷ threw (shown_prim (whole (pos 3))) ∷ called (shown_out 0) undef ((shown_prim (whole (pos 1))) ∷ []) ∷ ended undef ∷ []); end = finished }
 unfolding opened
 inner_throws_run = refl
 
@@ -119,7 +119,7 @@ inner_asks = record {
 }
 
 -- what an inner call asks for takes the replies after this one
-inner_asks_run : run checked inner_asks (record { turns = (load 0 ∷ []); replies = ((record { first = ((record { callee = 0; this = undef; args = ((stext (codes "a")) ∷ []) }) ∷ (record { callee = 0; this = undef; args = ((stext (codes "b")) ∷ []) }) ∷ []); answer = gives undef }) ∷ (record { first = []; answer = gives undef }) ∷ (record { first = []; answer = gives undef }) ∷ (record { first = []; answer = gives undef }) ∷ []) }) 40 ≡ ((called (shown_out 1) undef ((handle 0) ∷ []) ∷ called (shown_out 0) undef ((stext (codes "a")) ∷ []) ∷ ended undef ∷ called (shown_out 0) undef ((stext (codes "b")) ∷ []) ∷ ended undef ∷ called (shown_out 0) undef ((shown_prim (whole (pos 1))) ∷ []) ∷ ended undef ∷ []), finished)
+inner_asks_run : run checked inner_asks (record { turns = (load 0 ∷ []); replies = ((record { first = ((record { callee = 0; this = undef; args = ((stext (codes "a")) ∷ []) }) ∷ (record { callee = 0; this = undef; args = ((stext (codes "b")) ∷ []) }) ∷ []); answer = gives undef }) ∷ (record { first = []; answer = gives undef }) ∷ (record { first = []; answer = gives undef }) ∷ (record { first = []; answer = gives undef }) ∷ []) }) 40 ≡ record { events = (called (shown_out 1) undef ((handle 0) ∷ []) ∷ called (shown_out 0) undef ((stext (codes "a")) ∷ []) ∷ ended undef ∷ called (shown_out 0) undef ((stext (codes "b")) ∷ []) ∷ ended undef ∷ called (shown_out 0) undef ((shown_prim (whole (pos 1))) ∷ []) ∷ ended undef ∷ []); end = finished }
 unfolding opened
 inner_asks_run = refl
 
@@ -137,11 +137,11 @@ answer_not_given = record {
   docs = (no_doc ∷ []);
 }
 
-answer_not_given_run : run checked answer_not_given (record { turns = (load 0 ∷ []); replies = ((record { first = []; answer = gives (handle 0) }) ∷ []) }) 40 ≡ ((called (shown_out 0) undef ((shown_prim (whole (pos 1))) ∷ []) ∷ []), stopped (broken 13 (at_site 1006)))
+answer_not_given_run : run checked answer_not_given (record { turns = (load 0 ∷ []); replies = ((record { first = []; answer = gives (handle 0) }) ∷ []) }) 40 ≡ record { events = (called (shown_out 0) undef ((shown_prim (whole (pos 1))) ∷ []) ∷ []); end = stopped (broken 13 (at_site 1006)) }
 unfolding opened
 answer_not_given_run = refl
 
-answer_not_given_plain : run plain answer_not_given (record { turns = (load 0 ∷ []); replies = ((record { first = []; answer = gives (handle 0) }) ∷ []) }) 40 ≡ ((called (shown_out 0) undef ((shown_prim (whole (pos 1))) ∷ []) ∷ []), stopped (strayed (at_site 1006)))
+answer_not_given_plain : run plain answer_not_given (record { turns = (load 0 ∷ []); replies = ((record { first = []; answer = gives (handle 0) }) ∷ []) }) 40 ≡ record { events = (called (shown_out 0) undef ((shown_prim (whole (pos 1))) ∷ []) ∷ []); end = stopped (strayed (at_site 1006)) }
 unfolding opened
 answer_not_given_plain = refl
 
@@ -159,7 +159,7 @@ reply_throws = record {
   docs = (no_doc ∷ []);
 }
 
-reply_throws_run : run checked reply_throws (record { turns = (load 0 ∷ []); replies = ((record { first = []; answer = throws (stext (codes "x")) }) ∷ (record { first = []; answer = gives undef }) ∷ (record { first = []; answer = gives undef }) ∷ []) }) 40 ≡ ((called (shown_out 0) undef ((shown_prim (whole (pos 1))) ∷ []) ∷ called (shown_out 0) undef ((stext (codes "x")) ∷ []) ∷ called (shown_out 0) undef ((shown_prim (whole (pos 2))) ∷ []) ∷ ended undef ∷ []), finished)
+reply_throws_run : run checked reply_throws (record { turns = (load 0 ∷ []); replies = ((record { first = []; answer = throws (stext (codes "x")) }) ∷ (record { first = []; answer = gives undef }) ∷ (record { first = []; answer = gives undef }) ∷ []) }) 40 ≡ record { events = (called (shown_out 0) undef ((shown_prim (whole (pos 1))) ∷ []) ∷ called (shown_out 0) undef ((stext (codes "x")) ∷ []) ∷ called (shown_out 0) undef ((shown_prim (whole (pos 2))) ∷ []) ∷ ended undef ∷ []); end = finished }
 unfolding opened
 reply_throws_run = refl
 
@@ -177,7 +177,7 @@ shown_twice = record {
   docs = (no_doc ∷ []);
 }
 
-shown_twice_run : run checked shown_twice (record { turns = (load 0 ∷ call_turn (record { callee = 0; this = undef; args = [] }) ∷ []); replies = ((record { first = []; answer = gives undef }) ∷ (record { first = []; answer = gives undef }) ∷ (record { first = []; answer = gives undef }) ∷ []) }) 40 ≡ ((called (shown_out 0) undef ((handle 0) ∷ []) ∷ called (shown_out 0) undef ((shown_prim (truth false)) ∷ []) ∷ called (shown_out 1) undef ((handle 0) ∷ (handle 1) ∷ (handle 0) ∷ []) ∷ ended undef ∷ []), stopped (broken 2 (at_turn 1)))
+shown_twice_run : run checked shown_twice (record { turns = (load 0 ∷ call_turn (record { callee = 0; this = undef; args = [] }) ∷ []); replies = ((record { first = []; answer = gives undef }) ∷ (record { first = []; answer = gives undef }) ∷ (record { first = []; answer = gives undef }) ∷ []) }) 40 ≡ record { events = (called (shown_out 0) undef ((handle 0) ∷ []) ∷ called (shown_out 0) undef ((shown_prim (truth false)) ∷ []) ∷ called (shown_out 1) undef ((handle 0) ∷ (handle 1) ∷ (handle 0) ∷ []) ∷ ended undef ∷ []); end = stopped (broken 2 (at_turn 1)) }
 unfolding opened
 shown_twice_run = refl
 
@@ -202,11 +202,11 @@ throwing_chunk = record {
   docs = (no_doc ∷ []);
 }
 
-throwing_chunk_run : run checked throwing_chunk (record { turns = (load 0 ∷ load 1 ∷ []); replies = ((record { first = []; answer = gives undef }) ∷ []) }) 40 ≡ ((threw (shown_prim (whole (pos 1))) ∷ []), stopped (broken 13 (at_turn 1)))
+throwing_chunk_run : run checked throwing_chunk (record { turns = (load 0 ∷ load 1 ∷ []); replies = ((record { first = []; answer = gives undef }) ∷ []) }) 40 ≡ record { events = (threw (shown_prim (whole (pos 1))) ∷ []); end = stopped (broken 13 (at_turn 1)) }
 unfolding opened
 throwing_chunk_run = refl
 
-throwing_chunk_plain : run plain throwing_chunk (record { turns = (load 0 ∷ load 1 ∷ []); replies = ((record { first = []; answer = gives undef }) ∷ []) }) 40 ≡ ((threw (shown_prim (whole (pos 1))) ∷ called (shown_out 0) undef ((shown_prim (whole (pos 1))) ∷ []) ∷ ended undef ∷ []), finished)
+throwing_chunk_plain : run plain throwing_chunk (record { turns = (load 0 ∷ load 1 ∷ []); replies = ((record { first = []; answer = gives undef }) ∷ []) }) 40 ≡ record { events = (threw (shown_prim (whole (pos 1))) ∷ called (shown_out 0) undef ((shown_prim (whole (pos 1))) ∷ []) ∷ ended undef ∷ []); end = finished }
 unfolding opened
 throwing_chunk_plain = refl
 
@@ -229,11 +229,11 @@ unloaded_global = record {
   docs = (no_doc ∷ []);
 }
 
-unloaded_global_run : run checked unloaded_global (record { turns = (load 0 ∷ call_turn (record { callee = 0; this = undef; args = [] }) ∷ load 1 ∷ []); replies = ((record { first = []; answer = gives undef }) ∷ []) }) 40 ≡ ((called (shown_out 0) undef ((handle 0) ∷ []) ∷ ended undef ∷ []), stopped (broken 3 (at_site 1021)))
+unloaded_global_run : run checked unloaded_global (record { turns = (load 0 ∷ call_turn (record { callee = 0; this = undef; args = [] }) ∷ load 1 ∷ []); replies = ((record { first = []; answer = gives undef }) ∷ []) }) 40 ≡ record { events = (called (shown_out 0) undef ((handle 0) ∷ []) ∷ ended undef ∷ []); end = stopped (broken 3 (at_site 1021)) }
 unfolding opened
 unloaded_global_run = refl
 
-unloaded_global_loaded : run checked unloaded_global (record { turns = (load 0 ∷ load 1 ∷ call_turn (record { callee = 0; this = undef; args = [] }) ∷ []); replies = ((record { first = []; answer = gives undef }) ∷ []) }) 40 ≡ ((called (shown_out 0) undef ((handle 0) ∷ []) ∷ ended undef ∷ ended undef ∷ ended (shown_prim (whole (pos 1))) ∷ []), finished)
+unloaded_global_loaded : run checked unloaded_global (record { turns = (load 0 ∷ load 1 ∷ call_turn (record { callee = 0; this = undef; args = [] }) ∷ []); replies = ((record { first = []; answer = gives undef }) ∷ []) }) 40 ≡ record { events = (called (shown_out 0) undef ((handle 0) ∷ []) ∷ ended undef ∷ ended undef ∷ ended (shown_prim (whole (pos 1))) ∷ []); end = finished }
 unfolding opened
 unloaded_global_loaded = refl
 
@@ -255,11 +255,11 @@ declared_twice = record {
   docs = (no_doc ∷ []);
 }
 
-declared_twice_run : run checked declared_twice (record { turns = (load 1 ∷ []); replies = ((record { first = []; answer = gives undef }) ∷ []) }) 40 ≡ ([], stopped (broken 3 (at_site 1015)))
+declared_twice_run : run checked declared_twice (record { turns = (load 1 ∷ []); replies = ((record { first = []; answer = gives undef }) ∷ []) }) 40 ≡ record { events = []; end = stopped (broken 3 (at_site 1015)) }
 unfolding opened
 declared_twice_run = refl
 
-declared_twice_both : run checked declared_twice (record { turns = (load 0 ∷ load 1 ∷ []); replies = ((record { first = []; answer = gives undef }) ∷ []) }) 40 ≡ ((ended undef ∷ called (shown_out 0) undef ((shown_prim (whole (pos 2))) ∷ []) ∷ ended undef ∷ []), finished)
+declared_twice_both : run checked declared_twice (record { turns = (load 0 ∷ load 1 ∷ []); replies = ((record { first = []; answer = gives undef }) ∷ []) }) 40 ≡ record { events = (ended undef ∷ called (shown_out 0) undef ((shown_prim (whole (pos 2))) ∷ []) ∷ ended undef ∷ []); end = finished }
 unfolding opened
 declared_twice_both = refl
 
@@ -277,7 +277,7 @@ host_turns = record {
   docs = (no_doc ∷ []);
 }
 
-host_turns_run : run checked host_turns (record { turns = (load 0 ∷ get_turn 0 (codes "0") ∷ get_turn 0 (codes "length") ∷ set_turn 0 (codes "1") (shown_prim (whole (pos 6))) ∷ get_turn 0 (codes "1") ∷ set_turn 0 (codes "x") (shown_prim (whole (pos 1))) ∷ get_turn 0 (codes "x") ∷ get_turn 0 (codes "push") ∷ []); replies = ((record { first = []; answer = gives undef }) ∷ []) }) 40 ≡ ((called (shown_out 0) undef ((handle 0) ∷ []) ∷ ended undef ∷ ended (shown_prim (whole (pos 5))) ∷ ended (shown_prim (whole (pos 1))) ∷ ended undef ∷ ended (shown_prim (whole (pos 6))) ∷ ended undef ∷ ended (shown_prim (whole (pos 1))) ∷ []), stopped (broken 10 (at_turn 7)))
+host_turns_run : run checked host_turns (record { turns = (load 0 ∷ get_turn 0 (codes "0") ∷ get_turn 0 (codes "length") ∷ set_turn 0 (codes "1") (shown_prim (whole (pos 6))) ∷ get_turn 0 (codes "1") ∷ set_turn 0 (codes "x") (shown_prim (whole (pos 1))) ∷ get_turn 0 (codes "x") ∷ get_turn 0 (codes "push") ∷ []); replies = ((record { first = []; answer = gives undef }) ∷ []) }) 40 ≡ record { events = (called (shown_out 0) undef ((handle 0) ∷ []) ∷ ended undef ∷ ended (shown_prim (whole (pos 5))) ∷ ended (shown_prim (whole (pos 1))) ∷ ended undef ∷ ended (shown_prim (whole (pos 6))) ∷ ended undef ∷ ended (shown_prim (whole (pos 1))) ∷ []); end = stopped (broken 10 (at_turn 7)) }
 unfolding opened
 host_turns_run = refl
 
@@ -295,18 +295,18 @@ host_name = record {
   docs = (no_doc ∷ []);
 }
 
-host_name_run : run checked host_name (record { turns = (load 0 ∷ get_turn 0 (codes "b") ∷ []); replies = ((record { first = []; answer = gives undef }) ∷ []) }) 40 ≡ ((called (shown_out 0) undef ((handle 0) ∷ []) ∷ ended undef ∷ []), stopped (broken 13 (at_turn 1)))
+host_name_run : run checked host_name (record { turns = (load 0 ∷ get_turn 0 (codes "b") ∷ []); replies = ((record { first = []; answer = gives undef }) ∷ []) }) 40 ≡ record { events = (called (shown_out 0) undef ((handle 0) ∷ []) ∷ ended undef ∷ []); end = stopped (broken 13 (at_turn 1)) }
 unfolding opened
 host_name_run = refl
 
-host_name_not_given : run checked host_name (record { turns = (load 0 ∷ set_turn 1 (codes "b") (shown_prim (whole (pos 1))) ∷ []); replies = ((record { first = []; answer = gives undef }) ∷ []) }) 40 ≡ ((called (shown_out 0) undef ((handle 0) ∷ []) ∷ ended undef ∷ []), stopped (broken 13 (at_turn 1)))
+host_name_not_given : run checked host_name (record { turns = (load 0 ∷ set_turn 1 (codes "b") (shown_prim (whole (pos 1))) ∷ []); replies = ((record { first = []; answer = gives undef }) ∷ []) }) 40 ≡ record { events = (called (shown_out 0) undef ((handle 0) ∷ []) ∷ ended undef ∷ []); end = stopped (broken 13 (at_turn 1)) }
 unfolding opened
 host_name_not_given = refl
 
-host_name_not_given_plain : run plain host_name (record { turns = (load 0 ∷ set_turn 1 (codes "b") (shown_prim (whole (pos 1))) ∷ []); replies = ((record { first = []; answer = gives undef }) ∷ []) }) 40 ≡ ((called (shown_out 0) undef ((handle 0) ∷ []) ∷ ended undef ∷ []), stopped (strayed (at_turn 1)))
+host_name_not_given_plain : run plain host_name (record { turns = (load 0 ∷ set_turn 1 (codes "b") (shown_prim (whole (pos 1))) ∷ []); replies = ((record { first = []; answer = gives undef }) ∷ []) }) 40 ≡ record { events = (called (shown_out 0) undef ((handle 0) ∷ []) ∷ ended undef ∷ []); end = stopped (strayed (at_turn 1)) }
 unfolding opened
 host_name_not_given_plain = refl
 
-host_name_plain : run plain host_name (record { turns = (load 0 ∷ get_turn 0 (codes "b") ∷ []); replies = ((record { first = []; answer = gives undef }) ∷ []) }) 40 ≡ ((called (shown_out 0) undef ((handle 0) ∷ []) ∷ ended undef ∷ ended undef ∷ []), finished)
+host_name_plain : run plain host_name (record { turns = (load 0 ∷ get_turn 0 (codes "b") ∷ []); replies = ((record { first = []; answer = gives undef }) ∷ []) }) 40 ≡ record { events = (called (shown_out 0) undef ((handle 0) ∷ []) ∷ ended undef ∷ ended undef ∷ []); end = finished }
 unfolding opened
 host_name_plain = refl

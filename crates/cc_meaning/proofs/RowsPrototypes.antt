@@ -31,7 +31,7 @@ sub_calls_base = record {
   docs = (no_doc ∷ (record no_doc { params = []; result = None; receiver = None; vars = [] }) ∷ (record no_doc { params = []; result = None; receiver = None; vars = [] }) ∷ []);
 }
 
-sub_calls_base_run : run checked sub_calls_base (record { turns = (load 0 ∷ []); replies = ((record { first = []; answer = gives undef }) ∷ []) }) 40 ≡ ((called (shown_out 0) undef ((shown_prim (whole (pos 1))) ∷ []) ∷ ended undef ∷ []), finished)
+sub_calls_base_run : run checked sub_calls_base (record { turns = (load 0 ∷ []); replies = ((record { first = []; answer = gives undef }) ∷ []) }) 40 ≡ record { events = (called (shown_out 0) undef ((shown_prim (whole (pos 1))) ∷ []) ∷ ended undef ∷ []); end = finished }
 unfolding opened
 sub_calls_base_run = refl
 
@@ -52,7 +52,7 @@ new_of_class = record {
   docs = (no_doc ∷ (record no_doc { params = []; result = None; receiver = None; vars = [] }) ∷ []);
 }
 
-new_of_class_run : run checked new_of_class (record { turns = (load 0 ∷ []); replies = [] }) 40 ≡ ([], stopped (broken 6 (at_site 2014)))
+new_of_class_run : run checked new_of_class (record { turns = (load 0 ∷ []); replies = [] }) 40 ≡ record { events = []; end = stopped (broken 6 (at_site 2014)) }
 unfolding opened
 new_of_class_run = refl
 
@@ -77,7 +77,7 @@ prototype_late = record {
   docs = (no_doc ∷ (record no_doc { params = []; result = None; receiver = None; vars = [] }) ∷ (record no_doc { params = []; result = None; receiver = None; vars = [] }) ∷ []);
 }
 
-prototype_late_run : run checked prototype_late (record { turns = (load 0 ∷ []); replies = [] }) 40 ≡ ([], stopped (broken 12 (at_site 6002)))
+prototype_late_run : run checked prototype_late (record { turns = (load 0 ∷ []); replies = [] }) 40 ≡ record { events = []; end = stopped (broken 12 (at_site 6002)) }
 unfolding opened
 prototype_late_run = refl
 
@@ -102,7 +102,7 @@ prototype_with_slot = record {
   docs = (no_doc ∷ (record no_doc { params = []; result = None; receiver = None; vars = [] }) ∷ (record no_doc { params = []; result = None; receiver = None; vars = [] }) ∷ []);
 }
 
-prototype_with_slot_run : run checked prototype_with_slot (record { turns = (load 0 ∷ []); replies = [] }) 40 ≡ ([], stopped (broken 12 (at_site 6002)))
+prototype_with_slot_run : run checked prototype_with_slot (record { turns = (load 0 ∷ []); replies = [] }) 40 ≡ record { events = []; end = stopped (broken 12 (at_site 6002)) }
 unfolding opened
 prototype_with_slot_run = refl
 
@@ -126,7 +126,7 @@ prototype_of_other = record {
   docs = (no_doc ∷ (record no_doc { params = []; result = None; receiver = None; vars = [] }) ∷ (record no_doc { params = []; result = None; receiver = None; vars = [] }) ∷ []);
 }
 
-prototype_of_other_run : run checked prototype_of_other (record { turns = (load 0 ∷ []); replies = [] }) 40 ≡ ([], stopped (broken 12 (at_site 5002)))
+prototype_of_other_run : run checked prototype_of_other (record { turns = (load 0 ∷ []); replies = [] }) 40 ≡ record { events = []; end = stopped (broken 12 (at_site 5002)) }
 unfolding opened
 prototype_of_other_run = refl
 
@@ -151,7 +151,7 @@ prototype_by_alias = record {
   docs = (no_doc ∷ (record no_doc { params = []; result = None; receiver = None; vars = [] }) ∷ (record no_doc { params = []; result = None; receiver = None; vars = [] }) ∷ []);
 }
 
-prototype_by_alias_run : run checked prototype_by_alias (record { turns = (load 0 ∷ []); replies = [] }) 40 ≡ ([], stopped (broken 12 (at_site 6002)))
+prototype_by_alias_run : run checked prototype_by_alias (record { turns = (load 0 ∷ []); replies = [] }) 40 ≡ record { events = []; end = stopped (broken 12 (at_site 6002)) }
 unfolding opened
 prototype_by_alias_run = refl
 
@@ -177,7 +177,7 @@ prototype_by_function = record {
   docs = (no_doc ∷ (record no_doc { params = []; result = None; receiver = None; vars = [] }) ∷ (record no_doc { params = []; result = None; receiver = None; vars = [] }) ∷ []);
 }
 
-prototype_by_function_run : run checked prototype_by_function (record { turns = (load 0 ∷ []); replies = [] }) 40 ≡ ([], stopped (broken 12 (at_site 5015)))
+prototype_by_function_run : run checked prototype_by_function (record { turns = (load 0 ∷ []); replies = [] }) 40 ≡ record { events = []; end = stopped (broken 12 (at_site 5015)) }
 unfolding opened
 prototype_by_function_run = refl
 
@@ -196,6 +196,6 @@ prototype_of_plain = record {
   docs = (no_doc ∷ []);
 }
 
-prototype_of_plain_run : run checked prototype_of_plain (record { turns = (load 0 ∷ []); replies = [] }) 40 ≡ ([], stopped (broken 12 (at_site 1016)))
+prototype_of_plain_run : run checked prototype_of_plain (record { turns = (load 0 ∷ []); replies = [] }) 40 ≡ record { events = []; end = stopped (broken 12 (at_site 1016)) }
 unfolding opened
 prototype_of_plain_run = refl

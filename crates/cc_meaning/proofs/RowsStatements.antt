@@ -28,7 +28,7 @@ finally_over_throw = record {
   docs = (no_doc ∷ []);
 }
 
-finally_over_throw_run : run checked finally_over_throw (record { turns = (load 0 ∷ []); replies = ((record { first = []; answer = gives undef }) ∷ []) }) 40 ≡ ((called (shown_out 0) undef ((shown_prim (whole (pos 2))) ∷ []) ∷ ended undef ∷ []), finished)
+finally_over_throw_run : run checked finally_over_throw (record { turns = (load 0 ∷ []); replies = ((record { first = []; answer = gives undef }) ∷ []) }) 40 ≡ record { events = (called (shown_out 0) undef ((shown_prim (whole (pos 2))) ∷ []) ∷ ended undef ∷ []); end = finished }
 unfolding opened
 finally_over_throw_run = refl
 
@@ -47,7 +47,7 @@ finally_goes_on = record {
   docs = (no_doc ∷ []);
 }
 
-finally_goes_on_run : run checked finally_goes_on (record { turns = (load 0 ∷ []); replies = ((record { first = []; answer = gives undef }) ∷ (record { first = []; answer = gives undef }) ∷ []) }) 40 ≡ ((called (shown_out 0) undef ((shown_prim (whole (pos 0))) ∷ []) ∷ called (shown_out 0) undef ((shown_prim (whole (pos 1))) ∷ []) ∷ ended undef ∷ []), finished)
+finally_goes_on_run : run checked finally_goes_on (record { turns = (load 0 ∷ []); replies = ((record { first = []; answer = gives undef }) ∷ (record { first = []; answer = gives undef }) ∷ []) }) 40 ≡ record { events = (called (shown_out 0) undef ((shown_prim (whole (pos 0))) ∷ []) ∷ called (shown_out 0) undef ((shown_prim (whole (pos 1))) ∷ []) ∷ ended undef ∷ []); end = finished }
 unfolding opened
 finally_goes_on_run = refl
 
@@ -66,7 +66,7 @@ break_from_finally = record {
   docs = (no_doc ∷ []);
 }
 
-break_from_finally_run : run checked break_from_finally (record { turns = (load 0 ∷ []); replies = ((record { first = []; answer = gives undef }) ∷ []) }) 40 ≡ ((called (shown_out 0) undef ((shown_prim (whole (pos 2))) ∷ []) ∷ ended undef ∷ []), finished)
+break_from_finally_run : run checked break_from_finally (record { turns = (load 0 ∷ []); replies = ((record { first = []; answer = gives undef }) ∷ []) }) 40 ≡ record { events = (called (shown_out 0) undef ((shown_prim (whole (pos 2))) ∷ []) ∷ ended undef ∷ []); end = finished }
 unfolding opened
 break_from_finally_run = refl
 
@@ -85,7 +85,7 @@ catch_returns = record {
   docs = (no_doc ∷ []);
 }
 
-catch_returns_run : run checked catch_returns (record { turns = (load 0 ∷ []); replies = ((record { first = []; answer = gives undef }) ∷ (record { first = []; answer = gives undef }) ∷ []) }) 40 ≡ ((called (shown_out 0) undef ((shown_prim (whole (pos 3))) ∷ []) ∷ called (shown_out 0) undef ((shown_prim (whole (pos 1))) ∷ []) ∷ ended undef ∷ []), finished)
+catch_returns_run : run checked catch_returns (record { turns = (load 0 ∷ []); replies = ((record { first = []; answer = gives undef }) ∷ (record { first = []; answer = gives undef }) ∷ []) }) 40 ≡ record { events = (called (shown_out 0) undef ((shown_prim (whole (pos 3))) ∷ []) ∷ called (shown_out 0) undef ((shown_prim (whole (pos 1))) ∷ []) ∷ ended undef ∷ []); end = finished }
 unfolding opened
 catch_returns_run = refl
 
@@ -104,7 +104,7 @@ catch_frame = record {
   docs = (no_doc ∷ []);
 }
 
-catch_frame_run : run checked catch_frame (record { turns = (load 0 ∷ []); replies = ((record { first = []; answer = gives undef }) ∷ []) }) 40 ≡ ((called (shown_out 0) undef ((shown_prim (whole (pos 6))) ∷ []) ∷ ended undef ∷ []), finished)
+catch_frame_run : run checked catch_frame (record { turns = (load 0 ∷ []); replies = ((record { first = []; answer = gives undef }) ∷ []) }) 40 ≡ record { events = (called (shown_out 0) undef ((shown_prim (whole (pos 6))) ∷ []) ∷ ended undef ∷ []); end = finished }
 unfolding opened
 catch_frame_run = refl
 
@@ -123,7 +123,7 @@ default_first = record {
   docs = (no_doc ∷ []);
 }
 
-default_first_run : run checked default_first (record { turns = (load 0 ∷ []); replies = ((record { first = []; answer = gives undef }) ∷ (record { first = []; answer = gives undef }) ∷ (record { first = []; answer = gives undef }) ∷ []) }) 40 ≡ ((called (shown_out 0) undef ((stext (codes "d")) ∷ []) ∷ called (shown_out 0) undef ((shown_prim (whole (pos 1))) ∷ []) ∷ called (shown_out 0) undef ((shown_prim (whole (pos 2))) ∷ []) ∷ ended undef ∷ []), finished)
+default_first_run : run checked default_first (record { turns = (load 0 ∷ []); replies = ((record { first = []; answer = gives undef }) ∷ (record { first = []; answer = gives undef }) ∷ (record { first = []; answer = gives undef }) ∷ []) }) 40 ≡ record { events = (called (shown_out 0) undef ((stext (codes "d")) ∷ []) ∷ called (shown_out 0) undef ((shown_prim (whole (pos 1))) ∷ []) ∷ called (shown_out 0) undef ((shown_prim (whole (pos 2))) ∷ []) ∷ ended undef ∷ []); end = finished }
 unfolding opened
 default_first_run = refl
 
@@ -142,7 +142,7 @@ default_between = record {
   docs = (no_doc ∷ []);
 }
 
-default_between_run : run checked default_between (record { turns = (load 0 ∷ []); replies = ((record { first = []; answer = gives undef }) ∷ (record { first = []; answer = gives undef }) ∷ (record { first = []; answer = gives undef }) ∷ (record { first = []; answer = gives undef }) ∷ (record { first = []; answer = gives undef }) ∷ (record { first = []; answer = gives undef }) ∷ []) }) 40 ≡ ((called (shown_out 0) undef ((shown_prim (whole (pos 1))) ∷ []) ∷ called (shown_out 0) undef ((stext (codes "d")) ∷ []) ∷ called (shown_out 0) undef ((shown_prim (whole (pos 1))) ∷ []) ∷ called (shown_out 0) undef ((shown_prim (whole (pos 0))) ∷ []) ∷ called (shown_out 0) undef ((stext (codes "d")) ∷ []) ∷ called (shown_out 0) undef ((shown_prim (whole (pos 1))) ∷ []) ∷ ended undef ∷ []), finished)
+default_between_run : run checked default_between (record { turns = (load 0 ∷ []); replies = ((record { first = []; answer = gives undef }) ∷ (record { first = []; answer = gives undef }) ∷ (record { first = []; answer = gives undef }) ∷ (record { first = []; answer = gives undef }) ∷ (record { first = []; answer = gives undef }) ∷ (record { first = []; answer = gives undef }) ∷ []) }) 40 ≡ record { events = (called (shown_out 0) undef ((shown_prim (whole (pos 1))) ∷ []) ∷ called (shown_out 0) undef ((stext (codes "d")) ∷ []) ∷ called (shown_out 0) undef ((shown_prim (whole (pos 1))) ∷ []) ∷ called (shown_out 0) undef ((shown_prim (whole (pos 0))) ∷ []) ∷ called (shown_out 0) undef ((stext (codes "d")) ∷ []) ∷ called (shown_out 0) undef ((shown_prim (whole (pos 1))) ∷ []) ∷ ended undef ∷ []); end = finished }
 unfolding opened
 default_between_run = refl
 
@@ -160,7 +160,7 @@ switch_strict = record {
   docs = (no_doc ∷ []);
 }
 
-switch_strict_run : run checked switch_strict (record { turns = (load 0 ∷ []); replies = ((record { first = []; answer = gives undef }) ∷ []) }) 40 ≡ ((called (shown_out 0) undef ((stext (codes "s")) ∷ []) ∷ ended undef ∷ []), finished)
+switch_strict_run : run checked switch_strict (record { turns = (load 0 ∷ []); replies = ((record { first = []; answer = gives undef }) ∷ []) }) 40 ≡ record { events = (called (shown_out 0) undef ((stext (codes "s")) ∷ []) ∷ ended undef ∷ []); end = finished }
 unfolding opened
 switch_strict_run = refl
 
@@ -178,7 +178,7 @@ switch_nothing = record {
   docs = (no_doc ∷ []);
 }
 
-switch_nothing_run : run checked switch_nothing (record { turns = (load 0 ∷ []); replies = ((record { first = []; answer = gives undef }) ∷ []) }) 40 ≡ ((called (shown_out 0) undef ((shown_prim (whole (pos 1))) ∷ []) ∷ ended undef ∷ []), finished)
+switch_nothing_run : run checked switch_nothing (record { turns = (load 0 ∷ []); replies = ((record { first = []; answer = gives undef }) ∷ []) }) 40 ≡ record { events = (called (shown_out 0) undef ((shown_prim (whole (pos 1))) ∷ []) ∷ ended undef ∷ []); end = finished }
 unfolding opened
 switch_nothing_run = refl
 
@@ -196,7 +196,7 @@ labels = record {
   docs = (no_doc ∷ []);
 }
 
-labels_run : run checked labels (record { turns = (load 0 ∷ []); replies = ((record { first = []; answer = gives undef }) ∷ (record { first = []; answer = gives undef }) ∷ (record { first = []; answer = gives undef }) ∷ []) }) 40 ≡ ((called (shown_out 0) undef ((shown_prim (whole (pos 0))) ∷ []) ∷ called (shown_out 0) undef ((shown_prim (whole (pos 1))) ∷ []) ∷ called (shown_out 0) undef ((shown_prim (whole (pos 9))) ∷ []) ∷ ended undef ∷ []), finished)
+labels_run : run checked labels (record { turns = (load 0 ∷ []); replies = ((record { first = []; answer = gives undef }) ∷ (record { first = []; answer = gives undef }) ∷ (record { first = []; answer = gives undef }) ∷ []) }) 40 ≡ record { events = (called (shown_out 0) undef ((shown_prim (whole (pos 0))) ∷ []) ∷ called (shown_out 0) undef ((shown_prim (whole (pos 1))) ∷ []) ∷ called (shown_out 0) undef ((shown_prim (whole (pos 9))) ∷ []) ∷ ended undef ∷ []); end = finished }
 unfolding opened
 labels_run = refl
 
@@ -214,7 +214,7 @@ label_of_block = record {
   docs = (no_doc ∷ []);
 }
 
-label_of_block_run : run checked label_of_block (record { turns = (load 0 ∷ []); replies = ((record { first = []; answer = gives undef }) ∷ (record { first = []; answer = gives undef }) ∷ []) }) 40 ≡ ((called (shown_out 0) undef ((shown_prim (whole (pos 1))) ∷ []) ∷ called (shown_out 0) undef ((shown_prim (whole (pos 3))) ∷ []) ∷ ended undef ∷ []), finished)
+label_of_block_run : run checked label_of_block (record { turns = (load 0 ∷ []); replies = ((record { first = []; answer = gives undef }) ∷ (record { first = []; answer = gives undef }) ∷ []) }) 40 ≡ record { events = (called (shown_out 0) undef ((shown_prim (whole (pos 1))) ∷ []) ∷ called (shown_out 0) undef ((shown_prim (whole (pos 3))) ∷ []) ∷ ended undef ∷ []); end = finished }
 unfolding opened
 label_of_block_run = refl
 
@@ -232,7 +232,7 @@ switch_in_loop = record {
   docs = (no_doc ∷ []);
 }
 
-switch_in_loop_run : run checked switch_in_loop (record { turns = (load 0 ∷ []); replies = ((record { first = []; answer = gives undef }) ∷ []) }) 40 ≡ ((called (shown_out 0) undef ((shown_prim (whole (pos 1))) ∷ []) ∷ ended undef ∷ []), finished)
+switch_in_loop_run : run checked switch_in_loop (record { turns = (load 0 ∷ []); replies = ((record { first = []; answer = gives undef }) ∷ []) }) 40 ≡ record { events = (called (shown_out 0) undef ((shown_prim (whole (pos 1))) ∷ []) ∷ ended undef ∷ []); end = finished }
 unfolding opened
 switch_in_loop_run = refl
 
@@ -250,11 +250,11 @@ do_once = record {
   docs = (no_doc ∷ []);
 }
 
-do_once_run : run checked do_once (record { turns = (load 0 ∷ []); replies = ((record { first = []; answer = gives undef }) ∷ []) }) 40 ≡ ((called (shown_out 0) undef ((shown_prim (whole (pos 5))) ∷ []) ∷ ended undef ∷ []), finished)
+do_once_run : run checked do_once (record { turns = (load 0 ∷ []); replies = ((record { first = []; answer = gives undef }) ∷ []) }) 40 ≡ record { events = (called (shown_out 0) undef ((shown_prim (whole (pos 5))) ∷ []) ∷ ended undef ∷ []); end = finished }
 unfolding opened
 do_once_run = refl
 
-do_once_spent : run checked do_once (record { turns = (load 0 ∷ []); replies = [] }) 0 ≡ ([], stopped spent)
+do_once_spent : run checked do_once (record { turns = (load 0 ∷ []); replies = [] }) 0 ≡ record { events = []; end = stopped spent }
 unfolding opened
 do_once_spent = refl
 
@@ -272,11 +272,11 @@ do_before = record {
   docs = (no_doc ∷ []);
 }
 
-do_before_run : run checked do_before (record { turns = (load 0 ∷ []); replies = [] }) 0 ≡ ([], stopped spent)
+do_before_run : run checked do_before (record { turns = (load 0 ∷ []); replies = [] }) 0 ≡ record { events = []; end = stopped spent }
 unfolding opened
 do_before_run = refl
 
-do_before_paid : run checked do_before (record { turns = (load 0 ∷ []); replies = [] }) 1 ≡ ((put (shown_out 0) (codes "n") (shown_prim (whole (pos 1))) ∷ ended undef ∷ []), finished)
+do_before_paid : run checked do_before (record { turns = (load 0 ∷ []); replies = [] }) 1 ≡ record { events = (put (shown_out 0) (codes "n") (shown_prim (whole (pos 1))) ∷ ended undef ∷ []); end = finished }
 unfolding opened
 do_before_paid = refl
 
@@ -294,11 +294,11 @@ loop_costs = record {
   docs = (no_doc ∷ []);
 }
 
-loop_costs_run : run checked loop_costs (record { turns = (load 0 ∷ []); replies = ((record { first = []; answer = gives undef }) ∷ []) }) 4 ≡ ((called (shown_out 0) undef ((shown_prim (whole (pos 3))) ∷ []) ∷ ended undef ∷ []), finished)
+loop_costs_run : run checked loop_costs (record { turns = (load 0 ∷ []); replies = ((record { first = []; answer = gives undef }) ∷ []) }) 4 ≡ record { events = (called (shown_out 0) undef ((shown_prim (whole (pos 3))) ∷ []) ∷ ended undef ∷ []); end = finished }
 unfolding opened
 loop_costs_run = refl
 
-loop_costs_spent : run checked loop_costs (record { turns = (load 0 ∷ []); replies = ((record { first = []; answer = gives undef }) ∷ []) }) 3 ≡ ([], stopped spent)
+loop_costs_spent : run checked loop_costs (record { turns = (load 0 ∷ []); replies = ((record { first = []; answer = gives undef }) ∷ []) }) 3 ≡ record { events = []; end = stopped spent }
 unfolding opened
 loop_costs_spent = refl
 
@@ -317,11 +317,11 @@ name_costs = record {
 }
 
 -- a name that is gone costs nothing
-name_costs_run : run checked name_costs (record { turns = (load 0 ∷ []); replies = ((record { first = []; answer = gives undef }) ∷ []) }) 2 ≡ ((called (shown_out 0) undef ((stext (codes "a")) ∷ []) ∷ ended undef ∷ []), finished)
+name_costs_run : run checked name_costs (record { turns = (load 0 ∷ []); replies = ((record { first = []; answer = gives undef }) ∷ []) }) 2 ≡ record { events = (called (shown_out 0) undef ((stext (codes "a")) ∷ []) ∷ ended undef ∷ []); end = finished }
 unfolding opened
 name_costs_run = refl
 
-name_costs_spent : run checked name_costs (record { turns = (load 0 ∷ []); replies = ((record { first = []; answer = gives undef }) ∷ []) }) 1 ≡ ([], stopped spent)
+name_costs_spent : run checked name_costs (record { turns = (load 0 ∷ []); replies = ((record { first = []; answer = gives undef }) ∷ []) }) 1 ≡ record { events = []; end = stopped spent }
 unfolding opened
 name_costs_spent = refl
 
@@ -339,7 +339,7 @@ inherited_names = record {
   docs = (no_doc ∷ []);
 }
 
-inherited_names_run : run checked inherited_names (record { turns = (load 0 ∷ []); replies = ((record { first = []; answer = gives undef }) ∷ (record { first = []; answer = gives undef }) ∷ (record { first = []; answer = gives undef }) ∷ (record { first = []; answer = gives undef }) ∷ []) }) 40 ≡ ((called (shown_out 0) undef ((stext (codes "7")) ∷ []) ∷ called (shown_out 0) undef ((stext (codes "c")) ∷ []) ∷ called (shown_out 0) undef ((stext (codes "a")) ∷ []) ∷ called (shown_out 0) undef ((stext (codes "b")) ∷ []) ∷ ended undef ∷ []), finished)
+inherited_names_run : run checked inherited_names (record { turns = (load 0 ∷ []); replies = ((record { first = []; answer = gives undef }) ∷ (record { first = []; answer = gives undef }) ∷ (record { first = []; answer = gives undef }) ∷ (record { first = []; answer = gives undef }) ∷ []) }) 40 ≡ record { events = (called (shown_out 0) undef ((stext (codes "7")) ∷ []) ∷ called (shown_out 0) undef ((stext (codes "c")) ∷ []) ∷ called (shown_out 0) undef ((stext (codes "a")) ∷ []) ∷ called (shown_out 0) undef ((stext (codes "b")) ∷ []) ∷ ended undef ∷ []); end = finished }
 unfolding opened
 inherited_names_run = refl
 
@@ -357,7 +357,7 @@ array_names = record {
   docs = (no_doc ∷ []);
 }
 
-array_names_run : run checked array_names (record { turns = (load 0 ∷ []); replies = ((record { first = []; answer = gives undef }) ∷ (record { first = []; answer = gives undef }) ∷ (record { first = []; answer = gives undef }) ∷ []) }) 40 ≡ ((called (shown_out 0) undef ((stext (codes "0")) ∷ []) ∷ called (shown_out 0) undef ((stext (codes "1")) ∷ []) ∷ called (shown_out 0) undef ((stext (codes "x")) ∷ []) ∷ ended undef ∷ []), finished)
+array_names_run : run checked array_names (record { turns = (load 0 ∷ []); replies = ((record { first = []; answer = gives undef }) ∷ (record { first = []; answer = gives undef }) ∷ (record { first = []; answer = gives undef }) ∷ []) }) 40 ≡ record { events = (called (shown_out 0) undef ((stext (codes "0")) ∷ []) ∷ called (shown_out 0) undef ((stext (codes "1")) ∷ []) ∷ called (shown_out 0) undef ((stext (codes "x")) ∷ []) ∷ ended undef ∷ []); end = finished }
 unfolding opened
 array_names_run = refl
 
@@ -375,7 +375,7 @@ no_names = record {
   docs = (no_doc ∷ []);
 }
 
-no_names_run : run checked no_names (record { turns = (load 0 ∷ []); replies = ((record { first = []; answer = gives undef }) ∷ []) }) 40 ≡ ((called (shown_out 0) undef ((shown_prim (whole (pos 1))) ∷ []) ∷ []), stopped (broken 2 (at_site 1065)))
+no_names_run : run checked no_names (record { turns = (load 0 ∷ []); replies = ((record { first = []; answer = gives undef }) ∷ []) }) 40 ≡ record { events = (called (shown_out 0) undef ((shown_prim (whole (pos 1))) ∷ []) ∷ []); end = stopped (broken 2 (at_site 1065)) }
 unfolding opened
 no_names_run = refl
 
@@ -394,7 +394,7 @@ function_names_hidden = record {
   docs = (no_doc ∷ []);
 }
 
-function_names_hidden_run : run checked function_names_hidden (record { turns = (load 0 ∷ []); replies = ((record { first = []; answer = gives undef }) ∷ []) }) 40 ≡ ((called (shown_out 0) undef ((stext (codes "a")) ∷ []) ∷ ended undef ∷ []), finished)
+function_names_hidden_run : run checked function_names_hidden (record { turns = (load 0 ∷ []); replies = ((record { first = []; answer = gives undef }) ∷ []) }) 40 ≡ record { events = (called (shown_out 0) undef ((stext (codes "a")) ∷ []) ∷ ended undef ∷ []); end = finished }
 unfolding opened
 function_names_hidden_run = refl
 
@@ -412,7 +412,7 @@ standard_name = record {
   docs = (no_doc ∷ []);
 }
 
-standard_name_run : run checked standard_name (record { turns = (load 0 ∷ []); replies = [] }) 40 ≡ ([], stopped (broken 9 (at_site 1022)))
+standard_name_run : run checked standard_name (record { turns = (load 0 ∷ []); replies = [] }) 40 ≡ record { events = []; end = stopped (broken 9 (at_site 1022)) }
 unfolding opened
 standard_name_run = refl
 
@@ -432,7 +432,7 @@ bound_before = record {
   docs = (no_doc ∷ []);
 }
 
-bound_before_run : run checked bound_before (record { turns = (load 0 ∷ []); replies = ((record { first = []; answer = gives undef }) ∷ []) }) 40 ≡ ((called (shown_out 0) undef ((shown_prim (whole (pos 1))) ∷ []) ∷ ended undef ∷ []), finished)
+bound_before_run : run checked bound_before (record { turns = (load 0 ∷ []); replies = ((record { first = []; answer = gives undef }) ∷ []) }) 40 ≡ record { events = (called (shown_out 0) undef ((shown_prim (whole (pos 1))) ∷ []) ∷ ended undef ∷ []); end = finished }
 unfolding opened
 bound_before_run = refl
 
@@ -452,7 +452,7 @@ bound_in_body = record {
   docs = (no_doc ∷ []);
 }
 
-bound_in_body_run : run checked bound_in_body (record { turns = (load 0 ∷ []); replies = ((record { first = []; answer = gives undef }) ∷ []) }) 40 ≡ ((called (shown_out 0) undef ((shown_prim (whole (pos 4))) ∷ []) ∷ ended undef ∷ []), finished)
+bound_in_body_run : run checked bound_in_body (record { turns = (load 0 ∷ []); replies = ((record { first = []; answer = gives undef }) ∷ []) }) 40 ≡ record { events = (called (shown_out 0) undef ((shown_prim (whole (pos 4))) ∷ []) ∷ ended undef ∷ []); end = finished }
 unfolding opened
 bound_in_body_run = refl
 
@@ -470,6 +470,6 @@ target_each_turn = record {
   docs = (no_doc ∷ []);
 }
 
-target_each_turn_run : run checked target_each_turn (record { turns = (load 0 ∷ []); replies = ((record { first = []; answer = gives undef }) ∷ (record { first = []; answer = gives undef }) ∷ []) }) 40 ≡ ((called (shown_out 0) undef ((stext (codes "x")) ∷ []) ∷ called (shown_out 0) undef ((stext (codes "y")) ∷ []) ∷ ended undef ∷ []), finished)
+target_each_turn_run : run checked target_each_turn (record { turns = (load 0 ∷ []); replies = ((record { first = []; answer = gives undef }) ∷ (record { first = []; answer = gives undef }) ∷ []) }) 40 ≡ record { events = (called (shown_out 0) undef ((stext (codes "x")) ∷ []) ∷ called (shown_out 0) undef ((stext (codes "y")) ∷ []) ∷ ended undef ∷ []); end = finished }
 unfolding opened
 target_each_turn_run = refl

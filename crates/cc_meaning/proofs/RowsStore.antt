@@ -27,7 +27,7 @@ deletes = record {
   docs = (no_doc ∷ []);
 }
 
-deletes_run : run checked deletes (record { turns = (load 0 ∷ []); replies = ((record { first = []; answer = gives undef }) ∷ (record { first = []; answer = gives undef }) ∷ []) }) 40 ≡ ((called (shown_out 0) undef ((shown_prim (truth true)) ∷ []) ∷ called (shown_out 0) undef (undef ∷ []) ∷ []), stopped (broken 2 (at_site 1058)))
+deletes_run : run checked deletes (record { turns = (load 0 ∷ []); replies = ((record { first = []; answer = gives undef }) ∷ (record { first = []; answer = gives undef }) ∷ []) }) 40 ≡ record { events = (called (shown_out 0) undef ((shown_prim (truth true)) ∷ []) ∷ called (shown_out 0) undef (undef ∷ []) ∷ []); end = stopped (broken 2 (at_site 1058)) }
 unfolding opened
 deletes_run = refl
 
@@ -45,7 +45,7 @@ delete_under_cast = record {
   docs = (no_doc ∷ (record no_doc { value = Some (record { kinds = 1; classes = []; unknown = false; element = None }) }) ∷ []);
 }
 
-delete_under_cast_run : run checked delete_under_cast (record { turns = (load 0 ∷ []); replies = ((record { first = []; answer = gives undef }) ∷ []) }) 40 ≡ ((called (shown_out 0) undef ((shown_prim (truth false)) ∷ []) ∷ ended undef ∷ []), finished)
+delete_under_cast_run : run checked delete_under_cast (record { turns = (load 0 ∷ []); replies = ((record { first = []; answer = gives undef }) ∷ []) }) 40 ≡ record { events = (called (shown_out 0) undef ((shown_prim (truth false)) ∷ []) ∷ ended undef ∷ []); end = finished }
 unfolding opened
 delete_under_cast_run = refl
 
@@ -63,7 +63,7 @@ negative_zero = record {
   docs = (no_doc ∷ []);
 }
 
-negative_zero_run : run checked negative_zero (record { turns = (load 0 ∷ []); replies = [] }) 40 ≡ ([], stopped (broken 1 (at_site 1016)))
+negative_zero_run : run checked negative_zero (record { turns = (load 0 ∷ []); replies = [] }) 40 ≡ record { events = []; end = stopped (broken 1 (at_site 1016)) }
 unfolding opened
 negative_zero_run = refl
 
@@ -81,7 +81,7 @@ minus_zero = record {
   docs = (no_doc ∷ []);
 }
 
-minus_zero_run : run checked minus_zero (record { turns = (load 0 ∷ []); replies = [] }) 40 ≡ ([], stopped (broken 1 (at_site 1015)))
+minus_zero_run : run checked minus_zero (record { turns = (load 0 ∷ []); replies = [] }) 40 ≡ record { events = []; end = stopped (broken 1 (at_site 1015)) }
 unfolding opened
 minus_zero_run = refl
 
@@ -99,7 +99,7 @@ mixed_kinds = record {
   docs = (no_doc ∷ []);
 }
 
-mixed_kinds_run : run checked mixed_kinds (record { turns = (load 0 ∷ []); replies = [] }) 40 ≡ ([], stopped (broken 2 (at_site 1008)))
+mixed_kinds_run : run checked mixed_kinds (record { turns = (load 0 ∷ []); replies = [] }) 40 ≡ record { events = []; end = stopped (broken 2 (at_site 1008)) }
 unfolding opened
 mixed_kinds_run = refl
 
@@ -117,7 +117,7 @@ joined = record {
   docs = (no_doc ∷ []);
 }
 
-joined_run : run checked joined (record { turns = (load 0 ∷ []); replies = ((record { first = []; answer = gives undef }) ∷ []) }) 40 ≡ ((called (shown_out 0) undef ((stext (codes "anulltrueundefined1")) ∷ []) ∷ ended undef ∷ []), finished)
+joined_run : run checked joined (record { turns = (load 0 ∷ []); replies = ((record { first = []; answer = gives undef }) ∷ []) }) 40 ≡ record { events = (called (shown_out 0) undef ((stext (codes "anulltrueundefined1")) ∷ []) ∷ ended undef ∷ []); end = finished }
 unfolding opened
 joined_run = refl
 
@@ -135,7 +135,7 @@ type_of_outside = record {
   docs = (no_doc ∷ []);
 }
 
-type_of_outside_run : run checked type_of_outside (record { turns = (load 0 ∷ []); replies = [] }) 40 ≡ ([], stopped (broken 2 (at_site 1001)))
+type_of_outside_run : run checked type_of_outside (record { turns = (load 0 ∷ []); replies = [] }) 40 ≡ record { events = []; end = stopped (broken 2 (at_site 1001)) }
 unfolding opened
 type_of_outside_run = refl
 
@@ -154,7 +154,7 @@ type_of_function = record {
   docs = (no_doc ∷ []);
 }
 
-type_of_function_run : run checked type_of_function (record { turns = (load 0 ∷ []); replies = ((record { first = []; answer = gives undef }) ∷ []) }) 40 ≡ ((called (shown_out 0) undef ((stext (codes "function")) ∷ []) ∷ ended undef ∷ []), finished)
+type_of_function_run : run checked type_of_function (record { turns = (load 0 ∷ []); replies = ((record { first = []; answer = gives undef }) ∷ []) }) 40 ≡ record { events = (called (shown_out 0) undef ((stext (codes "function")) ∷ []) ∷ ended undef ∷ []); end = finished }
 unfolding opened
 type_of_function_run = refl
 
@@ -172,7 +172,7 @@ equal_objects = record {
   docs = (no_doc ∷ []);
 }
 
-equal_objects_run : run checked equal_objects (record { turns = (load 0 ∷ []); replies = ((record { first = []; answer = gives undef }) ∷ (record { first = []; answer = gives undef }) ∷ (record { first = []; answer = gives undef }) ∷ []) }) 40 ≡ ((called (shown_out 0) undef ((shown_prim (truth true)) ∷ []) ∷ called (shown_out 0) undef ((shown_prim (truth false)) ∷ []) ∷ called (shown_out 0) undef ((shown_prim (truth true)) ∷ []) ∷ []), stopped (broken 2 (at_site 1067)))
+equal_objects_run : run checked equal_objects (record { turns = (load 0 ∷ []); replies = ((record { first = []; answer = gives undef }) ∷ (record { first = []; answer = gives undef }) ∷ (record { first = []; answer = gives undef }) ∷ []) }) 40 ≡ record { events = (called (shown_out 0) undef ((shown_prim (truth true)) ∷ []) ∷ called (shown_out 0) undef ((shown_prim (truth false)) ∷ []) ∷ called (shown_out 0) undef ((shown_prim (truth true)) ∷ []) ∷ []); end = stopped (broken 2 (at_site 1067)) }
 unfolding opened
 equal_objects_run = refl
 
@@ -190,7 +190,7 @@ quoted_in_chain = record {
   docs = (no_doc ∷ []);
 }
 
-quoted_in_chain_run : run checked quoted_in_chain (record { turns = (load 0 ∷ []); replies = [] }) 40 ≡ ([], stopped (broken 7 (at_site 1049)))
+quoted_in_chain_run : run checked quoted_in_chain (record { turns = (load 0 ∷ []); replies = [] }) 40 ≡ record { events = []; end = stopped (broken 7 (at_site 1049)) }
 unfolding opened
 quoted_in_chain_run = refl
 
@@ -208,7 +208,7 @@ runtime_index = record {
   docs = (no_doc ∷ []);
 }
 
-runtime_index_run : run checked runtime_index (record { turns = (load 0 ∷ []); replies = ((record { first = []; answer = gives undef }) ∷ (record { first = []; answer = gives undef }) ∷ []) }) 40 ≡ ((called (shown_out 0) undef ((shown_prim (whole (pos 2))) ∷ []) ∷ called (shown_out 0) undef ((shown_prim (whole (pos 2))) ∷ []) ∷ ended undef ∷ []), finished)
+runtime_index_run : run checked runtime_index (record { turns = (load 0 ∷ []); replies = ((record { first = []; answer = gives undef }) ∷ (record { first = []; answer = gives undef }) ∷ []) }) 40 ≡ record { events = (called (shown_out 0) undef ((shown_prim (whole (pos 2))) ∷ []) ∷ called (shown_out 0) undef ((shown_prim (whole (pos 2))) ∷ []) ∷ ended undef ∷ []); end = finished }
 unfolding opened
 runtime_index_run = refl
 
@@ -226,7 +226,7 @@ runtime_text = record {
   docs = (no_doc ∷ []);
 }
 
-runtime_text_run : run checked runtime_text (record { turns = (load 0 ∷ []); replies = [] }) 40 ≡ ([], stopped (broken 8 (at_site 1024)))
+runtime_text_run : run checked runtime_text (record { turns = (load 0 ∷ []); replies = [] }) 40 ≡ record { events = []; end = stopped (broken 8 (at_site 1024)) }
 unfolding opened
 runtime_text_run = refl
 
@@ -244,7 +244,7 @@ number_key = record {
   docs = (no_doc ∷ []);
 }
 
-number_key_run : run checked number_key (record { turns = (load 0 ∷ []); replies = ((record { first = []; answer = gives undef }) ∷ []) }) 40 ≡ ((called (shown_out 0) undef ((shown_prim (whole (pos 2))) ∷ []) ∷ ended undef ∷ []), finished)
+number_key_run : run checked number_key (record { turns = (load 0 ∷ []); replies = ((record { first = []; answer = gives undef }) ∷ []) }) 40 ≡ record { events = (called (shown_out 0) undef ((shown_prim (whole (pos 2))) ∷ []) ∷ ended undef ∷ []); end = finished }
 unfolding opened
 number_key_run = refl
 
@@ -262,7 +262,7 @@ bad_key = record {
   docs = (no_doc ∷ []);
 }
 
-bad_key_run : run checked bad_key (record { turns = (load 0 ∷ []); replies = [] }) 40 ≡ ([], stopped (broken 2 (at_site 1011)))
+bad_key_run : run checked bad_key (record { turns = (load 0 ∷ []); replies = [] }) 40 ≡ record { events = []; end = stopped (broken 2 (at_site 1011)) }
 unfolding opened
 bad_key_run = refl
 
@@ -280,7 +280,7 @@ steps = record {
   docs = (no_doc ∷ []);
 }
 
-steps_run : run checked steps (record { turns = (load 0 ∷ []); replies = ((record { first = []; answer = gives undef }) ∷ (record { first = []; answer = gives undef }) ∷ (record { first = []; answer = gives undef }) ∷ (record { first = []; answer = gives undef }) ∷ []) }) 40 ≡ ((called (shown_out 0) undef ((shown_prim (whole (pos 1))) ∷ []) ∷ called (shown_out 0) undef ((shown_prim (whole (pos 3))) ∷ []) ∷ called (shown_out 0) undef ((shown_prim (whole (pos 3))) ∷ []) ∷ called (shown_out 0) undef ((shown_prim (whole (pos 2))) ∷ []) ∷ []), stopped (broken 2 (at_site 1062)))
+steps_run : run checked steps (record { turns = (load 0 ∷ []); replies = ((record { first = []; answer = gives undef }) ∷ (record { first = []; answer = gives undef }) ∷ (record { first = []; answer = gives undef }) ∷ (record { first = []; answer = gives undef }) ∷ []) }) 40 ≡ record { events = (called (shown_out 0) undef ((shown_prim (whole (pos 1))) ∷ []) ∷ called (shown_out 0) undef ((shown_prim (whole (pos 3))) ∷ []) ∷ called (shown_out 0) undef ((shown_prim (whole (pos 3))) ∷ []) ∷ called (shown_out 0) undef ((shown_prim (whole (pos 2))) ∷ []) ∷ []); end = stopped (broken 2 (at_site 1062)) }
 unfolding opened
 steps_run = refl
 
@@ -298,6 +298,6 @@ shifts = record {
   docs = (no_doc ∷ []);
 }
 
-shifts_run : run checked shifts (record { turns = (load 0 ∷ []); replies = ((record { first = []; answer = gives undef }) ∷ (record { first = []; answer = gives undef }) ∷ (record { first = []; answer = gives undef }) ∷ (record { first = []; answer = gives undef }) ∷ (record { first = []; answer = gives undef }) ∷ (record { first = []; answer = gives undef }) ∷ []) }) 40 ≡ ((called (shown_out 0) undef ((shown_prim (whole (negsuc 2147483647))) ∷ []) ∷ called (shown_out 0) undef ((shown_prim (whole (pos 4294967295))) ∷ []) ∷ called (shown_out 0) undef ((shown_prim (whole (negsuc 3))) ∷ []) ∷ called (shown_out 0) undef ((shown_prim (whole (pos 4))) ∷ []) ∷ called (shown_out 0) undef ((shown_prim (whole (negsuc 5))) ∷ []) ∷ called (shown_out 0) undef ((shown_prim (whole (negsuc 0))) ∷ []) ∷ []), stopped (broken 1 (at_site 1081)))
+shifts_run : run checked shifts (record { turns = (load 0 ∷ []); replies = ((record { first = []; answer = gives undef }) ∷ (record { first = []; answer = gives undef }) ∷ (record { first = []; answer = gives undef }) ∷ (record { first = []; answer = gives undef }) ∷ (record { first = []; answer = gives undef }) ∷ (record { first = []; answer = gives undef }) ∷ []) }) 40 ≡ record { events = (called (shown_out 0) undef ((shown_prim (whole (negsuc 2147483647))) ∷ []) ∷ called (shown_out 0) undef ((shown_prim (whole (pos 4294967295))) ∷ []) ∷ called (shown_out 0) undef ((shown_prim (whole (negsuc 3))) ∷ []) ∷ called (shown_out 0) undef ((shown_prim (whole (pos 4))) ∷ []) ∷ called (shown_out 0) undef ((shown_prim (whole (negsuc 5))) ∷ []) ∷ called (shown_out 0) undef ((shown_prim (whole (negsuc 0))) ∷ []) ∷ []); end = stopped (broken 1 (at_site 1081)) }
 unfolding opened
 shifts_run = refl

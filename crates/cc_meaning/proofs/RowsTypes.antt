@@ -25,7 +25,7 @@ const_unset = record {
   docs = (no_doc ∷ (record no_doc { value = None; constant = true; define = false }) ∷ []);
 }
 
-const_unset_run : run checked const_unset (record { turns = (load 0 ∷ []); replies = [] }) 40 ≡ ([], stopped (broken 11 (at_site 1021)))
+const_unset_run : run checked const_unset (record { turns = (load 0 ∷ []); replies = [] }) 40 ≡ record { events = []; end = stopped (broken 11 (at_site 1021)) }
 unfolding opened
 const_unset_run = refl
 
@@ -44,12 +44,12 @@ param_type = record {
   docs = (no_doc ∷ (record no_doc { params = (Some (record { kinds = 1; classes = []; unknown = false; element = None }) ∷ []); result = None; receiver = None; vars = [] }) ∷ []);
 }
 
-param_type_run : run checked param_type (record { turns = (load 0 ∷ []); replies = ((record { first = []; answer = gives undef }) ∷ []) }) 40 ≡ ((called (shown_out 0) undef ((shown_prim (whole (pos 1))) ∷ []) ∷ []), stopped (broken 6 (at_site 1062)))
+param_type_run : run checked param_type (record { turns = (load 0 ∷ []); replies = ((record { first = []; answer = gives undef }) ∷ []) }) 40 ≡ record { events = (called (shown_out 0) undef ((shown_prim (whole (pos 1))) ∷ []) ∷ []); end = stopped (broken 6 (at_site 1062)) }
 unfolding opened
 param_type_run = refl
 
 -- the acts of a call are judged before its cost is taken, so this ends so too where nothing is left for the second call
-acts_before_cost_run : run checked param_type (record { turns = (load 0 ∷ []); replies = ((record { first = []; answer = gives undef }) ∷ []) }) 2 ≡ ((called (shown_out 0) undef ((shown_prim (whole (pos 1))) ∷ []) ∷ []), stopped (broken 6 (at_site 1062)))
+acts_before_cost_run : run checked param_type (record { turns = (load 0 ∷ []); replies = ((record { first = []; answer = gives undef }) ∷ []) }) 2 ≡ record { events = (called (shown_out 0) undef ((shown_prim (whole (pos 1))) ∷ []) ∷ []); end = stopped (broken 6 (at_site 1062)) }
 unfolding opened
 acts_before_cost_run = refl
 
@@ -68,7 +68,7 @@ result_type = record {
   docs = (no_doc ∷ (record no_doc { params = []; result = Some (record { kinds = 1; classes = []; unknown = false; element = None }); receiver = None; vars = [] }) ∷ []);
 }
 
-result_type_run : run checked result_type (record { turns = (load 0 ∷ []); replies = [] }) 40 ≡ ([], stopped (broken 6 (at_site 1037)))
+result_type_run : run checked result_type (record { turns = (load 0 ∷ []); replies = [] }) 40 ≡ record { events = []; end = stopped (broken 6 (at_site 1037)) }
 unfolding opened
 result_type_run = refl
 
@@ -87,7 +87,7 @@ result_in_finally = record {
   docs = (no_doc ∷ (record no_doc { params = []; result = Some (record { kinds = 1; classes = []; unknown = false; element = None }); receiver = None; vars = [] }) ∷ []);
 }
 
-result_in_finally_run : run checked result_in_finally (record { turns = (load 0 ∷ []); replies = ((record { first = []; answer = gives undef }) ∷ []) }) 40 ≡ ((called (shown_out 0) undef ((shown_prim (whole (pos 1))) ∷ []) ∷ ended undef ∷ []), finished)
+result_in_finally_run : run checked result_in_finally (record { turns = (load 0 ∷ []); replies = ((record { first = []; answer = gives undef }) ∷ []) }) 40 ≡ record { events = (called (shown_out 0) undef ((shown_prim (whole (pos 1))) ∷ []) ∷ ended undef ∷ []); end = finished }
 unfolding opened
 result_in_finally_run = refl
 
@@ -105,7 +105,7 @@ variable_type = record {
   docs = (no_doc ∷ (record no_doc { value = Some (record { kinds = 2; classes = []; unknown = false; element = None }); constant = false; define = false }) ∷ []);
 }
 
-variable_type_run : run checked variable_type (record { turns = (load 0 ∷ []); replies = [] }) 40 ≡ ([], stopped (broken 6 (at_site 1039)))
+variable_type_run : run checked variable_type (record { turns = (load 0 ∷ []); replies = [] }) 40 ≡ record { events = []; end = stopped (broken 6 (at_site 1039)) }
 unfolding opened
 variable_type_run = refl
 
@@ -123,7 +123,7 @@ cast_type = record {
   docs = (no_doc ∷ (record no_doc { value = Some (record { kinds = 1; classes = []; unknown = false; element = None }) }) ∷ (record no_doc { value = Some (record { kinds = 2; classes = []; unknown = false; element = None }) }) ∷ []);
 }
 
-cast_type_run : run checked cast_type (record { turns = (load 0 ∷ []); replies = ((record { first = []; answer = gives undef }) ∷ []) }) 40 ≡ ((called (shown_out 0) undef ((shown_prim (whole (pos 1))) ∷ []) ∷ []), stopped (broken 6 (at_site 1062)))
+cast_type_run : run checked cast_type (record { turns = (load 0 ∷ []); replies = ((record { first = []; answer = gives undef }) ∷ []) }) 40 ≡ record { events = (called (shown_out 0) undef ((shown_prim (whole (pos 1))) ∷ []) ∷ []); end = stopped (broken 6 (at_site 1062)) }
 unfolding opened
 cast_type_run = refl
 
@@ -144,7 +144,7 @@ field_type = record {
   docs = (no_doc ∷ (record no_doc { value = Some (record { kinds = 1; classes = []; unknown = false; element = None }) }) ∷ (record no_doc { params = []; result = None; receiver = None; vars = [] }) ∷ []);
 }
 
-field_type_run : run checked field_type (record { turns = (load 0 ∷ []); replies = ((record { first = []; answer = gives undef }) ∷ []) }) 40 ≡ ((called (shown_out 0) undef ((shown_prim (whole (pos 2))) ∷ []) ∷ []), stopped (broken 6 (at_site 3033)))
+field_type_run : run checked field_type (record { turns = (load 0 ∷ []); replies = ((record { first = []; answer = gives undef }) ∷ []) }) 40 ≡ record { events = (called (shown_out 0) undef ((shown_prim (whole (pos 2))) ∷ []) ∷ []); end = stopped (broken 6 (at_site 3033)) }
 unfolding opened
 field_type_run = refl
 
@@ -166,7 +166,7 @@ field_of_prototype = record {
   docs = (no_doc ∷ (record no_doc { params = []; result = None; receiver = None; vars = [] }) ∷ (record no_doc { value = Some (record { kinds = 1; classes = []; unknown = false; element = None }) }) ∷ []);
 }
 
-field_of_prototype_run : run checked field_of_prototype (record { turns = (load 0 ∷ []); replies = [] }) 40 ≡ ([], stopped (broken 6 (at_site 4014)))
+field_of_prototype_run : run checked field_of_prototype (record { turns = (load 0 ∷ []); replies = [] }) 40 ≡ record { events = []; end = stopped (broken 6 (at_site 4014)) }
 unfolding opened
 field_of_prototype_run = refl
 
@@ -189,7 +189,7 @@ code_of_class = record {
   docs = (no_doc ∷ (record no_doc { params = []; result = None; receiver = None; vars = [] }) ∷ []);
 }
 
-code_of_class_run : run checked code_of_class (record { turns = (load 0 ∷ []); replies = ((record { first = []; answer = gives undef }) ∷ []) }) 40 ≡ ((called (shown_out 0) undef ((shown_prim (whole (pos 1))) ∷ []) ∷ []), stopped (broken 5 (at_site 4033)))
+code_of_class_run : run checked code_of_class (record { turns = (load 0 ∷ []); replies = ((record { first = []; answer = gives undef }) ∷ []) }) 40 ≡ record { events = (called (shown_out 0) undef ((shown_prim (whole (pos 1))) ∷ []) ∷ []); end = stopped (broken 5 (at_site 4033)) }
 unfolding opened
 code_of_class_run = refl
 
@@ -210,7 +210,7 @@ plain_call_of_class = record {
   docs = (no_doc ∷ (record no_doc { params = []; result = None; receiver = None; vars = [] }) ∷ []);
 }
 
-plain_call_of_class_run : run checked plain_call_of_class (record { turns = (load 0 ∷ []); replies = [] }) 40 ≡ ([], stopped (broken 5 (at_site 3002)))
+plain_call_of_class_run : run checked plain_call_of_class (record { turns = (load 0 ∷ []); replies = [] }) 40 ≡ record { events = []; end = stopped (broken 5 (at_site 3002)) }
 unfolding opened
 plain_call_of_class_run = refl
 
@@ -232,7 +232,7 @@ receiver_type = record {
   docs = (no_doc ∷ (record no_doc { params = []; result = None; receiver = None; vars = [] }) ∷ (record no_doc { params = []; result = None; receiver = Some (record { kinds = 0; classes = (0 ∷ []); unknown = false; element = None }); vars = [] }) ∷ []);
 }
 
-receiver_type_run : run checked receiver_type (record { turns = (load 0 ∷ []); replies = ((record { first = []; answer = gives undef }) ∷ (record { first = []; answer = gives undef }) ∷ []) }) 40 ≡ ((called (shown_out 0) undef ((shown_prim (whole (pos 1))) ∷ []) ∷ called (shown_out 0) undef ((shown_prim (whole (pos 1))) ∷ []) ∷ []), stopped (broken 5 (at_site 3080)))
+receiver_type_run : run checked receiver_type (record { turns = (load 0 ∷ []); replies = ((record { first = []; answer = gives undef }) ∷ (record { first = []; answer = gives undef }) ∷ []) }) 40 ≡ record { events = (called (shown_out 0) undef ((shown_prim (whole (pos 1))) ∷ []) ∷ called (shown_out 0) undef ((shown_prim (whole (pos 1))) ∷ []) ∷ []); end = stopped (broken 5 (at_site 3080)) }
 unfolding opened
 receiver_type_run = refl
 
@@ -250,7 +250,7 @@ pushed_element = record {
   docs = (no_doc ∷ (record no_doc { value = Some (record { kinds = 16; classes = []; unknown = false; element = Some (record { kinds = 1; classes = [] }) }); constant = false; define = false }) ∷ []);
 }
 
-pushed_element_run : run checked pushed_element (record { turns = (load 0 ∷ []); replies = ((record { first = []; answer = gives undef }) ∷ []) }) 40 ≡ ((called (shown_out 0) undef ((shown_prim (whole (pos 2))) ∷ []) ∷ []), stopped (broken 6 (at_site 1071)))
+pushed_element_run : run checked pushed_element (record { turns = (load 0 ∷ []); replies = ((record { first = []; answer = gives undef }) ∷ []) }) 40 ≡ record { events = (called (shown_out 0) undef ((shown_prim (whole (pos 2))) ∷ []) ∷ []); end = stopped (broken 6 (at_site 1071)) }
 unfolding opened
 pushed_element_run = refl
 
@@ -269,7 +269,7 @@ entered_by_param = record {
   docs = (no_doc ∷ (record no_doc { params = (Some (record { kinds = 16; classes = []; unknown = false; element = Some (record { kinds = 1; classes = [] }) }) ∷ []); result = None; receiver = None; vars = [] }) ∷ []);
 }
 
-entered_by_param_run : run checked entered_by_param (record { turns = (load 0 ∷ []); replies = [] }) 40 ≡ ([], stopped (broken 6 (at_site 1087)))
+entered_by_param_run : run checked entered_by_param (record { turns = (load 0 ∷ []); replies = [] }) 40 ≡ record { events = []; end = stopped (broken 6 (at_site 1087)) }
 unfolding opened
 entered_by_param_run = refl
 
@@ -290,7 +290,7 @@ quoted_field = record {
   docs = (no_doc ∷ (record no_doc { value = Some (record { kinds = 16; classes = []; unknown = false; element = Some (record { kinds = 1; classes = [] }) }) }) ∷ (record no_doc { params = []; result = None; receiver = None; vars = [] }) ∷ []);
 }
 
-quoted_field_run : run checked quoted_field (record { turns = (load 0 ∷ []); replies = ((record { first = []; answer = gives undef }) ∷ []) }) 40 ≡ ((called (shown_out 0) undef ((shown_prim (whole (pos 1))) ∷ []) ∷ ended undef ∷ []), finished)
+quoted_field_run : run checked quoted_field (record { turns = (load 0 ∷ []); replies = ((record { first = []; answer = gives undef }) ∷ []) }) 40 ≡ record { events = (called (shown_out 0) undef ((shown_prim (whole (pos 1))) ∷ []) ∷ ended undef ∷ []); end = finished }
 unfolding opened
 quoted_field_run = refl
 
@@ -311,7 +311,7 @@ entered_by_read = record {
   docs = (no_doc ∷ (record no_doc { value = Some (record { kinds = 16; classes = []; unknown = false; element = Some (record { kinds = 1; classes = [] }) }) }) ∷ (record no_doc { params = []; result = None; receiver = None; vars = [] }) ∷ []);
 }
 
-entered_by_read_run : run checked entered_by_read (record { turns = (load 0 ∷ []); replies = ((record { first = []; answer = gives undef }) ∷ []) }) 40 ≡ ((called (shown_out 0) undef ((shown_prim (whole (pos 1))) ∷ []) ∷ []), stopped (broken 6 (at_site 3069)))
+entered_by_read_run : run checked entered_by_read (record { turns = (load 0 ∷ []); replies = ((record { first = []; answer = gives undef }) ∷ []) }) 40 ≡ record { events = (called (shown_out 0) undef ((shown_prim (whole (pos 1))) ∷ []) ∷ []); end = stopped (broken 6 (at_site 3069)) }
 unfolding opened
 entered_by_read_run = refl
 
@@ -329,7 +329,7 @@ elements_of_type = record {
   docs = (no_doc ∷ (record no_doc { value = Some (record { kinds = 16; classes = []; unknown = false; element = Some (record { kinds = 1; classes = [] }) }); constant = false; define = false }) ∷ []);
 }
 
-elements_of_type_run : run checked elements_of_type (record { turns = (load 0 ∷ []); replies = [] }) 40 ≡ ([], stopped (broken 6 (at_site 1045)))
+elements_of_type_run : run checked elements_of_type (record { turns = (load 0 ∷ []); replies = [] }) 40 ≡ record { events = []; end = stopped (broken 6 (at_site 1045)) }
 unfolding opened
 elements_of_type_run = refl
 
@@ -348,7 +348,7 @@ path_const = record {
   docs = (no_doc ∷ (record no_doc { value = None; constant = true }) ∷ []);
 }
 
-path_const_run : run checked path_const (record { turns = (load 0 ∷ []); replies = [] }) 40 ≡ ([], stopped (broken 11 (at_site 1033)))
+path_const_run : run checked path_const (record { turns = (load 0 ∷ []); replies = [] }) 40 ≡ record { events = []; end = stopped (broken 11 (at_site 1033)) }
 unfolding opened
 path_const_run = refl
 
@@ -366,6 +366,6 @@ path_type = record {
   docs = (no_doc ∷ (record no_doc { value = Some (record { kinds = 1; classes = []; unknown = false; element = None }); constant = false }) ∷ []);
 }
 
-path_type_run : run checked path_type (record { turns = (load 0 ∷ []); replies = [] }) 40 ≡ ([], stopped (broken 6 (at_site 1034)))
+path_type_run : run checked path_type (record { turns = (load 0 ∷ []); replies = [] }) 40 ≡ record { events = []; end = stopped (broken 6 (at_site 1034)) }
 unfolding opened
 path_type_run = refl

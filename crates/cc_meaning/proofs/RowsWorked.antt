@@ -26,11 +26,11 @@ greeting = record {
   docs = (no_doc ∷ []);
 }
 
-greeting_run : run checked greeting (record { turns = (load 0 ∷ []); replies = ((record { first = []; answer = gives undef }) ∷ []) }) 40 ≡ ((called (shown_out 0) undef ((stext (codes "hi")) ∷ []) ∷ ended undef ∷ []), finished)
+greeting_run : run checked greeting (record { turns = (load 0 ∷ []); replies = ((record { first = []; answer = gives undef }) ∷ []) }) 40 ≡ record { events = (called (shown_out 0) undef ((stext (codes "hi")) ∷ []) ∷ ended undef ∷ []); end = finished }
 unfolding opened
 greeting_run = refl
 
-greeting_waits : run checked greeting (record { turns = (load 0 ∷ []); replies = [] }) 40 ≡ ((called (shown_out 0) undef ((stext (codes "hi")) ∷ []) ∷ []), stopped waits)
+greeting_waits : run checked greeting (record { turns = (load 0 ∷ []); replies = [] }) 40 ≡ record { events = (called (shown_out 0) undef ((stext (codes "hi")) ∷ []) ∷ []); end = stopped waits }
 unfolding opened
 greeting_waits = refl
 
@@ -48,7 +48,7 @@ quoted_and_dotted = record {
   docs = (no_doc ∷ []);
 }
 
-quoted_and_dotted_run : run checked quoted_and_dotted (record { turns = (load 0 ∷ []); replies = [] }) 40 ≡ ([], stopped (broken 7 (at_site 1019)))
+quoted_and_dotted_run : run checked quoted_and_dotted (record { turns = (load 0 ∷ []); replies = [] }) 40 ≡ record { events = []; end = stopped (broken 7 (at_site 1019)) }
 unfolding opened
 quoted_and_dotted_run = refl
 
@@ -67,11 +67,11 @@ exported = record {
   docs = (no_doc ∷ []);
 }
 
-exported_run : run checked exported (record { turns = (load 0 ∷ call_turn (record { callee = 0; this = undef; args = ((shown_prim (whole (pos 4))) ∷ []) }) ∷ []); replies = [] }) 40 ≡ ((put (shown_out 0) (codes "f") (handle 0) ∷ ended undef ∷ ended (shown_prim (whole (pos 5))) ∷ []), finished)
+exported_run : run checked exported (record { turns = (load 0 ∷ call_turn (record { callee = 0; this = undef; args = ((shown_prim (whole (pos 4))) ∷ []) }) ∷ []); replies = [] }) 40 ≡ record { events = (put (shown_out 0) (codes "f") (handle 0) ∷ ended undef ∷ ended (shown_prim (whole (pos 5))) ∷ []); end = finished }
 unfolding opened
 exported_run = refl
 
-exported_plain : run plain exported (record { turns = (load 0 ∷ call_turn (record { callee = 0; this = undef; args = ((shown_prim (whole (pos 4))) ∷ []) }) ∷ []); replies = [] }) 40 ≡ ((put (shown_out 0) (codes "f") (handle 0) ∷ ended undef ∷ ended (shown_prim (whole (pos 5))) ∷ []), finished)
+exported_plain : run plain exported (record { turns = (load 0 ∷ call_turn (record { callee = 0; this = undef; args = ((shown_prim (whole (pos 4))) ∷ []) }) ∷ []); replies = [] }) 40 ≡ record { events = (put (shown_out 0) (codes "f") (handle 0) ∷ ended undef ∷ ended (shown_prim (whole (pos 5))) ∷ []); end = finished }
 unfolding opened
 exported_plain = refl
 
@@ -100,7 +100,7 @@ draws = record {
   docs = (no_doc ∷ (record no_doc { params = []; result = None; receiver = None; vars = [] }) ∷ (record no_doc { params = []; result = None; receiver = None; vars = [] }) ∷ []);
 }
 
-draws_run : run checked draws (record { turns = (load 0 ∷ []); replies = ((record { first = []; answer = gives undef }) ∷ (record { first = []; answer = gives undef }) ∷ []) }) 40 ≡ ((called (shown_out 0) undef ((stext (codes "c")) ∷ []) ∷ called (shown_out 0) undef ((stext (codes "d")) ∷ []) ∷ ended undef ∷ []), finished)
+draws_run : run checked draws (record { turns = (load 0 ∷ []); replies = ((record { first = []; answer = gives undef }) ∷ (record { first = []; answer = gives undef }) ∷ []) }) 40 ≡ record { events = (called (shown_out 0) undef ((stext (codes "c")) ∷ []) ∷ called (shown_out 0) undef ((stext (codes "d")) ∷ []) ∷ ended undef ∷ []); end = finished }
 unfolding opened
 draws_run = refl
 
@@ -132,11 +132,11 @@ prototypes = record {
   docs = (no_doc ∷ (record no_doc { params = []; result = None; receiver = None; vars = [] }) ∷ (record no_doc { params = []; result = None; receiver = None; vars = [] }) ∷ (record no_doc { params = (Some (record { kinds = 0; classes = (0 ∷ []); unknown = false; element = None }) ∷ []); result = None; receiver = None; vars = [] }) ∷ []);
 }
 
-prototypes_run : run checked prototypes (record { turns = (load 0 ∷ []); replies = ((record { first = []; answer = gives undef }) ∷ []) }) 40 ≡ ((called (shown_out 0) undef ((shown_prim (whole (pos 2))) ∷ []) ∷ ended undef ∷ []), finished)
+prototypes_run : run checked prototypes (record { turns = (load 0 ∷ []); replies = ((record { first = []; answer = gives undef }) ∷ []) }) 40 ≡ record { events = (called (shown_out 0) undef ((shown_prim (whole (pos 2))) ∷ []) ∷ ended undef ∷ []); end = finished }
 unfolding opened
 prototypes_run = refl
 
-prototypes_plain : run plain prototypes (record { turns = (load 0 ∷ []); replies = ((record { first = []; answer = gives undef }) ∷ []) }) 40 ≡ ((called (shown_out 0) undef ((shown_prim (whole (pos 2))) ∷ []) ∷ ended undef ∷ []), finished)
+prototypes_plain : run plain prototypes (record { turns = (load 0 ∷ []); replies = ((record { first = []; answer = gives undef }) ∷ []) }) 40 ≡ record { events = (called (shown_out 0) undef ((shown_prim (whole (pos 2))) ∷ []) ∷ ended undef ∷ []); end = finished }
 unfolding opened
 prototypes_plain = refl
 
@@ -155,7 +155,7 @@ paths = record {
   docs = (no_doc ∷ []);
 }
 
-paths_run : run checked paths (record { turns = (load 0 ∷ []); replies = ((record { first = []; answer = gives undef }) ∷ []) }) 40 ≡ ((called (shown_out 0) undef ((shown_prim (whole (pos 1))) ∷ []) ∷ ended undef ∷ []), finished)
+paths_run : run checked paths (record { turns = (load 0 ∷ []); replies = ((record { first = []; answer = gives undef }) ∷ []) }) 40 ≡ record { events = (called (shown_out 0) undef ((shown_prim (whole (pos 1))) ∷ []) ∷ ended undef ∷ []); end = finished }
 unfolding opened
 paths_run = refl
 
@@ -179,7 +179,7 @@ static_this = record {
   docs = (no_doc ∷ (record no_doc { params = []; result = None; receiver = None; vars = [] }) ∷ []);
 }
 
-static_this_run : run checked static_this (record { turns = (load 0 ∷ []); replies = [] }) 40 ≡ ([], stopped (broken 4 (at_site 4025)))
+static_this_run : run checked static_this (record { turns = (load 0 ∷ []); replies = [] }) 40 ≡ record { events = []; end = stopped (broken 4 (at_site 4025)) }
 unfolding opened
 static_this_run = refl
 
@@ -205,7 +205,7 @@ two_chunks = record {
   docs = (no_doc ∷ []);
 }
 
-two_chunks_run : run checked two_chunks (record { turns = (load 0 ∷ load 2 ∷ []); replies = ((record { first = []; answer = gives undef }) ∷ (record { first = []; answer = gives undef }) ∷ []) }) 40 ≡ ((called (shown_out 0) undef ((shown_prim (whole (pos 0))) ∷ []) ∷ ended undef ∷ called (shown_out 0) undef ((shown_prim (whole (pos 2))) ∷ []) ∷ ended undef ∷ []), finished)
+two_chunks_run : run checked two_chunks (record { turns = (load 0 ∷ load 2 ∷ []); replies = ((record { first = []; answer = gives undef }) ∷ (record { first = []; answer = gives undef }) ∷ []) }) 40 ≡ record { events = (called (shown_out 0) undef ((shown_prim (whole (pos 0))) ∷ []) ∷ ended undef ∷ called (shown_out 0) undef ((shown_prim (whole (pos 2))) ∷ []) ∷ ended undef ∷ []); end = finished }
 unfolding opened
 two_chunks_run = refl
 
@@ -240,7 +240,7 @@ late_method = record {
   docs = (no_doc ∷ (record no_doc { params = []; result = None; receiver = None; vars = [] }) ∷ (record no_doc { value = Some (record { kinds = 0; classes = (0 ∷ []); unknown = false; element = None }); constant = false; define = false }) ∷ []);
 }
 
-late_method_run : run checked late_method (record { turns = (load 0 ∷ load 2 ∷ call_turn (record { callee = 0; this = undef; args = [] }) ∷ load 1 ∷ []); replies = ((record { first = []; answer = gives undef }) ∷ (record { first = []; answer = gives undef }) ∷ (record { first = []; answer = gives undef }) ∷ (record { first = []; answer = gives undef }) ∷ []) }) 40 ≡ ((called (shown_out 0) undef ((stext (codes "lo")) ∷ []) ∷ ended undef ∷ called (shown_out 1) undef ((handle 0) ∷ []) ∷ ended undef ∷ called (shown_out 0) undef ((stext (codes "lo")) ∷ []) ∷ ended undef ∷ called (shown_out 0) undef ((stext (codes "hi")) ∷ []) ∷ ended undef ∷ []), finished)
+late_method_run : run checked late_method (record { turns = (load 0 ∷ load 2 ∷ call_turn (record { callee = 0; this = undef; args = [] }) ∷ load 1 ∷ []); replies = ((record { first = []; answer = gives undef }) ∷ (record { first = []; answer = gives undef }) ∷ (record { first = []; answer = gives undef }) ∷ (record { first = []; answer = gives undef }) ∷ []) }) 40 ≡ record { events = (called (shown_out 0) undef ((stext (codes "lo")) ∷ []) ∷ ended undef ∷ called (shown_out 1) undef ((handle 0) ∷ []) ∷ ended undef ∷ called (shown_out 0) undef ((stext (codes "lo")) ∷ []) ∷ ended undef ∷ called (shown_out 0) undef ((stext (codes "hi")) ∷ []) ∷ ended undef ∷ []); end = finished }
 unfolding opened
 late_method_run = refl
 
@@ -260,11 +260,11 @@ finally_returns = record {
   docs = (no_doc ∷ []);
 }
 
-finally_returns_run : run checked finally_returns (record { turns = (load 0 ∷ []); replies = ((record { first = []; answer = gives undef }) ∷ []) }) 40 ≡ ((called (shown_out 0) undef ((shown_prim (whole (pos 2))) ∷ []) ∷ ended undef ∷ []), finished)
+finally_returns_run : run checked finally_returns (record { turns = (load 0 ∷ []); replies = ((record { first = []; answer = gives undef }) ∷ []) }) 40 ≡ record { events = (called (shown_out 0) undef ((shown_prim (whole (pos 2))) ∷ []) ∷ ended undef ∷ []); end = finished }
 unfolding opened
 finally_returns_run = refl
 
-finally_returns_spent : run checked finally_returns (record { turns = (load 0 ∷ []); replies = ((record { first = []; answer = gives undef }) ∷ []) }) 2 ≡ ([], stopped spent)
+finally_returns_spent : run checked finally_returns (record { turns = (load 0 ∷ []); replies = ((record { first = []; answer = gives undef }) ∷ []) }) 2 ≡ record { events = []; end = stopped spent }
 unfolding opened
 finally_returns_spent = refl
 
@@ -282,7 +282,7 @@ greatest = record {
   docs = (no_doc ∷ []);
 }
 
-greatest_run : run checked greatest (record { turns = (load 0 ∷ []); replies = ((record { first = []; answer = gives undef }) ∷ []) }) 40 ≡ ((called (shown_out 0) undef ((shown_prim (whole (pos 9007199254740991))) ∷ []) ∷ ended undef ∷ []), finished)
+greatest_run : run checked greatest (record { turns = (load 0 ∷ []); replies = ((record { first = []; answer = gives undef }) ∷ []) }) 40 ≡ record { events = (called (shown_out 0) undef ((shown_prim (whole (pos 9007199254740991))) ∷ []) ∷ ended undef ∷ []); end = finished }
 unfolding opened
 greatest_run = refl
 
@@ -300,7 +300,7 @@ past_greatest = record {
   docs = (no_doc ∷ []);
 }
 
-past_greatest_run : run checked past_greatest (record { turns = (load 0 ∷ []); replies = [] }) 40 ≡ ([], stopped (broken 1 (at_site 1023)))
+past_greatest_run : run checked past_greatest (record { turns = (load 0 ∷ []); replies = [] }) 40 ≡ record { events = []; end = stopped (broken 1 (at_site 1023)) }
 unfolding opened
 past_greatest_run = refl
 
@@ -318,11 +318,11 @@ name_order = record {
   docs = (no_doc ∷ []);
 }
 
-name_order_run : run checked name_order (record { turns = (load 0 ∷ []); replies = ((record { first = []; answer = gives undef }) ∷ (record { first = []; answer = gives undef }) ∷ (record { first = []; answer = gives undef }) ∷ []) }) 40 ≡ ((called (shown_out 0) undef ((stext (codes "1")) ∷ []) ∷ called (shown_out 0) undef ((stext (codes "2")) ∷ []) ∷ called (shown_out 0) undef ((stext (codes "b")) ∷ []) ∷ ended undef ∷ []), finished)
+name_order_run : run checked name_order (record { turns = (load 0 ∷ []); replies = ((record { first = []; answer = gives undef }) ∷ (record { first = []; answer = gives undef }) ∷ (record { first = []; answer = gives undef }) ∷ []) }) 40 ≡ record { events = (called (shown_out 0) undef ((stext (codes "1")) ∷ []) ∷ called (shown_out 0) undef ((stext (codes "2")) ∷ []) ∷ called (shown_out 0) undef ((stext (codes "b")) ∷ []) ∷ ended undef ∷ []); end = finished }
 unfolding opened
 name_order_run = refl
 
-name_order_plain : run plain name_order (record { turns = (load 0 ∷ []); replies = ((record { first = []; answer = gives undef }) ∷ (record { first = []; answer = gives undef }) ∷ (record { first = []; answer = gives undef }) ∷ []) }) 40 ≡ ((called (shown_out 0) undef ((stext (codes "1")) ∷ []) ∷ called (shown_out 0) undef ((stext (codes "2")) ∷ []) ∷ called (shown_out 0) undef ((stext (codes "b")) ∷ []) ∷ ended undef ∷ []), finished)
+name_order_plain : run plain name_order (record { turns = (load 0 ∷ []); replies = ((record { first = []; answer = gives undef }) ∷ (record { first = []; answer = gives undef }) ∷ (record { first = []; answer = gives undef }) ∷ []) }) 40 ≡ record { events = (called (shown_out 0) undef ((stext (codes "1")) ∷ []) ∷ called (shown_out 0) undef ((stext (codes "2")) ∷ []) ∷ called (shown_out 0) undef ((stext (codes "b")) ∷ []) ∷ ended undef ∷ []); end = finished }
 unfolding opened
 name_order_plain = refl
 
@@ -340,7 +340,7 @@ dotted_name = record {
   docs = (no_doc ∷ []);
 }
 
-dotted_name_run : run checked dotted_name (record { turns = (load 0 ∷ []); replies = [] }) 40 ≡ ([], stopped (broken 9 (at_site 1013)))
+dotted_name_run : run checked dotted_name (record { turns = (load 0 ∷ []); replies = [] }) 40 ≡ record { events = []; end = stopped (broken 9 (at_site 1013)) }
 unfolding opened
 dotted_name_run = refl
 
@@ -358,6 +358,6 @@ keyed = record {
   docs = (no_doc ∷ []);
 }
 
-keyed_run : run checked keyed (record { turns = (load 0 ∷ []); replies = [] }) 40 ≡ ([], stopped (broken 8 (at_site 1035)))
+keyed_run : run checked keyed (record { turns = (load 0 ∷ []); replies = [] }) 40 ≡ record { events = []; end = stopped (broken 8 (at_site 1035)) }
 unfolding opened
 keyed_run = refl

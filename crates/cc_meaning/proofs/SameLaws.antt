@@ -1,19 +1,17 @@
 -- Laws of doing the same.
 use Rattle.std.proofs.Common.{◌≡◌, refl, ◌∙◌, sym, subst, ◌⊎◌, inl, inr, IsTrue}
 use Rattle.cc_ast.specs.Syntax.{Program}
-use Rattle.cc_meaning.specs.Script.{follows, Finish}
-use Rattle.cc_meaning.specs.Values.{Event}
+use Rattle.cc_meaning.specs.Script.{follows, Run}
 use Rattle.cc_meaning.specs.Same.{IsBroken, Same}
-use Rattle.std.specs.Prelude.{List}
 
 pub reflexive : (P : Program) → Same P P
 reflexive P = record { graph = refl; runs = λ sc h n. inr refl }
 
 -- the one run breaks a rule, or the two are equal
-abbrev BrokenOrEqual : List Event × Finish → List Event × Finish → Type 0
-BrokenOrEqual x y = IsBroken x.1 ⊎ (x ≡ y)
+abbrev BrokenOrEqual : Run → Run → Type 0
+BrokenOrEqual x y = IsBroken x.end ⊎ (x ≡ y)
 
-chained : {x y z : List Event × Finish} → BrokenOrEqual x y → BrokenOrEqual y z → BrokenOrEqual x z
+chained : {x y z : Run} → BrokenOrEqual x y → BrokenOrEqual y z → BrokenOrEqual x z
 chained (inl b) k = inl b
 chained {x} {y} {z} (inr e) k = subst (λ w. BrokenOrEqual w z) (sym e) k
 

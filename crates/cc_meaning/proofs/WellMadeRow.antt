@@ -7,6 +7,8 @@ use Rattle.cc_ast.specs.declared.tree.Ref.{Ref}
 use Rattle.cc_ast.specs.declared.tables.ChunkInfo.{ChunkInfo}
 use Rattle.cc_ast.specs.declared.tables.GlobalInfo.{GlobalInfo}
 use Rattle.cc_ast.specs.declared.tables.FlatPath.{FlatPath}
+use Rattle.cc_ast.specs.declared.tables.SiteDoc.{SiteDoc}
+use Rattle.cc_ast.specs.declared.tables.TypeSet.{TypeSet}
 use Rattle.cc_meaning.specs.Operators.{is_in}
 use Rattle.cc_meaning.specs.State.{Path}
 use Rattle.cc_meaning.specs.Shapes.{tables_of}
@@ -19,7 +21,7 @@ use Rattle.cc_meaning.specs.FlatPaths.{IsCollapsible}
 use Rattle.cc_meaning.specs.WellMade as W
 use Rattle.cc_meaning.specs.WellMade.{WellMade, IsScope, IsPart, a_site, a_mention, a_declaration, a_function, IsMade, IsSound, sound_place, sound_global, sound_outer, IsDeclared, IsPlaced, placed_global, IsOwn, is_param, Holds, of_frame, Reached, Encloses, directly, further, IsOrdered, IsGlobal, IsMeant, IsCounted, IsDistinct, parts_of, all_functions}
 use Rattle.cc_meaning.proofs.Opened.{opened}
-use Rattle.cc_meaning.proofs.Trees.{exprs, stmts, fn, one_chunk, glo, loc}
+use Rattle.cc_meaning.proofs.Trees.{exprs, stmts, fn, no_doc, one_chunk, glo, loc}
 
 abbrev chunk : Scope
 chunk = fn 0 0 (fun_decl 0 (Ref.Global 4) 1 ∷ simple 0 (call 0 (glo 4) (exprs (glo 0 ∷ []))) ∷ [])
@@ -50,16 +52,16 @@ part_of_chunk x (there (there here)) = a_function 0 1 true (record { scope = inn
 part_of_chunk x (there (there (there here))) = a_site 0 (lit< tt)
 part_of_chunk x (there (there (there (there here)))) = a_site 0 (lit< tt)
 part_of_chunk x (there (there (there (there (there here))))) = a_site 0 (lit< tt)
-part_of_chunk x (there (there (there (there (there (there here)))))) = a_mention 0 (Ref.Global 4) (λ _. sound_f)
+part_of_chunk x (there (there (there (there (there (there here)))))) = a_mention 0 (Ref.Global 4) (W.numbered_global 4 (lit< tt)) (λ _. sound_f)
 part_of_chunk x (there (there (there (there (there (there (there here))))))) = a_site 0 (lit< tt)
-part_of_chunk x (there (there (there (there (there (there (there (there here)))))))) = a_mention 0 (Ref.Global 0) (λ _. sound_outer 0 _ refl refl)
+part_of_chunk x (there (there (there (there (there (there (there (there here)))))))) = a_mention 0 (Ref.Global 0) (W.numbered_global 0 (lit< tt)) (λ _. sound_outer 0 _ refl refl)
 part_of_chunk x (there (there (there (there (there (there (there (there (there h))))))))) = elim h [ ]
 
 part_of_inner : (x : Part) → In x (parts_of small 1) → IsPart small 1 x
 unfolding shut
 part_of_inner x here = a_site 0 (lit< tt)
 part_of_inner x (there here) = a_site 0 (lit< tt)
-part_of_inner x (there (there here)) = a_mention 0 (Ref.Frame 0 0) (λ _. sound_place 0 0 (of_frame 1 0 0 inner refl refl (is_param 0 (lit< tt))))
+part_of_inner x (there (there here)) = a_mention 0 (Ref.Frame 0 0) (W.numbered_place 0 0) (λ _. sound_place 0 0 (of_frame 1 0 0 inner refl refl (is_param 0 (lit< tt))))
 part_of_inner x (there (there (there h))) = elim h [ ]
 
 chunk_well : IsScope small 0 chunk
@@ -156,6 +158,22 @@ unfolding shut
 meant_global zero g e h k = let t = subst (λ t. IsTrue (is_in t.name builtin_globals)) (sym (same_some e)) k in cc
 meant_global (suc n) g e h k = omega arith
 
+-- no doc of the program has a type or a variable
+empty_doc : W.IsDoc small no_doc
+unfolding shut W.type_in W.types_in_all W.types_in
+empty_doc = record { classes = λ t a h k. none_typed t a h; vars = λ n h. none_listed n h }
+  where
+    none_typed : (t : TypeSet) (a : ℕ) → In t [] → a < 0
+    none_typed t a h = elim h [ ]
+
+    none_listed : (n : ℕ) → In n [] → n < 1
+    none_listed n h = elim h [ ]
+
+each_doc : (n : ℕ) (d : SiteDoc) → slice_get small.docs n ≡ Some d → W.IsDoc small d
+unfolding shut
+each_doc zero d e = subst (λ t. W.IsDoc small t) (same_some e) empty_doc
+each_doc (suc n) d e = cc
+
 well : WellMade small
 unfolding shut
 well = record {
@@ -169,6 +187,7 @@ well = record {
   kept = λ n h. h;
   classes = λ a c e. cc;
   set_once = set_once;
+  docs = each_doc;
   globals = ordered;
   each_global = each_global;
   paths = each_paths;

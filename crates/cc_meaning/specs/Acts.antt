@@ -1,7 +1,7 @@
 -- What a run does to the store: each act is judged, and then it happens. The two make one step.
 use Rattle.std.specs.Prelude.{ℕ, suc, Bool, true, false, not, ◌&&◌, nat_eq, nat_lt, nat_le, is_some, List, [], ◌∷◌, ◌++◌, length, slice_get, slice_set, Option, Some, None, codes}
 use Rattle.std.specs.List.{list_any}
-use Rattle.cc_ast.specs.Syntax.{Prim, undefined, truth, text}
+use Rattle.cc_ast.specs.Syntax.{Prim, undefined, truth, whole, text}
 use Rattle.cc_ast.specs.declared.operator.BinOp.{BinOp}
 use Rattle.cc_ast.specs.declared.operator.BinOp.TheVariants.{Instance, Has}
 use Rattle.cc_ast.specs.declared.operator.UnOp.{UnOp}
@@ -254,7 +254,7 @@ is_there s (prim p) n = false
 -- whether a name is on the chain (11.8.7)
 unfoldable pub probe : Mode → Spot → Val → List ℕ → M Bool
 unfolding judged reading is_there
-probe J i on n = judged J i (probes on (runtime n)) (reading (λ s. is_there s on n))
+probe J i on n = judged J i (probes on (runtime n false)) (reading (λ s. is_there s on n))
 
 unfoldable pub names_of : State → Val → List (List ℕ)
 unfolding names_on chain_of
@@ -304,14 +304,18 @@ unfolding judged reading object_type outcome_value
 operate_one J i Typeof (obj n) = judged J i (operates (unary_op Typeof) (obj n ∷ [])) (reading (λ s. prim (text (object_type (slice_get s.objs n)))))
 operate_one J i op a = judged J i (operates (unary_op op) (a ∷ [])) (ret (outcome_value (unary_of op a)))
 
-unfoldable pub key_given : Mode → Spot → Option (List ℕ) → M Access
-key_given J i None = stop (J.fault 2 i)
-key_given J i (Some t) = ret (runtime t)
+unfoldable pub is_whole : Val → Bool
+is_whole (prim (whole z)) = true
+is_whole _ = false
+
+unfoldable pub key_given : Mode → Spot → (whole : Bool) → Option (List ℕ) → M Access
+key_given J i w None = stop (J.fault 2 i)
+key_given J i w (Some t) = ret (runtime t w)
 
 -- the key that a value between brackets is (11.2.1)
 unfoldable pub runtime_key : Mode → Spot → Val → M Access
-unfolding key_given
-runtime_key J i v = key_given J i (key_text v)
+unfolding key_given is_whole
+runtime_key J i v = key_given J i (is_whole v) (key_text v)
 
 -- a cast
 unfoldable pub cast_to : Mode → Spot → (doc : ℕ) → Val → M (Unit {0})

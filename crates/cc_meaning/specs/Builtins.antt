@@ -214,17 +214,6 @@ unfoldable pub array_length : List Val → Outcome
 unfolding number
 array_length es = number (pos (length es))
 
--- `a[i]` of a whole number from 0: the element, or undefined
-unfoldable pub array_read : List Val → ℤ → Outcome
-unfolding or_undefined
-array_read es (pos n) = gives (or_undefined (slice_get es n))
-array_read es (negsuc n) = breaks 2
-
--- `a[i]=v` of a whole number up to the length: an element is written or appended
-unfoldable pub array_write : List Val → ℤ → Val → Option (List Val)
-array_write es (pos n) v = if nat_lt n (length es) then Some (slice_set es n v) else (if nat_eq n (length es) then Some (es ++ v ∷ []) else None)
-array_write es (negsuc n) v = None
-
 -- the text of an element in `join`: undefined and null have none (15.4.4.5)
 unfoldable pub element_text : Val → Option (List ℕ)
 unfolding prim_text

@@ -9,8 +9,9 @@ use Rattle.cc_meaning.specs.Names.{name_length, name_create, name_fromCharCode}
 use Rattle.cc_meaning.specs.Builtins.{ArrayAnswer, answers, answers_array, TextUse, text_method, MathUse, math_method}
 use Rattle.cc_meaning.specs.State.{Kind, Code, Obj, Env, Inner, Answer, gives, throws, State}
 use Rattle.cc_meaning.specs.Monad.{told, M, ret, skip, raise, stop, say, ◌>>=◌, Way, went, thrown, attempt, pay, with_tables, pick, Mode}
-use Rattle.cc_meaning.specs.Store.{Access, runtime, name_of, kind_by, Built, object_global, math_global, string_global, Use, of_text, of_math, string_of_value, from_codes, create_object, Found, found_value, found_use, nothing_found, look_up, own_value, change}
+use Rattle.cc_meaning.specs.Store.{Access, dotted, quoted, runtime, name_of, kind_by, Built, object_global, math_global, string_global, Use, of_text, of_math, string_of_value, from_codes, create_object, Found, found_value, found_use, nothing_found, look_up, own_value, change}
 use Rattle.cc_meaning.specs.Typed.{flat, params_in, result_in, function_doc}
+use Rattle.cc_meaning.specs.SlotRules.{is_code_of}
 use Rattle.cc_meaning.specs.Rules.{built_op, is_prim}
 use Rattle.cc_meaning.specs.Judge.{operates, reads, writes, probes, calls, enters, leaves, takes, calls_inner, answers_with}
 use Rattle.cc_meaning.specs.Built.{BuiltOutcome, built_value, built_change, built_object, built_question, built_call, built_breaks, outcome_of}
@@ -109,10 +110,6 @@ unfoldable pub prim_member : Prim → List ℕ → Val
 unfolding list_eq
 prim_member (text t) n = pick (list_eq n name_length) (prim (whole (pos (length t)))) (prim undefined)
 prim_member _ n = prim undefined
-
-unfoldable pub is_code_of : Option Code → ℕ → Bool
-is_code_of None f = false
-is_code_of (Some c) f = nat_eq c.function f
 
 -- whether a write to this object is made by the declaration of its prototype
 unfoldable pub declares_on : State → List ℕ → Val → Bool
@@ -270,7 +267,7 @@ module _ (J : Mode) where
   perform B i (built_value v) = ret v
   perform B i (built_change n new c) = changing (change n (λ o. record o { elements = Some c.elements })) >>= λ _. array_answer c.answer
   perform B i (built_object p) = make_from p
-  perform B i (built_question n t) = judged J i (probes (obj n) (runtime t)) (reading (λ s. prim (truth (is_some (own_value (slice_get s.objs n) t)))))
+  perform B i (built_question n t) = judged J i (probes (obj n) (runtime t false)) (reading (λ s. prim (truth (is_some (own_value (slice_get s.objs n) t)))))
   perform B i (built_call n v vs) = call_object B i n (Some v) vs
   perform B i (built_breaks r) = stop (J.fault r i)
 
@@ -286,10 +283,19 @@ module _ (J : Mode) where
   read_method r [] = skip
   read_method r (c ∷ cs) = judged J (at_site r.site) (reads r.on r.key) skip
 
+  -- one that a value between brackets names is reached past the slots of the chain, as in a read
+  unfoldable pub reach_method : Spot → Val → Access → M (Unit {0})
+  unfolding judged
+  reach_method i (obj o) (runtime t w) = judged J i (probes (obj o) (runtime t w)) skip
+  reach_method i (obj o) (quoted t) = skip
+  reach_method i (obj o) (dotted p) = skip
+  reach_method i (out n) a = skip
+  reach_method i (prim p) a = skip
+
   unfoldable pub callee_by : Bodies → Reference → Option Use → M Callee
-  unfolding get receiver_of read_method
+  unfolding get receiver_of reach_method read_method
   callee_by B r None = get B r >>= λ v. ret (called_value v (receiver_of r))
-  callee_by B r (Some u) = read_method r r.casts >>= λ _. ret (called_use u (r.on ∷ []))
+  callee_by B r (Some u) = reach_method (at_site r.site) r.on r.key >>= λ _. read_method r r.casts >>= λ _. ret (called_use u (r.on ∷ []))
 
   unfoldable pub member_callee : ℕ → Option Use → M Callee
   member_callee i None = stop (J.fault 2 (at_site i))

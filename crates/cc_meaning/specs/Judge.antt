@@ -2,7 +2,8 @@
 -- that it breaks is told.
 --
 --   1   every number made is whole, within 2^53-1 either way, and not negative zero
---   2   operands are of the kinds in the operator and the built-in table
+--   2   operands are of the kinds in the operator and the built-in table; a whole number as the key of an
+--       array is an index
 --   3   the engine itself raises nothing (a callee that isn't set, a read of a global whose chunk
 --       isn't loaded)
 --   4   `this` is read only where there is a receiver; a plain call gives none, a call through a
@@ -15,11 +16,14 @@
 --   8   no dotted unkept access on a chain with a keyed slot, no runtime text as key on a chain with
 --       an unkept dotted slot; an outside object counts as a chain with a keyed slot
 --   9   `for-in` meets no unkept dotted slot and no standard name
---   10  a function's text, `name` and `length` aren't read; a standard name is read only where an
---       object of the chain has a slot of that name; a built-in method is only called
+--   10  a function's text, `name` and `length` aren't read, and these, `caller` and `arguments` are
+--       written nowhere where the chain has a function; a standard name of objects and functions is
+--       read only where an object of the chain has a slot of that name, and one of arrays also where
+--       the chain has no array; a built-in method is only called
 --   11  a variable marked `@const` or `@define` is read only after it is set
 --   12  a constructor's prototype is set only by its declaration statement, before any `new` and
---       while the old prototype has no slot, and its chain is that of `@extends`
+--       while the old prototype has no slot and stands on no chain, and its own chain is that of the
+--       present prototypes along `@extends`
 --   13  the host uses, in turns, inner calls and answers, only handles given out and names as in 8,
 --       and loads no chunk of which a dependency threw
 --

@@ -188,12 +188,24 @@ name_caller = codes "caller"
 abbrev pub name_arguments : List ℕ
 name_arguments = codes "arguments"
 
--- those of arrays and of texts, and all of them
+-- those that an engine keeps as a function has them, whatever is written (15.3.5)
+unfoldable pub unwritten_names : List (List ℕ)
+unwritten_names = name_name ∷ name_length ∷ name_caller ∷ name_arguments ∷ []
+
+unfoldable pub common_names : List (List ℕ)
+common_names = name_constructor ∷ name_toString ∷ name_toLocaleString ∷ name_valueOf ∷ name_isPrototypeOf ∷ name_propertyIsEnumerable ∷ name_proto ∷ name_apply ∷ name_bind ∷ name_caller ∷ name_arguments ∷ []
+
+-- of arrays
+unfoldable pub standard_array_names : List (List ℕ)
+standard_array_names = codes "sort" ∷ codes "reverse" ∷ codes "splice" ∷ codes "forEach" ∷ codes "map" ∷ codes "filter" ∷ codes "reduce" ∷ codes "reduceRight" ∷ codes "some" ∷ codes "every" ∷ name_lastIndexOf ∷ []
+
+-- of texts
+unfoldable pub standard_text_names : List (List ℕ)
+standard_text_names = codes "split" ∷ codes "replace" ∷ codes "match" ∷ codes "search" ∷ codes "toLowerCase" ∷ codes "toUpperCase" ∷ codes "trim" ∷ codes "localeCompare" ∷ []
+
 unfoldable pub standard_names : List (List ℕ)
-standard_names =
-    name_constructor ∷ name_toString ∷ name_toLocaleString ∷ name_valueOf ∷ name_isPrototypeOf ∷ name_propertyIsEnumerable ∷ name_proto ∷ name_apply ∷ name_bind ∷ name_caller ∷ name_arguments
-    ∷ codes "sort" ∷ codes "reverse" ∷ codes "splice" ∷ codes "forEach" ∷ codes "map" ∷ codes "filter" ∷ codes "reduce" ∷ codes "reduceRight" ∷ codes "some" ∷ codes "every" ∷ name_lastIndexOf
-    ∷ codes "split" ∷ codes "replace" ∷ codes "match" ∷ codes "search" ∷ codes "toLowerCase" ∷ codes "toUpperCase" ∷ codes "trim" ∷ codes "localeCompare" ∷ []
+unfolding common_names standard_array_names standard_text_names
+standard_names = common_names ++ standard_array_names ++ standard_text_names
 
 -- the names that every program keeps
 unfoldable pub always_kept : List (List ℕ)

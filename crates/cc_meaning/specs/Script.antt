@@ -151,19 +151,24 @@ pub data Finish : Type 0 where
   finished : Finish
   stopped : End → Finish
 
-unfoldable pub finish : Res (Unit {0}) → List Event × Finish
+-- the events that a run tells, in order, and how it ends
+pub record Run : Type 0 where
+  pub events : List Event
+  pub end : Finish
+
+unfoldable pub finish : Res (Unit {0}) → Run
 unfolding seen
-finish (ok u a s) = (seen u, finished)
-finish (threw u v s) = (seen u, finished)
-finish (over u e) = (seen u, stopped e)
+finish (ok u a s) = record { events = seen u; end = finished }
+finish (threw u v s) = record { events = seen u; end = finished }
+finish (over u e) = record { events = seen u; end = stopped e }
 
 -- a depth of calls that is the budget's suffices, since each call costs 1
 unfoldable pub raw : Mode → Program → Script → ℕ → Res (Unit {0})
 unfolding turns_from bodies start
 raw J P sc n = turns_from J P (bodies J P n) 0 sc.turns (start J P sc.replies n)
 
--- the events of a program under a script and a budget, and how the run ends
-unfoldable pub run : Mode → Program → Script → ℕ → List Event × Finish
+-- the run of a program under a script and a budget
+unfoldable pub run : Mode → Program → Script → ℕ → Run
 unfolding raw finish
 run J P sc n = finish (raw J P sc n)
 

@@ -1,15 +1,18 @@
 -- What a run reads off the trees before it runs them: sites, paths, and statements of a known shape.
-use Rattle.std.specs.Prelude.{ℕ, Bool, true, false, ◌&&◌, List, [], ◌∷◌, ◌++◌, map, slice_get, Option, Some, None, is_some}
+use Rattle.std.specs.Prelude.{ℕ, Bool, true, false, ◌&&◌, List, [], ◌∷◌, ◌++◌, map, slice_get, Option, Some, None}
+use Rattle.std.specs.List.{filter, list_any}
 use Rattle.cc_ast.specs.Syntax.{Prim, text, Expr, lit, var, this, fun, list, object, unary, binary, and, or, cond, assign, step, member, index, call, new, comma, cast, tick, Target, to_var, to_member, to_index, Exprs, no_exprs, more_exprs, Fields, no_fields, more_fields, Declarator, Stmt, simple, vars, fun_decl, Stmts, no_stmts, more_stmts, Scope, Program}
 use Rattle.cc_ast.specs.declared.tree.Ref.{Ref}
 use Rattle.cc_ast.specs.declared.tree.Key.{Key}
 use Rattle.cc_ast.specs.declared.tables.ChunkInfo.{ChunkInfo}
+use Rattle.cc_ast.specs.declared.tables.Class.{Class}
 use Rattle.cc_ast.specs.declared.tables.GlobalInfo.{GlobalInfo}
 use Rattle.cc_meaning.specs.Operators.{list_eq}
 use Rattle.cc_meaning.specs.Names.{name_prototype, name_create}
 use Rattle.cc_meaning.specs.State.{Head, Path, Tables}
 use Rattle.cc_meaning.specs.Monad.{pick}
-use Rattle.cc_meaning.specs.Store.{Access, dotted, quoted, name_of, Global, extern, built_in, of_chunk, object_global, math_global, string_global, global_kind, set_to}
+use Rattle.cc_meaning.specs.Store.{Access, dotted, quoted, name_of, Global, extern, built_in, of_chunk, object_global, math_global, string_global, global_kind, set_to, is_number, class_of_function}
+use Rattle.cc_meaning.specs.SlotRules.{extended, function_in}
 
 -- ---- sites
 
@@ -74,7 +77,8 @@ unfolding longer
 path_of_key w (Key.Dotted p) = longer w p
 path_of_key w (Key.Quoted t) = None
 
--- ---- the declaration of a prototype: `F.prototype=Object.create(G.prototype)`
+-- ---- the declaration of a prototype: `F.prototype=Object.create(G.prototype)`, where G is the path that
+-- is set to the function of the class that F extends
 
 unfoldable pub is_object_global : Global → Bool
 is_object_global (built_in object_global) = true
@@ -97,20 +101,22 @@ unfolding is_named names_object path_of
 is_create T (member i e p) = is_named T p name_create && names_object T (path_of e)
 is_create T _ = false
 
-unfoldable pub is_prototype : Tables → Expr → Bool
+-- the path G of `G.prototype`
+unfoldable pub prototype_path : Tables → Expr → Option Path
 unfolding is_named path_of
-is_prototype T (member i e p) = is_named T p name_prototype && is_some (path_of e)
-is_prototype T _ = false
+prototype_path T (member i e p) = pick (is_named T p name_prototype) (path_of e) None
+prototype_path T _ = None
 
-unfoldable pub is_prototype_alone : Tables → Exprs → Bool
-unfolding is_prototype
-is_prototype_alone T (more_exprs e no_exprs) = is_prototype T e
-is_prototype_alone T _ = false
+unfoldable pub prototype_path_alone : Tables → Exprs → Option Path
+unfolding prototype_path
+prototype_path_alone T (more_exprs e no_exprs) = prototype_path T e
+prototype_path_alone T _ = None
 
-unfoldable pub creates : Tables → Expr → Bool
-unfolding is_create is_prototype_alone
-creates T (call i f es) = is_create T f && is_prototype_alone T es
-creates T _ = false
+-- the path G of `Object.create(G.prototype)`
+unfoldable pub created_from : Tables → Expr → Option Path
+unfolding is_create prototype_path_alone
+created_from T (call i f es) = pick (is_create T f) (prototype_path_alone T es) None
+created_from T _ = None
 
 unfoldable pub set_by : Tables → Option Path → List ℕ
 unfolding set_to
@@ -123,9 +129,23 @@ unfolding is_named set_by path_of
 prototype_target T (to_member i e p) = pick (is_named T p name_prototype) (set_by T (path_of e)) []
 prototype_target T _ = []
 
+unfoldable pub class_at : Tables → Option ℕ → Option Class
+class_at T None = None
+class_at T (Some c) = slice_get T.classes c
+
+-- the function of the class that the class of this function extends
+unfoldable pub extended_function : Tables → ℕ → Option ℕ
+unfolding function_in class_at extended class_of_function
+extended_function T f = function_in (class_at T (extended (class_at T (class_of_function T f))))
+
+-- the function that the class of f extends is one of these
+unfoldable pub extends_one : Tables → List ℕ → ℕ → Bool
+unfolding is_number extended_function
+extends_one T gs f = list_any (λ g. is_number (extended_function T f) g) gs
+
 unfoldable pub declared_in : Tables → Expr → List ℕ
-unfolding creates prototype_target
-declared_in T (assign i None t e) = pick (creates T e) (prototype_target T t) []
+unfolding extends_one set_by created_from prototype_target
+declared_in T (assign i None t e) = filter (extends_one T (set_by T (created_from T e))) (prototype_target T t)
 declared_in T _ = []
 
 -- the functions whose prototype a statement declares

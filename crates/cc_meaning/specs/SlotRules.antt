@@ -6,7 +6,7 @@ use Rattle.cc_ast.specs.declared.tables.Class.{Class}
 use Rattle.cc_ast.specs.declared.tables.TypeSet.{TypeSet}
 use Rattle.cc_meaning.specs.Values.{Val, prim, obj, out}
 use Rattle.cc_meaning.specs.Operators.{list_eq, is_in}
-use Rattle.cc_meaning.specs.Names.{is_index, index_value, standard_names, function_names, name_length, name_prototype, name_proto}
+use Rattle.cc_meaning.specs.Names.{is_index, index_value, standard_names, common_names, standard_array_names, function_names, unwritten_names, name_length, name_prototype, name_proto}
 use Rattle.cc_meaning.specs.Builtins.{text_method}
 use Rattle.cc_meaning.specs.State.{Kind, kept_kind, indexed_kind, dotted_kind, quoted_kind, keyed_kind, Slot, Code, Obj, Tables, State}
 use Rattle.cc_meaning.specs.Monad.{pick}
@@ -52,7 +52,7 @@ unfoldable pub slot_rule : Tables → Access → List ℕ → Kind → List ℕ 
 unfolding dotted_rule is_dotted rule_if is_kept is_index list_eq
 slot_rule T (dotted p) n k m = pick (is_kept T n) None (dotted_rule n k m)
 slot_rule T (quoted t) n k m = rule_if (is_dotted k && list_eq m n) 7
-slot_rule T (runtime t) n k m = pick (is_index n) None (rule_if (is_dotted k) 8)
+slot_rule T (runtime t w) n k m = pick (is_index n) None (rule_if (is_dotted k) 8)
 
 unfoldable pub slots_rule : Tables → Access → List ℕ → List Slot → Option ℕ
 unfolding slot_rule least
@@ -82,12 +82,28 @@ unfolding is_function own_value
 meets_function os [] n = false
 meets_function os (c ∷ cs) n = is_function (slice_get os c) || (is_none (own_value (slice_get os c) n) && meets_function os cs n)
 
--- what a look-up that doesn't come to a slot breaks
-unfoldable pub unfound_rule : List ℕ → Found → Option ℕ
-unfolding rule_if is_in standard_names
-unfound_rule n (found_value v) = None
-unfound_rule n (found_use u) = Some 10
-unfound_rule n nothing_found = rule_if (is_in n standard_names) 10
+-- an object of the chain is a function, or an array
+unfoldable pub has_function : List Obj → List ℕ → Bool
+unfolding is_function
+has_function os [] = false
+has_function os (c ∷ cs) = is_function (slice_get os c) || has_function os cs
+
+unfoldable pub has_array : List Obj → List ℕ → Bool
+unfolding elements_in
+has_array os [] = false
+has_array os (c ∷ cs) = is_some (elements_in (slice_get os c)) || has_array os cs
+
+-- what a look-up on a chain that doesn't come to a slot breaks
+unfoldable pub unfound_rule : List Obj → List ℕ → List ℕ → Found → Option ℕ
+unfolding rule_if is_in common_names standard_array_names has_array
+unfound_rule os c n (found_value v) = None
+unfound_rule os c n (found_use u) = Some 10
+unfound_rule os c n nothing_found = rule_if (is_in n common_names || (is_in n standard_array_names && has_array os c)) 10
+
+-- a write that an engine doesn't carry out
+unfoldable pub unwritten_rule : List Obj → ℕ → List ℕ → Option ℕ
+unfolding rule_if is_in unwritten_names has_function chain_of
+unwritten_rule os o n = rule_if (is_in n unwritten_names && has_function os (chain_of os o)) 10
 
 unfoldable pub function_rule : List Obj → ℕ → List ℕ → Option ℕ
 unfolding rule_if is_in function_names meets_function chain_of
@@ -98,7 +114,7 @@ function_rule os o n = rule_if (is_in n function_names && meets_function os (cha
 unfoldable pub is_dot : Access → Bool
 is_dot (dotted p) = true
 is_dot (quoted t) = false
-is_dot (runtime t) = false
+is_dot (runtime t w) = false
 
 -- the types of the field that an access by this key reaches
 unfoldable pub fields_reached : Tables → List Obj → ℕ → Access → List TypeSet
@@ -109,14 +125,25 @@ unfoldable pub field_rule : Tables → State → ℕ → Access → List ℕ →
 unfolding is_kept rule_unless of_all_types fields_reached
 field_rule T s o a n r v = rule_unless ((is_some r && not (is_kept T n)) || of_all_types T s.objs (fields_reached T s.objs o a) v) 6
 
+-- ---- 2, at arrays: a whole number as a key that is no index
+
+unfoldable pub whole_key_rule : Option (List Val) → Access → Option ℕ
+unfolding rule_if is_index
+whole_key_rule None a = None
+whole_key_rule (Some vs) (dotted p) = None
+whole_key_rule (Some vs) (quoted t) = None
+whole_key_rule (Some vs) (runtime t w) = rule_if (w && not (is_index t)) 2
+
 -- ---- Read
 
 unfoldable pub object_read : Tables → State → ℕ → Access → List ℕ → Option ℕ
-unfolding slots_rule slots_on chain_of least field_rule value_found look_up function_rule unfound_rule
+unfolding slots_rule slots_on slots_in chain_of least whole_key_rule elements_in field_rule value_found look_up function_rule unfound_rule
 object_read T s o a n =
     let broken = slots_rule T a n (slots_on s.objs (chain_of s.objs o)) in
     let found = look_up s.objs o n in
-    least (field_rule T s o a n broken (value_found found)) (least broken (least (function_rule s.objs o n) (unfound_rule n found)))
+    least (whole_key_rule (elements_in (slice_get s.objs o)) a)
+    (least (field_rule T s o a n broken (value_found found))
+    (least broken (least (function_rule s.objs o n) (unfound_rule s.objs (chain_of s.objs o) n found))))
 
 -- what a text has: its length, and its methods, which are only called (15.5)
 unfoldable pub text_read : List ℕ → Option ℕ
@@ -158,10 +185,10 @@ unfolding find_slot
 prototype_of_function None = None
 prototype_of_function (Some o) = pick (is_some o.code) (find_slot o.slots name_prototype) None
 
--- this object is the prototype of a function object with this number
-unfoldable pub has_function : Option Code → ℕ → Bool
-has_function None f = false
-has_function (Some c) f = nat_eq c.function f
+-- the code of a function object with this number
+unfoldable pub is_code_of : Option Code → ℕ → Bool
+is_code_of None f = false
+is_code_of (Some c) f = nat_eq c.function f
 
 unfoldable pub is_object : Option Val → ℕ → Bool
 is_object (Some (obj m)) n = nat_eq m n
@@ -169,10 +196,11 @@ is_object (Some (out m)) n = false
 is_object (Some (prim p)) n = false
 is_object None n = false
 
+-- this object is the prototype of a function object with this number
 unfoldable pub is_prototype_of : List Obj → (function n : ℕ) → Bool
-unfolding has_function is_object find_slot
+unfolding is_code_of is_object find_slot
 is_prototype_of [] f n = false
-is_prototype_of (o ∷ os) f n = (has_function o.code f && is_object (find_slot o.slots name_prototype) n) || is_prototype_of os f n
+is_prototype_of (o ∷ os) f n = (is_code_of o.code f && is_object (find_slot o.slots name_prototype) n) || is_prototype_of os f n
 
 unfoldable pub extended : Option Class → Option ℕ
 extended None = None
@@ -182,22 +210,20 @@ unfoldable pub function_in : Option Class → Option ℕ
 function_in None = None
 function_in (Some c) = c.function
 
--- a chain begins with the prototype of this function
-unfoldable pub begins_with : List Obj → Option ℕ → List ℕ → Bool
+-- an extern class has no function
+unfoldable pub is_prototype_of_class : List Obj → Option ℕ → ℕ → Bool
 unfolding is_prototype_of
-begins_with os None c = false
-begins_with os (Some f) [] = false
-begins_with os (Some f) (p ∷ ps) = is_prototype_of os f p
+is_prototype_of_class os None n = false
+is_prototype_of_class os (Some f) n = is_prototype_of os f n
 
-unfoldable pub empty : List ℕ → Bool
-empty [] = true
-empty (p ∷ ps) = false
-
--- the chain of a new prototype is that of the class that is extended, or empty where there is none
+-- the chain of a new prototype has the present prototypes of the class that is extended, of the one
+-- that this extends, and so on
 unfoldable pub fits_extended : Tables → List Obj → Option ℕ → List ℕ → Bool
-unfolding empty begins_with function_in
-fits_extended T os None c = empty c
-fits_extended T os (Some d) c = begins_with os (function_in (slice_get T.classes d)) c
+unfolding is_prototype_of_class function_in extended
+fits_extended T os None [] = true
+fits_extended T os None (p ∷ ps) = false
+fits_extended T os (Some d) [] = false
+fits_extended T os (Some d) (p ∷ ps) = is_prototype_of_class os (function_in (slice_get T.classes d)) p && fits_extended T os (extended (slice_get T.classes d)) ps
 
 unfoldable pub fits_class : Tables → List Obj → ℕ → Val → Bool
 unfolding fits_extended extended chain_in
@@ -216,11 +242,18 @@ without_slots os (Some (out n)) = false
 without_slots os (Some (prim p)) = false
 without_slots os None = false
 
+-- no object has this one on its chain
+unfoldable pub is_off_chains : List Obj → Option Val → Bool
+is_off_chains os (Some (obj n)) = not (list_any (λ o. list_any (λ m. nat_eq m n) o.chain) os)
+is_off_chains os (Some (out n)) = true
+is_off_chains os (Some (prim p)) = true
+is_off_chains os None = true
+
 -- a write of the prototype of a function of this class
 unfoldable pub declares_well : Tables → State → Option Obj → Option ℕ → Val → Bool → Bool
-unfolding fits_class without_slots prototype_of_function
+unfolding fits_class without_slots is_off_chains prototype_of_function
 declares_well T s o None v declares = false
-declares_well T s o (Some c) v declares = declares && not (list_any (λ d. nat_eq d c) s.constructed) && without_slots s.objs (prototype_of_function o) && fits_class T s.objs c v
+declares_well T s o (Some c) v declares = declares && not (list_any (λ d. nat_eq d c) s.constructed) && without_slots s.objs (prototype_of_function o) && is_off_chains s.objs (prototype_of_function o) && fits_class T s.objs c v
 
 unfoldable pub code_rule : Tables → State → Obj → Option Code → List ℕ → Val → Bool → Option ℕ
 unfolding list_eq rule_unless declares_well class_of_function
@@ -233,13 +266,14 @@ prototype_rule T s None n v declares = None
 prototype_rule T s (Some o) n v declares = code_rule T s o o.code n v declares
 
 unfoldable pub object_write : Tables → State → ℕ → Access → List ℕ → Val → Bool → Option ℕ
-unfolding slots_rule slots_in least field_rule array_write_rule elements_in index_value element_rule prototype_rule
+unfolding slots_rule slots_in least field_rule whole_key_rule array_write_rule elements_in index_value element_rule unwritten_rule prototype_rule
 object_write T s o a n v declares =
     let broken = slots_rule T a n (slots_in (slice_get s.objs o)) in
-    least (array_write_rule (elements_in (slice_get s.objs o)) n (index_value n))
+    least (whole_key_rule (elements_in (slice_get s.objs o)) a)
+    (least (array_write_rule (elements_in (slice_get s.objs o)) n (index_value n))
     (least (element_rule T s.objs (slice_get s.objs o) (index_value n) v)
     (least (field_rule T s o a n broken v)
-    (least broken (prototype_rule T s (slice_get s.objs o) n v declares))))
+    (least broken (least (unwritten_rule s.objs o n) (prototype_rule T s (slice_get s.objs o) n v declares))))))
 
 -- `__proto__` may not be written
 unfoldable pub write_rule : Tables → State → Val → Access → Val → Bool → Option ℕ

@@ -16,11 +16,11 @@ use Rattle.cc_meaning.specs.Monad.{pick}
 -- ---- names
 
 -- the key of an access: a property's number after a dot, a text that was written in quotes, or the
--- text of a value
+-- text of a value, with whether the value was a whole number
 pub data Access : Type 0 where
   dotted : ℕ → Access
   quoted : List ℕ → Access
-  runtime : List ℕ → Access
+  runtime : List ℕ → (whole : Bool) → Access
 
 unfoldable pub prop_name : Option PropInfo → List ℕ
 prop_name None = []
@@ -30,7 +30,7 @@ unfoldable pub name_of : Tables → Access → List ℕ
 unfolding prop_name
 name_of T (dotted p) = prop_name (slice_get T.props p)
 name_of T (quoted t) = t
-name_of T (runtime t) = t
+name_of T (runtime t w) = t
 
 unfoldable pub is_kept : Tables → List ℕ → Bool
 unfolding is_in
@@ -40,7 +40,7 @@ is_kept T n = is_in n T.kept
 unfoldable pub kind_by : Access → Kind
 kind_by (dotted p) = dotted_kind
 kind_by (quoted t) = quoted_kind
-kind_by (runtime t) = keyed_kind
+kind_by (runtime t w) = keyed_kind
 
 -- the kind of a slot with this name, where it is neither kept nor an index
 unfoldable pub kind_for : Tables → List ℕ → Kind → Kind

@@ -7,6 +7,9 @@ use Rattle.cc_ast.specs.declared.tables.GlobalInfo.{GlobalInfo}
 use Rattle.cc_ast.specs.declared.tables.FlatPath.{FlatPath}
 use Rattle.cc_ast.specs.declared.tables.PropInfo.{PropInfo}
 use Rattle.cc_ast.specs.declared.tables.Class.{Class}
+use Rattle.cc_ast.specs.declared.tables.Element.{Element}
+use Rattle.cc_ast.specs.declared.tables.TypeSet.{TypeSet}
+use Rattle.cc_ast.specs.declared.tables.SiteDoc.{SiteDoc}
 use Rattle.cc_meaning.specs.Operators.{is_in}
 use Rattle.cc_meaning.specs.Names.{is_index, builtin_globals, always_kept}
 use Rattle.cc_meaning.specs.Types.{Ancestor, parents}
@@ -168,6 +171,11 @@ pub data IsSound (P : Program) (f c : ℕ) : Ref → Type 0 where
   sound_global : (n d : ℕ) → global_kind (tables_of P) n ≡ of_chunk d → IsDeclared P n d → IsSound P f c (Ref.Global n)
   sound_outer : (n : ℕ) (g : GlobalInfo) → slice_get P.globals n ≡ Some g → g.chunk ≡ None → IsSound P f c (Ref.Global n)
 
+-- a global that is mentioned is one of the program, also in a scope that isn't reached
+pub data IsNumbered (P : Program) : Ref → Type 0 where
+  numbered_place : (u n : ℕ) → IsNumbered P (Ref.Frame u n)
+  numbered_global : (n : ℕ) → n < length P.globals → IsNumbered P (Ref.Global n)
+
 -- a declared variable is a global of the chunks in a chunk's own statements, and elsewhere a place
 -- in the frame of the function in whose own statements it stands
 pub data IsPlaced (P : Program) (f c : ℕ) : Ref → Type 0 where
@@ -190,7 +198,7 @@ pub data IsPart (P : Program) (f : ℕ) : Part → Type 0 where
   a_site : (i : ℕ) → i < length P.places → IsPart P f (has_site i)
   a_prop : (p : ℕ) → p < length P.props → IsPart P f (uses_prop p)
   a_doc : (d : ℕ) → d < length P.docs → IsPart P f (uses_doc d)
-  a_mention : (c : ℕ) (r : Ref) → (Reached P f → IsSound P f c r) → IsPart P f (mentions c r)
+  a_mention : (c : ℕ) (r : Ref) → IsNumbered P r → (Reached P f → IsSound P f c r) → IsPart P f (mentions c r)
   a_declaration : (c : ℕ) (r : Ref) → IsPlaced P f c r → (Reached P f → IsSound P f c r) → IsPart P f (declares c r)
   a_function : (c g : ℕ) (d : Bool) → IsMade P f g d → IsPart P f (makes c g d)
   a_method : (w : Path) (p g : ℕ) → HasMethod P w p g → IsPart P f (sets_method w p g)
@@ -226,6 +234,33 @@ pub data Encloses (P : Program) : ℕ → ℕ → Type 0 where
 pub record IsProp (P : Program) (p : PropInfo) : Type 0 where
   pub no_index : IsFalse (is_index p.name)
   pub kept : p.kept ≡ is_in p.name P.kept
+
+unfoldable pub type_in : Option TypeSet → List TypeSet
+type_in None = []
+type_in (Some t) = t ∷ []
+
+unfoldable pub types_in_all : List (Option TypeSet) → List TypeSet
+unfolding type_in
+types_in_all [] = []
+types_in_all (t ∷ ts) = type_in t ++ types_in_all ts
+
+-- the types of which a doc speaks
+unfoldable pub types_in : SiteDoc → List TypeSet
+unfolding type_in types_in_all
+types_in d = types_in_all d.params ++ type_in d.result ++ type_in d.value ++ type_in d.receiver
+
+unfoldable pub element_classes : Option Element → List ℕ
+element_classes None = []
+element_classes (Some e) = e.classes
+
+-- the classes of a type, with those of its element type
+unfoldable pub classes_in : TypeSet → List ℕ
+unfolding element_classes
+classes_in t = t.classes ++ element_classes t.element
+
+pub record IsDoc (P : Program) (d : SiteDoc) : Type 0 where
+  pub classes : (t : TypeSet) (a : ℕ) → In t (types_in d) → In a (classes_in t) → a < length P.classes
+  pub vars : (n : ℕ) → In n d.vars → n < length P.docs
 
 pub record IsClass (P : Program) (a : ℕ) (c : Class) : Type 0 where
   pub function : (f : ℕ) → c.function ≡ Some f → f < length P.scopes
@@ -293,6 +328,7 @@ pub record WellMade (P : Program) : Type 0 where
   pub kept : (n : List ℕ) → In n always_kept → In n P.kept
   pub classes : (a : ℕ) (c : Class) → slice_get P.classes a ≡ Some c → IsClass P a c
   pub set_once : (i j : ℕ) (w v : Path) (f c : ℕ) → slice_get (tables_of P).set i ≡ Some (w, f) → slice_get (tables_of P).set j ≡ Some (v, f) → class_of_function (tables_of P) f ≡ Some c → i ≡ j
+  pub docs : (n : ℕ) (d : SiteDoc) → slice_get P.docs n ≡ Some d → IsDoc P d
   pub globals : IsOrdered P
   pub each_global : (n : ℕ) (g : GlobalInfo) → slice_get P.globals n ≡ Some g → IsGlobal P g
   pub paths : (n : ℕ) (g : GlobalInfo) → slice_get P.globals n ≡ Some g → ArePaths P n g.flat

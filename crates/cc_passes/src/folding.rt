@@ -3,8 +3,8 @@ ghost use Rattle.std.specs.Prelude.{◌≡◌};
 ghost use Rattle.cc_passes.specs.Codes.{are_same};
 ghost use Rattle.cc_passes.specs.Phases as phases;
 
-use cc_ast::copy::copy_program;
 use cc_ast::program::{Heads, Program, Scope};
+use cc_core::programs::heads_of;
 use cc_core::rules::Rules;
 use cc_equal::scope::same_scopes;
 use cc_fold::built::Plan;
@@ -17,27 +17,6 @@ const MOST_ROUNDS: u32 = 12;
 /// round, counted from 0.
 #[derive(Drop)]
 pub struct Folding;
-
-fn heads_of(program: Program) -> Heads
-    ensures { result ≡ record { globals = program.globals; props = program.props; classes = program.classes; docs = program.docs } }
-{
-    let Program {
-        scopes: _,
-        chunks: _,
-        globals,
-        props,
-        kept: _,
-        classes,
-        places: _,
-        docs,
-    } = program;
-    Heads {
-        globals,
-        props,
-        classes,
-        docs,
-    }
-}
 
 /// Whether a round changed nothing.
 fn is_unchanged(before: &Program, after: &Program) -> bool
@@ -75,8 +54,9 @@ impl Rules for Folding {
     }
 
     fn heads(&self, alloc: Global, plan: &Plan, base: &Program) -> Result<Heads, AllocError> {
+        let _ = alloc;
         let _ = plan;
-        Ok(heads_of(copy_program(alloc, base)?))
+        heads_of(base)
     }
 
     fn rewrite(

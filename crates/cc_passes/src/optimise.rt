@@ -1,7 +1,7 @@
 // A program put through the phases by one worker.
-ghost use Rattle.std.specs.Prelude.{◌≡◌, ◌+◌, ◌<◌, ◌^◌, IfOk, is_some};
+ghost use Rattle.std.specs.Prelude.{◌≡◌, ◌+◌, ◌<◌, ◌^◌, IfOk, OnOk, is_some};
 ghost use Rattle.cc_core.specs.Events.{after_close};
-ghost use Rattle.cc_core.specs.State.{NoneOut};
+ghost use Rattle.cc_core.specs.State.{NoneOut, started, reading};
 ghost use Rattle.cc_core.specs.Work.{phase};
 ghost use Rattle.cc_meaning.specs.WellMade.{WellMade};
 ghost use Rattle.cc_passes.specs.Phases.{folding, optimised};
@@ -14,18 +14,32 @@ use cc_core::shop::Shop;
 use std::alloc::{AllocError, Global};
 
 /// Makes every rewrite of the phase that is at work, closes it, and says whether another follows.
-fn finish_phase(shop: Shop<Folding>) -> Result<(Shop<Folding>, bool), AllocError>
-    requires none_out { NoneOut shop.state.slots }
-    requires few { shop.state.closed + 1 < 2 ^ 32 }
-    ensures closed { IfOk result (λ r. r.0.state ≡ after_close folding shop.state) }
-    ensures follows { IfOk result (λ r. r.1 ≡ is_some (folding.next shop.state.step shop.state.base (phase folding shop.state.step shop.state.base))) }
+fn finish_phase(shop: &mut Shop<Folding>) -> Result<bool, AllocError>
+    requires none_out { NoneOut shop.old.state.slots }
+    requires few { shop.old.state.closed + 1 < 2 ^ 32 }
+    ensures closed { OnOk result (shop.new.state ≡ after_close folding shop.old.state) }
+    ensures follows { IfOk result (λ follows. follows ≡ is_some (folding.next shop.old.state.step shop.old.state.base (phase folding shop.old.state.step shop.old.state.base))) }
 {
-    let mut shop = work_alone(shop)?;
+    work_alone(shop)?;
     match shop.close() {
-        Ok(follows) => Ok((shop, follows)),
+        Ok(follows) => Ok(follows),
         // Every slot is done, so no more than memory can be wanting.
         Err(_) => Err(AllocError),
     }
+}
+
+/// Makes all phases of a program that is at its first step.
+fn finish_all(shop: &mut Shop<Folding>) -> Result<(), AllocError>
+    requires { shop.old.state ≡ started shop.old.state.source }
+    ensures { OnOk result (reading folding shop.new.state ≡ optimised shop.old.state.source) }
+{
+    for _round in 0..12_u32 {
+        let follows = finish_phase(shop)?;
+        if !follows {
+            return Ok(());
+        }
+    }
+    Ok(())
 }
 
 /// The program after the phases.
@@ -34,13 +48,11 @@ pub fn optimise(alloc: Global, program: Program) -> Result<Program, AllocError>
     requires no_paths { HasNoPaths program }
     ensures { IfOk result (λ p. p ≡ optimised program) }
 {
-    let mut shop = Shop::begin(alloc, Folding, program)?;
-    for _round in 0..12_u32 {
-        let (next, follows) = finish_phase(shop)?;
-        if !follows {
-            return Ok(next.take());
-        }
-        shop = next;
-    }
+    let Ok(mut shop) = Shop::begin(alloc, Folding, program) else {
+        return Err(AllocError);
+    };
+    let Ok(()) = finish_all(&mut shop) else {
+        return Err(AllocError);
+    };
     Ok(shop.take())
 }

@@ -34,8 +34,7 @@ pub enum RawExpr {
     Text(Place, Units),
     Var(Place, Units),
     This(Place),
-    /// A function expression: its own name where it has one, its parameters and its body.
-    Fun(Place, Option<Named>, Items<Named>, Items<RawStmt>),
+    Fun(Place, Boxed<RawFunction>),
     List(Place, Items<RawExpr>),
     Object(Place, Items<RawField>),
     Unary(Place, UnOp, Boxed<RawExpr>),
@@ -58,6 +57,15 @@ pub enum RawExpr {
     Cast(Place, Boxed<RawExpr>),
 }
 
+/// A function expression: its own name where it has one, its parameters and its body.
+#[cycle(raw)]
+#[derive(Drop)]
+pub struct RawFunction {
+    pub own: Option<Named>,
+    pub params: Items<Named>,
+    pub body: Items<RawStmt>,
+}
+
 /// What an assignment, a step or a `for-in` writes: a variable or an access.
 #[cycle(raw)]
 #[derive(Drop)]
@@ -73,7 +81,7 @@ pub enum RawTarget {
 pub struct RawField {
     pub place: Place,
     pub key: RawKey,
-    pub value: RawExpr,
+    pub value: Boxed<RawExpr>,
 }
 
 /// A variable of a `var` statement, with its initial value where it has one (ECMA-262 5.1, 12.2).
@@ -81,7 +89,7 @@ pub struct RawField {
 #[derive(Drop)]
 pub struct RawDeclarator {
     pub variable: Named,
-    pub value: Option<RawExpr>,
+    pub value: Option<Boxed<RawExpr>>,
 }
 
 /// What a `for` begins with.
@@ -89,7 +97,7 @@ pub struct RawDeclarator {
 #[derive(Drop)]
 pub enum RawInit {
     Nothing,
-    Value(RawExpr),
+    Value(Boxed<RawExpr>),
     Declarators(Items<RawDeclarator>),
 }
 
@@ -97,15 +105,24 @@ pub enum RawInit {
 #[cycle(raw)]
 #[derive(Drop)]
 pub enum RawForTarget {
-    Target(RawTarget),
-    Declared(RawDeclarator),
+    Target(Boxed<RawTarget>),
+    Declared(Boxed<RawDeclarator>),
+}
+
+/// What stands in the parentheses of a `for`: the beginning, the test and the step.
+#[cycle(raw)]
+#[derive(Drop)]
+pub struct RawForHead {
+    pub init: RawInit,
+    pub test: Option<Boxed<RawExpr>>,
+    pub step: Option<Boxed<RawExpr>>,
 }
 
 /// A clause of a `switch`: its test, none for `default`, and its statements.
 #[cycle(raw)]
 #[derive(Drop)]
 pub struct RawCase {
-    pub test: Option<RawExpr>,
+    pub test: Option<Boxed<RawExpr>>,
     pub body: Items<RawStmt>,
 }
 
@@ -117,29 +134,43 @@ pub struct RawCatch {
     pub body: Items<RawStmt>,
 }
 
+/// What stands behind the body of a `try`: the `catch`, and the body of `finally`.
+#[cycle(raw)]
+#[derive(Drop)]
+pub struct RawHandlers {
+    pub catch: Option<RawCatch>,
+    pub finally: Option<Items<RawStmt>>,
+}
+
+/// A function declaration: its name, its parameters and its body.
+#[cycle(raw)]
+#[derive(Drop)]
+pub struct RawDeclaration {
+    pub name: Named,
+    pub params: Items<Named>,
+    pub body: Items<RawStmt>,
+}
+
 /// A statement (ECMA-262 5.1, 12 and 13). The first field of each variant is its place. A body is a
 /// list: a block inside a list is spliced into it, and an empty statement is nothing.
 #[cycle(raw)]
 #[derive(Drop)]
 pub enum RawStmt {
-    Simple(Place, RawExpr),
+    Simple(Place, Boxed<RawExpr>),
     Vars(Place, Items<RawDeclarator>),
-    /// A function declaration: its name, its parameters and its body.
-    FunDecl(Place, Named, Items<Named>, Items<RawStmt>),
-    If(Place, RawExpr, Items<RawStmt>, Items<RawStmt>),
-    While(Place, RawExpr, Items<RawStmt>),
-    DoWhile(Place, Items<RawStmt>, RawExpr),
-    /// The beginning, the test, the step and the body.
-    For(Place, RawInit, Option<RawExpr>, Option<RawExpr>, Items<RawStmt>),
-    ForIn(Place, RawForTarget, RawExpr, Items<RawStmt>),
-    Return(Place, Option<RawExpr>),
-    Throw(Place, RawExpr),
+    FunDecl(Place, Boxed<RawDeclaration>),
+    If(Place, Boxed<RawExpr>, Items<RawStmt>, Items<RawStmt>),
+    While(Place, Boxed<RawExpr>, Items<RawStmt>),
+    DoWhile(Place, Items<RawStmt>, Boxed<RawExpr>),
+    For(Place, Boxed<RawForHead>, Items<RawStmt>),
+    ForIn(Place, RawForTarget, Boxed<RawExpr>, Items<RawStmt>),
+    Return(Place, Option<Boxed<RawExpr>>),
+    Throw(Place, Boxed<RawExpr>),
     Break(Place, Option<Units>),
     Continue(Place, Option<Units>),
     Label(Place, Units, Items<RawStmt>),
-    Switch(Place, RawExpr, Items<RawCase>),
-    /// The body, the `catch`, and the body of `finally`.
-    Try(Place, Items<RawStmt>, Option<RawCatch>, Option<Items<RawStmt>>),
+    Switch(Place, Boxed<RawExpr>, Items<RawCase>),
+    Try(Place, Items<RawStmt>, Boxed<RawHandlers>),
 }
 
 /// An annotation comment: its place, that of the next token that is no comment, and its whole text.

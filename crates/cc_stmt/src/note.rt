@@ -5,7 +5,7 @@ ghost use Rattle.cc_grammar.specs.Symbols.{nowhere};
 ghost use Rattle.cc_stmt.specs.Notes as spec;
 
 use crate::tree::Note;
-use cc_ast::copy::table::CopyOf;
+use cc_ast::copy::CopyOf;
 use cc_ast::place::Place;
 use cc_ast::units::Units;
 use cc_lexer::token::{Token, TokenKind};

@@ -3,12 +3,12 @@ use Rattle.std.proofs.Common.{◌≡◌, ◌⊎◌, inl, inr, ℕ, zero, suc, �
 use Rattle.std.specs.Prelude.{slice_get, nat_lt}
 use Rattle.cc_ast.specs.Syntax.{Program}
 use Rattle.cc_ast.specs.declared.tables.GlobalInfo.{GlobalInfo}
-use Rattle.cc_meaning.specs.Values.{Val, Event}
+use Rattle.cc_meaning.specs.Values.{Val}
 use Rattle.cc_meaning.specs.State.{Tables}
 use Rattle.cc_meaning.specs.Monad.{Res, pick}
 use Rattle.cc_meaning.specs.Store.{extern, built_in, of_chunk, chunk_in, outer_global, global_by, global_kind, without_chunk, built_number}
 use Rattle.cc_meaning.specs.Shapes.{tables_of}
-use Rattle.cc_meaning.specs.Script.{Script, IsFollowing, follows, Finish, finish, start, run, plain}
+use Rattle.cc_meaning.specs.Script.{Script, IsFollowing, follows, Finish, Run, finish, start, run, plain}
 use Rattle.cc_meaning.specs.Same.{IsBroken, IsStrayed, is_strayed, IsSettled, IsFollowedBy}
 use Rattle.cc_meaning.specs.Alike.{Alike}
 use Rattle.cc_tied.specs.Tied.{nil_t}
@@ -66,7 +66,7 @@ module _ (P Q : Program) (al : Alike P Q) (sc : Script) where
     replies = refl;
   }
 
-  ends : {w : World (alike P Q al)} {r r' : Res (Unit {0})} → ResT (alike P Q al) (λ v a b. Unit {0}) w r r' → ((finish r).0 ≡ (finish r').0) × EndsAlike (finish r).1 (finish r').1
+  ends : {w : World (alike P Q al)} {r r' : Res (Unit {0})} → ResT (alike P Q al) (λ v a b. Unit {0}) w r r' → ((finish r).events ≡ (finish r').events) × EndsAlike (finish r).end (finish r').end
   unfolding finish
   ends (ok_t d v l st h t le le') = (d, same_finish)
   ends (threw_t d v l st h t le le') = (d, same_finish)
@@ -77,7 +77,7 @@ module _ (P Q : Program) (al : Alike P Q) (sc : Script) where
   ends (over_t d waits_a) = (d, same_finish)
   ends (over_t d stray_a) = (d, both_strayed)
 
-  runs : IsFollowing P sc → (n : ℕ) → ((run plain P sc n).0 ≡ (run plain Q sc n).0) × EndsAlike (run plain P sc n).1 (run plain Q sc n).1
+  runs : IsFollowing P sc → (n : ℕ) → ((run plain P sc n).events ≡ (run plain Q sc n).events) × EndsAlike (run plain P sc n).end (run plain Q sc n).end
   unfolding run
   runs f n = ends (raw_tied (alike P Q al) (upkeep P Q al) P Q (record { bodies = programs P Q al; chunks = chunks P Q al }) sc f n n [] (starts n))
 
@@ -86,8 +86,8 @@ alike_runs P Q al sc f n = runs P Q al sc f n
 
 -- ---- from one program to what is alike
 
-abbrev Seen : Type 0
-Seen = List Event × Finish
+run_same : {x y : Run} → x.events ≡ y.events → x.end ≡ y.end → x ≡ y
+run_same e d = λ i. record { events = e i; end = d i }
 
 settled_same : {x y : Finish} → EndsAlike x y → IsSettled x → x ≡ y
 settled_same same_finish q = refl
@@ -97,23 +97,23 @@ settled_back : {x y : Finish} → EndsAlike x y → IsSettled y → x ≡ y
 settled_back same_finish q = refl
 settled_back both_strayed q = elim q [ ]
 
-followed_on : {x y z : Seen} → IsFollowedBy x y → y.0 ≡ z.0 → EndsAlike y.1 z.1 → IsFollowedBy x z
+followed_on : {x y z : Run} → IsFollowedBy x y → y.events ≡ z.events → EndsAlike y.end z.end → IsFollowedBy x z
 followed_on {x = x} {y = y} {z = z} h e f = record {
   events = (h.events.0, sym e ∙ h.events.1);
-  settled = λ q. let d : x ≡ y = h.settled q in let k : y.1 ≡ z.1 = settled_same f (subst (λ u. IsSettled u.1) d q) in d ∙ (λ i. (e i, k i));
+  settled = λ q. let d : x ≡ y = h.settled q in let k : y.end ≡ z.end = settled_same f (subst (λ u. IsSettled u.end) d q) in d ∙ run_same e k;
 }
 
-before_followed : {x y z : Seen} → IsFollowedBy y x → y.0 ≡ z.0 → EndsAlike y.1 z.1 → IsFollowedBy z x
+before_followed : {x y z : Run} → IsFollowedBy y x → y.events ≡ z.events → EndsAlike y.end z.end → IsFollowedBy z x
 before_followed {x = x} {y = y} {z = z} h e f = record {
   events = (h.events.0, h.events.1 ∙ ap (λ u. u ++ h.events.0) e);
-  settled = λ q. let k : y.1 ≡ z.1 = settled_back f q in let d : z ≡ y = (λ i. (sym e i, sym k i)) in d ∙ h.settled (subst IsSettled (sym k) q);
+  settled = λ q. let k : y.end ≡ z.end = settled_back f q in let d : z ≡ y = run_same (sym e) (sym k) in d ∙ h.settled (subst IsSettled (sym k) q);
 }
 
 stray_on : {x y : Finish} → EndsAlike x y → IsStrayed y → IsStrayed x
 stray_on same_finish q = q
 stray_on both_strayed q = is_strayed
 
-or_followed : {a b c : Seen} → IsBroken a.1 ⊎ IsFollowedBy a b → b.0 ≡ c.0 → EndsAlike b.1 c.1 → IsBroken a.1 ⊎ IsFollowedBy a c
+or_followed : {a b c : Run} → IsBroken a.end ⊎ IsFollowedBy a b → b.events ≡ c.events → EndsAlike b.end c.end → IsBroken a.end ⊎ IsFollowedBy a c
 or_followed (inl x) e f = inl x
 or_followed (inr h) e f = inr (followed_on h e f)
 

@@ -1,5 +1,5 @@
 -- Expressions, statements and lists of alike programs keep the tie of their plain runs.
-use Rattle.std.proofs.Common.{◌≡◌, ℕ, suc, pos, negsuc, List, [], ◌∷◌, Option, Some, None, refl, sym, ap, subst, ◌∙◌}
+use Rattle.std.proofs.Common.{◌≡◌, ℕ, suc, pos, negsuc, false, List, [], ◌∷◌, Option, Some, None, refl, sym, ap, subst, ◌∙◌}
 use Rattle.std.specs.Prelude.{IsTrue}
 use Rattle.cc_ast.specs.Syntax.{Prim, undefined, whole, text, Expr, lit, unary, member, index, call, cast, tick, Target, to_index, Exprs, Fields, Program}
 use Rattle.cc_ast.specs.declared.operator.BinOp.{BinOp}
@@ -12,7 +12,7 @@ use Rattle.cc_meaning.specs.Operators.{is_exact, key_text}
 use Rattle.cc_meaning.specs.State.{Env, Path, State, Tables}
 use Rattle.cc_meaning.specs.Monad.{passed, seen, M, Res, ok, ret, say, said, after, ◌>>=◌}
 use Rattle.cc_meaning.specs.Store.{Access, dotted, quoted, runtime, name_of, flat_of}
-use Rattle.cc_meaning.specs.Acts.{runtime_key, key_given}
+use Rattle.cc_meaning.specs.Acts.{is_whole, runtime_key, key_given}
 use Rattle.cc_meaning.specs.Shapes.{tables_of, plain_tables, longer, path_of, path_of_key, literal_text, literal_key}
 use Rattle.cc_meaning.specs.Calls.{Bodies, Reach, plain, access, built_global, built_member, value, cast_reach, apply_unary, member_use}
 use Rattle.cc_meaning.specs.Meaning.{Place, slot_place, key_by, ev}
@@ -28,7 +28,8 @@ use Rattle.cc_tied.proofs.Expressions as E
 use Rattle.cc_tied.proofs.Sim.{Tie, World, Later, now, later, ResT, ok_t, ahead_t, Sim, said_t, sim_as, sim_bind, sim_ret, sim_fault}
 use Rattle.cc_tied.proofs.Equal.{Eq, same_val}
 use Rattle.cc_tied.proofs.AlikeFrames.{EnvA}
-use Rattle.cc_tied.proofs.AlikeTie.{KeyN, alike, silent_skip, left_silent, right_silent}
+use Rattle.cc_tied.proofs.Fatal.{whole_key}
+use Rattle.cc_tied.proofs.AlikeTie.{KeyN, key_of_texts, alike, silent_skip, left_silent, right_silent}
 use Rattle.cc_tied.proofs.AlikeUpkeep.{alike_kit}
 use Rattle.cc_tied.proofs.AlikeReach as R
 
@@ -90,7 +91,8 @@ module _ (P Q : Program) (al : Alike P Q) where
   plain_name H a = refl
 
   prop_key : {p q : ℕ} → A.PropA S S' N p q → KeyN P Q al (dotted p) (dotted q)
-  prop_key {p = p} {q = q} h = record { same = plain_name P (dotted p) ∙ h ∙ sym (plain_name Q (dotted q)) }
+  unfolding whole_key
+  prop_key {p = p} {q = q} h = key_of_texts P Q al (plain_name P (dotted p) ∙ h ∙ sym (plain_name Q (dotted q))) refl refl
 
   -- a text that is written between brackets is the value there
   abbrev Written : Expr → Val → Type 0
@@ -107,17 +109,17 @@ module _ (P Q : Program) (al : Alike P Q) where
   written_right B g k h = sim_as T (λ u l x y q. (q, λ t e. absurd (cc))) h
 
   -- keys between brackets, of equal values
-  given_key : {w : W} (i i' : Spot) (o : Option (List ℕ)) → Sim T (λ v. KeyN P Q al) w (key_given Sc.plain i o) (key_given Sc.plain i' o)
+  given_key : {w : W} (i i' : Spot) (x : Val) (o : Option (List ℕ)) → key_text x ≡ o → Sim T (λ v. KeyN P Q al) w (key_given Sc.plain i (is_whole x) o) (key_given Sc.plain i' (is_whole x) o)
   unfolding key_given
-  given_key i i' None = sim_fault T tt 2
-  given_key i i' (Some t) = sim_ret T (runtime t) (runtime t) (Rattle.cc_tied.proofs.AlikeTie.runtime_same P Q al t)
+  given_key i i' x None e = sim_fault T tt 2
+  given_key i i' x (Some t) e = sim_ret T (runtime t (is_whole x)) (runtime t (is_whole x)) (Rattle.cc_tied.proofs.AlikeTie.runtime_same P Q al x e)
 
   keys_c : {w : W} (i i' : ℕ) (o o' : Option (List ℕ)) (x y : Val) → x ≡ y → ((t : List ℕ) → o ≡ Some t → x ≡ prim (text t)) → ((t : List ℕ) → o' ≡ Some t → y ≡ prim (text t)) → Sim T (λ v. KeyN P Q al) w (key_by Sc.plain i o x) (key_by Sc.plain i' o' y)
-  unfolding key_by runtime_key key_given key_text name_of
-  keys_c {w = w} i i' None None x y e h k = subst (λ z. Sim T (λ v. KeyN P Q al) w (key_given Sc.plain (at_site i) (key_text x)) (key_given Sc.plain (at_site i') (key_text z))) e (given_key (at_site i) (at_site i') (key_text x))
-  keys_c {w = w} i i' (Some t) None x y e h k = subst (λ z. Sim T (λ v. KeyN P Q al) w (ret (quoted t)) (key_given Sc.plain (at_site i') (key_text z))) (sym (h t refl) ∙ e) (sim_ret T (quoted t) (runtime t) (record { same = refl }))
-  keys_c {w = w} i i' None (Some t) x y e h k = subst (λ z. Sim T (λ v. KeyN P Q al) w (key_given Sc.plain (at_site i) (key_text z)) (ret (quoted t))) (sym (e ∙ k t refl)) (sim_ret T (runtime t) (quoted t) (record { same = refl }))
-  keys_c i i' (Some t) (Some u) x y e h k = let d : prim (text t) ≡ prim (text u) = sym (h t refl) ∙ e ∙ k u refl in sim_ret T (quoted t) (quoted u) (record { same = cc })
+  unfolding key_by runtime_key key_given is_whole key_text name_of whole_key
+  keys_c {w = w} i i' None None x y e h k = subst (λ z. Sim T (λ v. KeyN P Q al) w (key_given Sc.plain (at_site i) (is_whole x) (key_text x)) (key_given Sc.plain (at_site i') (is_whole z) (key_text z))) e (given_key (at_site i) (at_site i') x (key_text x) refl)
+  keys_c {w = w} i i' (Some t) None x y e h k = subst (λ z. Sim T (λ v. KeyN P Q al) w (ret (quoted t)) (key_given Sc.plain (at_site i') (is_whole z) (key_text z))) (sym (h t refl) ∙ e) (sim_ret T (quoted t) (runtime t false) (key_of_texts P Q al refl refl refl))
+  keys_c {w = w} i i' None (Some t) x y e h k = subst (λ z. Sim T (λ v. KeyN P Q al) w (key_given Sc.plain (at_site i) (is_whole z) (key_text z)) (ret (quoted t))) (sym (e ∙ k t refl)) (sim_ret T (runtime t false) (quoted t) (key_of_texts P Q al refl refl refl))
+  keys_c i i' (Some t) (Some u) x y e h k = let d : prim (text t) ≡ prim (text u) = sym (h t refl) ∙ e ∙ k u refl in sim_ret T (quoted t) (quoted u) (key_of_texts P Q al (cc) refl refl)
 
   module _ (X : Below K) where
     open X use {B, B', w}

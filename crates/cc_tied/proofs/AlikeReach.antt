@@ -22,6 +22,7 @@ use Rattle.cc_meaning.specs.Acts.{judged, operate_one, outcome_value, cast_to}
 use Rattle.cc_meaning.specs.Shapes.{tables_of, without_paths, plain_tables}
 use Rattle.cc_meaning.specs.Calls.{Bodies, Reference, Reach, plain, access, built_global, built_member, called_value, called_use, take_path, cast_all, get, value_of, value, delete_at, apply_unary, read_method, receiver_of, receiver_by, callee_by, callee_of, method_on, text_use_of, member_use}
 use Rattle.cc_meaning.specs.Meaning.{reach_member, ev}
+use Rattle.cc_meaning.specs.Typed.{elements_in}
 use Rattle.cc_meaning.specs.Script as Sc
 use Rattle.cc_meaning.specs.Alike.{Alike}
 use Rattle.cc_tied.specs.Tied.{OptT, none_t, some_t, ValT, CalleeT, plain_t, access_t, global_t, member_t, value_t, use_t, cons_t, nil_t}
@@ -33,7 +34,8 @@ use Rattle.cc_tied.proofs.Calls.{rel_get_on, rel_callee_of}
 use Rattle.cc_tied.proofs.Expressions as E
 use Rattle.cc_tied.proofs.Sim.{Tie, World, Later, later, ResT, Sim, fine, sim_bind, sim_ret, sim_tables, sim_fault}
 use Rattle.cc_tied.proofs.Equal.{Eq, same_val}
-use Rattle.cc_tied.proofs.Fatal.{stops, decide, judged_plain, stops_low, is_low, high_read, high_outside}
+use Rattle.cc_tied.proofs.Fatal.{stops, decide, judged_plain, stops_low, is_low, whole_key, broken_key, low_read, no_whole, high_outside}
+use Rattle.cc_tied.proofs.DecimalNames.{no_letter, no_method}
 use Rattle.cc_tied.proofs.AlikeFrames.{EnvA, env_grows}
 use Rattle.cc_tied.proofs.AlikeTie.{TiedA, KeyN, alike, Silent, silent_skip, silent_bind, silent_tables, silent_act, silent_receive, both_silent}
 use Rattle.cc_tied.proofs.AlikeStore as D
@@ -120,20 +122,25 @@ prim_method s (truth b) n u e = absurd (cc)
 prim_method s (whole z) n u e = absurd (cc)
 prim_method s (text t) n u e = subst (λ z. is_low (pick (list_eq n name_length) None (pick z (Some 10) (Some 2))) ≡ false) (sym (text_found (text_method n) u e)) (text_low (list_eq n name_length))
 
-method_stands : (R : Tables) (x : Val) (k : Access) (s : State) (u : Use) → method_on s x (name_of R k) ≡ Some u → (s' : State) → s'.tables ≡ R → stops (reads x k) (least_broken s'.tables s' (reads x k)) ≡ false
+-- a method isn't named by a whole number
+whole_false : (s : State) (o : ℕ) (n : List ℕ) (u : Use) → method_on s (obj o) n ≡ Some u → (w : Bool) → (w ≡ true → no_letter n ≡ true) → w ≡ false
+whole_false s o n u e false f = refl
+whole_false s o n u e true f = let d = no_method n (f refl) s o in absurd (cc)
+
+method_stands : (R : Tables) (x : Val) (k : Access) (s : State) (u : Use) → method_on s x (name_of R k) ≡ Some u → (whole_key k ≡ true → no_letter (name_of R k) ≡ true) → (s' : State) → s'.tables ≡ R → stops (reads x k) (least_broken s'.tables s' (reads x k)) ≡ false
 unfolding least_broken read_rule
-method_stands R (obj o) k s u e s' d = stops_low (reads (obj o) k) refl _ ∙ high_read s'.tables s' o k
-method_stands R (out n) k s u e s' d = stops_low (reads (out n) k) refl _ ∙ high_outside s'.tables k
-method_stands R (prim p) k s u e s' d = stops_low (reads (prim p) k) refl _ ∙ ap (λ z. is_low (prim_read p (name_of z k))) d ∙ prim_method s p (name_of R k) u e
+method_stands R (obj o) k s u e f s' d = stops_low (reads (obj o) k) refl _ ∙ low_read s'.tables s' o k ∙ ap (λ z. broken_key (elements_in (slice_get s'.objs o)) z (name_of s'.tables k)) (whole_false s o (name_of R k) u e (whole_key k) f) ∙ no_whole (elements_in (slice_get s'.objs o)) (name_of s'.tables k)
+method_stands R (out n) k s u e f s' d = stops_low (reads (out n) k) refl _ ∙ high_outside s'.tables k
+method_stands R (prim p) k s u e f s' d = stops_low (reads (prim p) k) refl _ ∙ ap (λ z. is_low (prim_read p (name_of z k))) d ∙ prim_method s p (name_of R k) u e
 
 -- a part that does nothing in states with these tables
 pub record Still (R : Tables) (m : M (Unit {0})) : Type 0 where
   pub runs : (s : State) → s.tables ≡ R → m s ≡ ok [] tt s
 
-still_method : (R : Tables) (r : Reference) (s : State) (u : Use) → method_on s r.on (name_of R r.key) ≡ Some u → (cs : List (ℕ × ℕ)) → Still R (read_method Sc.plain r cs)
+still_method : (R : Tables) (r : Reference) (s : State) (u : Use) → method_on s r.on (name_of R r.key) ≡ Some u → (whole_key r.key ≡ true → no_letter (name_of R r.key) ≡ true) → (cs : List (ℕ × ℕ)) → Still R (read_method Sc.plain r cs)
 unfolding read_method ret decide
-still_method R r s u e [] = record { runs = λ s' d. refl }
-still_method R r s u e (c ∷ cs) = record { runs = λ s' d. judged_plain (at_site r.site) (reads r.on r.key) skip s' ∙ ap (λ z. decide (at_site r.site) z skip s') (method_stands R r.on r.key s u e s' d) }
+still_method R r s u e f [] = record { runs = λ s' d. refl }
+still_method R r s u e f (c ∷ cs) = record { runs = λ s' d. judged_plain (at_site r.site) (reads r.on r.key) skip s' ∙ ap (λ z. decide (at_site r.site) z skip s') (method_stands R r.on r.key s u e f s' d) }
 
 module _ (P Q : Program) (al : Alike P Q) where
   abbrev T : Tie
@@ -255,11 +262,15 @@ module _ (P Q : Program) (al : Alike P Q) where
     callee_at l h s t ti le le' None (Some u) q e e' = absurd (cc)
     callee_at l h s t ti le le' (Some u) None q e e' = absurd (cc)
     callee_at {v = v} l {a = a} {b = b} h s t ti le le' (Some u) (Some u') q e e' =
-        subst (λ z. ResT T (λ u. CalleeT (ValT Eq)) v ((read_method Sc.plain a a.casts >>= λ _. ret (called_use u (a.on ∷ []))) s) ((read_method Sc.plain b b.casts >>= λ _. ret (called_use z (b.on ∷ []))) t)) (same_use q)
-        (sim_bind T {R = Done} (both_still (still_method (plain_tables P) a s u e a.casts) (still_method (plain_tables Q) b t u' e' b.casts)) (λ v2 l2 _ _ _. sim_ret T (called_use u (a.on ∷ [])) (called_use u (b.on ∷ [])) (use_t (cons_t h.on nil_t))) s t ti le le')
+        subst (λ z. ResT T (λ u. CalleeT (ValT Eq)) v (callee_by Sc.plain B a (Some u) s) (callee_by Sc.plain B' b (Some z) t)) (same_use q)
+        (sim_bind T {R = Done} (both_silent P Q al (U.silent_reach P Q al (at_site a.site) a.on a.key) (U.silent_reach P Q al (at_site b.site) b.on b.key)) (λ v2 l2 _ _ _.
+        sim_bind T {R = Done} (both_still (still_method (plain_tables P) a s u e h.key.numeric a.casts) (still_method (plain_tables Q) b t u' e' (numeric_back h.key) b.casts)) (λ v3 l3 _ _ _. sim_ret T (called_use u (a.on ∷ [])) (called_use u (b.on ∷ [])) (use_t (cons_t h.on nil_t)))) s t ti le le')
       where
         same_use : {x y : Use} → Some x ≡ Some y → x ≡ y
         same_use r = cc
+
+        numeric_back : {x y : Access} → KeyN P Q al x y → whole_key y ≡ true → no_letter (name_of (plain_tables Q) y) ≡ true
+        numeric_back k r = subst (λ z. no_letter z ≡ true) k.same (k.numeric (k.whole ∙ r))
 
     methods_same : {w2 : List Rattle.cc_tied.proofs.AlikeFrames.Label} {s t : State} → TiedA P Q al w2 s t → {a b : Reference} → ReferenceC a b → method_on s a.on (name_of s.tables a.key) ≡ method_on t b.on (name_of t.tables b.key)
     methods_same {t = t} ti {a = a} {b = b} h = U.method_t P Q al ti a.on a.key b.key h.key ∙ ap (λ z. method_on t z (name_of t.tables b.key)) (same_val h.on)

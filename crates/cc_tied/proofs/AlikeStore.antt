@@ -9,7 +9,7 @@ use Rattle.cc_meaning.specs.State.{Kind, bare, Obj, FrameKind, of_own_name, Env,
 use Rattle.cc_meaning.specs.Monad.{marks, M, ret, said, after, ◌>>=◌}
 use Rattle.cc_meaning.specs.Store.{Access, runtime, name_of, kind_by, kind_for, value_found, look_up, has_name, is_found_value, chain_of, chain_in, slots_on, names_on, put_own, change}
 use Rattle.cc_meaning.specs.Typed.{elements_in}
-use Rattle.cc_meaning.specs.SlotRules.{fields_reached, has_slot, write_rule, rule_if, walk_rule}
+use Rattle.cc_meaning.specs.SlotRules.{fields_reached, has_slot, read_rule, write_rule, rule_if, walk_rule}
 use Rattle.cc_meaning.specs.Rules.{unary_op, binary_op, prototype_object, prototype_at, binary_rule, unary_rule, operate_rule}
 use Rattle.cc_meaning.specs.Judge.{Act, operates, reads, writes, removes, probes, walks, least_broken}
 use Rattle.cc_meaning.specs.Acts.{reading, changing, receive_all, add_obj, chain_from, make_instance, function_object, add_function, add_function_by, has_own_name, make_function, push_frame, read_slot, write_slot, drop_own, dropped_from, remove, is_there, probe, names_of, walk, is_on, instance_value, operate, object_type, operate_one}
@@ -21,7 +21,7 @@ use Rattle.cc_tied.specs.Tied.{ListT, nil_t, cons_t, none_t, some_t, ValT, prim_
 use Rattle.cc_tied.proofs.Sim.{Tie, World, ok_t, Sim, fine, sim_as, sim_bind, sim_ret, sim_tables}
 use Rattle.cc_tied.proofs.Lists.{tied_get, tied_push, tied_length, tied_more}
 use Rattle.cc_tied.proofs.Equal.{Eq, same_val, val_as}
-use Rattle.cc_tied.proofs.Fatal.{is_low, stops, decide, judged_plain, stops_low, high_read, low_write, write_low, low_remove, high_probe, high_walk, high_outside, high_enter, high_leave, low_take, high_keep, high_cast, least_first}
+use Rattle.cc_tied.proofs.Fatal.{is_low, stops, decide, judged_plain, stops_low, whole_key, broken_key, low_read, low_write, write_low, low_remove, high_probe, high_walk, high_outside, high_enter, high_leave, low_take, high_keep, high_cast, least_first}
 use Rattle.cc_tied.proofs.AlikeFrames.{Label, KindA, own_k, Chain, EnvA, Grows, chain_later, label_at_end, frames_push, length_left, length_right}
 use Rattle.cc_tied.proofs.AlikeObjects.{beyond, inside_beyond, SlotA, CodeA, ObjA, obj_later, code_in_t, elements_same, value_same, has_slot_same, prototype_same, type_same, chain_of_same, look_up_same, names_on_same, outcome_same, method_same, put_tied, drop_tied, objs_changed}
 use Rattle.cc_tied.proofs.AlikeTie.{TiedA, KeyN, alike, judged_a, silent_read, silent_all, both_silent}
@@ -143,18 +143,29 @@ module _ (P Q : Program) (al : Alike P Q) where
   unfolding reading ret
   found_t {w = w} o a b k s t ti le le' = fine T _ _ (val_as (ap value_found (look_up_same S N w.w ti.objs o (name_of s.tables a) ∙ ap (λ z. look_up t.objs o z) (name_same ti a b k)))) ti le le'
 
+  -- ends of acts that depend on what is the same in both states
+  pub read_same : {w : List Label} {s t : State} → Tied w s t → (o : ℕ) (a b : Access) → KeyN P Q al a b → stops (reads (obj o) a) (read_rule s.tables s (obj o) a) ≡ stops (reads (obj o) b) (read_rule t.tables t (obj o) b)
+  read_same {w = w} {s = s} {t = t} ti o a b k =
+      stops_low (reads (obj o) a) refl _
+      ∙ low_read s.tables s o a
+      ∙ ap (λ z. broken_key (elements_in (slice_get s.objs o)) (whole_key a) z) (name_same ti a b k)
+      ∙ ap (λ z. broken_key (elements_in (slice_get s.objs o)) z (name_of t.tables b)) k.whole
+      ∙ ap (λ z. broken_key z (whole_key b) (name_of t.tables b)) (elements_same S N w (tied_get ti.objs o))
+      ∙ sym (low_read t.tables t o b)
+      ∙ sym (stops_low (reads (obj o) b) refl _)
+
   pub read_slot_t : {w : W} (i i' : Spot) (o : ℕ) (a b : Access) → KeyN P Q al a b → Sim T Vals w (read_slot plain i o a) (read_slot plain i' o b)
   unfolding read_slot least_broken
   read_slot_t i i' o a b k =
-      sim_bind T {R = Vals} (judged_a P Q al i i' (reads (obj o) a) (reads (obj o) b) _ _ (λ s t ti. never (reads (obj o) a) s refl (high_read s.tables s o a) ∙ sym (never (reads (obj o) b) t refl (high_read t.tables t o b))) (found_t o a b k)) (λ v2 l2 x y h.
+      sim_bind T {R = Vals} (judged_a P Q al i i' (reads (obj o) a) (reads (obj o) b) _ _ (λ s t ti. read_same ti o a b k) (found_t o a b k)) (λ v2 l2 x y h.
       sim_bind T {R = Done} (both_silent P Q al (silent_read P Q al (λ s. fields_reached s.tables s.objs o a) (λ c. receive_all c x) (λ c. silent_all P Q al c x)) (silent_read P Q al (λ s. fields_reached s.tables s.objs o b) (λ c. receive_all c y) (λ c. silent_all P Q al c y))) (λ v3 l3 _ _ _. sim_ret T x y h))
 
-  -- ends of acts that depend on what is the same in both states
   pub write_same : {w : List Label} {s t : State} → Tied w s t → (o : ℕ) (a b : Access) → KeyN P Q al a b → (x y : Val) (d d' : Bool) → is_low (write_rule s.tables s (obj o) a x d) ≡ is_low (write_rule t.tables t (obj o) b y d')
   write_same {w = w} {s = s} {t = t} ti o a b k x y d d' =
       low_write s.tables s o a x d
-      ∙ ap (λ z. write_low z (elements_in (slice_get s.objs o))) (name_same ti a b k)
-      ∙ ap (λ z. write_low (name_of t.tables b) z) (elements_same S N w (tied_get ti.objs o))
+      ∙ ap (λ z. write_low (whole_key a) z (elements_in (slice_get s.objs o))) (name_same ti a b k)
+      ∙ ap (λ z. write_low z (name_of t.tables b) (elements_in (slice_get s.objs o))) k.whole
+      ∙ ap (λ z. write_low (whole_key b) (name_of t.tables b) z) (elements_same S N w (tied_get ti.objs o))
       ∙ sym (low_write t.tables t o b y d')
 
   pub put_t : {w : W} (o : ℕ) (a b : Access) → KeyN P Q al a b → (k k' : Kind) (x y : Val) → x ≡ y → Sim T Done w (λ s. changing (change o (put_own (name_of s.tables a) (kind_for s.tables (name_of s.tables a) k) x)) s) (λ s. changing (change o (put_own (name_of s.tables b) (kind_for s.tables (name_of s.tables b) k') y)) s)
@@ -189,7 +200,7 @@ module _ (P Q : Program) (al : Alike P Q) where
 
   pub probe_t : {w : W} (i i' : Spot) (o : ℕ) (t : List ℕ) → Sim T (λ v p q. p ≡ q) w (probe plain i (obj o) t) (probe plain i' (obj o) t)
   unfolding probe least_broken
-  probe_t i i' o n = judged_a P Q al i i' (probes (obj o) (runtime n)) (probes (obj o) (runtime n)) _ _ (λ s t ti. never (probes (obj o) (runtime n)) s refl (high_probe s.tables s o (runtime n)) ∙ sym (never (probes (obj o) (runtime n)) t refl (high_probe t.tables t o (runtime n)))) (there_t o n)
+  probe_t i i' o n = judged_a P Q al i i' (probes (obj o) (runtime n false)) (probes (obj o) (runtime n false)) _ _ (λ s t ti. never (probes (obj o) (runtime n false)) s refl (high_probe s.tables s o (runtime n false)) ∙ sym (never (probes (obj o) (runtime n false)) t refl (high_probe t.tables t o (runtime n false)))) (there_t o n)
 
   pub names_t : {w : W} (o : ℕ) → Sim T (λ v p q. p ≡ q) w (reading (λ s. names_of s (obj o))) (reading (λ s. names_of s (obj o)))
   unfolding reading names_of ret

@@ -7,12 +7,13 @@ use Rattle.cc_ast.specs.declared.tables.GlobalInfo.{GlobalInfo}
 use Rattle.cc_ast.specs.declared.tables.TypeSet.{TypeSet}
 use Rattle.cc_ast.specs.declared.tables.Element.{Element}
 use Rattle.cc_meaning.specs.Values.{Val, prim, obj, out, Spot}
+use Rattle.cc_meaning.specs.Operators.{key_text}
 use Rattle.cc_meaning.specs.State.{Obj, Reply, State, Tables}
 use Rattle.cc_meaning.specs.Monad.{spent, waits, strayed, End, paid, M, ok, ret, skip, said, after, ◌>>=◌, with_tables}
 use Rattle.cc_meaning.specs.Store.{Access, name_of, runtime, quoted, without_chunk, chunk_in, global_kind, of_chunk, change}
 use Rattle.cc_meaning.specs.Typed.{entered_in}
 use Rattle.cc_meaning.specs.Judge.{Act, least_broken}
-use Rattle.cc_meaning.specs.Acts.{judged, changing, enter_element, receive, receive_all, receive_each}
+use Rattle.cc_meaning.specs.Acts.{is_whole, judged, changing, enter_element, receive, receive_all, receive_each}
 use Rattle.cc_meaning.specs.Shapes.{tables_of, without_paths, plain_tables}
 use Rattle.cc_meaning.specs.Script.{plain}
 use Rattle.cc_meaning.specs.Alike.{Paired, OneToOne, FramePair, call_pair, catch_pair, own_pair, Around, Numbering, Alike, RefA, frame_a, global_a, FunA, owns}
@@ -21,7 +22,8 @@ use Rattle.cc_tied.specs.Tied.{ListT, built_at, built_of}
 use Rattle.cc_tied.proofs.Laws.{said_none}
 use Rattle.cc_tied.proofs.Sim.{Tie, World, ResT, over_t, Sim, fine, PayT, both_pay, neither, both_fault}
 use Rattle.cc_tied.proofs.Equal.{val_as, opt_as, numbers_as, once}
-use Rattle.cc_tied.proofs.Fatal.{stops, decide, judged_plain}
+use Rattle.cc_tied.proofs.DecimalNames.{no_letter, whole_low}
+use Rattle.cc_tied.proofs.Fatal.{stops, decide, judged_plain, whole_key}
 use Rattle.cc_tied.proofs.AlikeFrames.{Label, Chain, EnvA, Grows, grows_on, chain_later, env_grows, Frames}
 use Rattle.cc_tied.proofs.AlikeObjects.{beyond, CodeA, ObjA, entered_left, entered_right, objs_left, objs_right}
 
@@ -80,9 +82,12 @@ module _ (P Q : Program) (al : Alike P Q) where
   pub replied : {w : List Label} {s t : State} (rs : List Reply) → TiedA w s t → TiedA w (record s { replies = rs }) (record t { replies = rs })
   replied rs h = record { tables = h.tables; tables' = h.tables'; objs = h.objs; frames = h.frames; globals = h.globals; loaded = h.loaded; failed = h.failed; handles = h.handles; budget = h.budget; replies = refl }
 
-  -- the same name
+  -- the same name, of a whole number on both sides or on neither
   pub record KeyN (a b : Access) : Type 0 where
     pub same : name_of (plain_tables P) a ≡ name_of (plain_tables Q) b
+    pub whole : whole_key a ≡ whole_key b
+    -- the text of a whole number
+    pub numeric : whole_key a ≡ true → no_letter (name_of (plain_tables P) a) ≡ true
 
   pub built_same : {c : Around} {r r' : Ref} → RefA S S' N c r r' → built_of (plain_tables P) r ≡ built_of (plain_tables Q) r'
   unfolding built_of
@@ -92,17 +97,21 @@ module _ (P Q : Program) (al : Alike P Q) where
   abbrev pub UpA : List Label → (f g : ℕ) → Option ℕ → Option ℕ → Type 0
   UpA w f g a b = (a ≡ b) × Chain w (beyond (owns S f) (N.around (f, g))) a
 
-  pub runtime_same : (t : List ℕ) → KeyN (runtime t) (runtime t)
-  unfolding name_of
-  runtime_same t = record { same = refl }
+  pub runtime_same : (v : Val) {t : List ℕ} → key_text v ≡ Some t → KeyN (runtime t (is_whole v)) (runtime t (is_whole v))
+  unfolding name_of whole_key
+  runtime_same v e = record { same = refl; whole = refl; numeric = λ h. whole_low v e h }
+
+  -- two keys with one name, neither of them a whole number
+  pub key_of_texts : {a b : Access} → name_of (plain_tables P) a ≡ name_of (plain_tables Q) b → whole_key a ≡ false → whole_key b ≡ false → KeyN a b
+  key_of_texts e h k = record { same = e; whole = h ∙ sym k; numeric = λ q. absurd (cc) }
 
   pub quoted_same : (t : List ℕ) → KeyN (quoted t) (quoted t)
-  unfolding name_of
-  quoted_same t = record { same = refl }
+  unfolding name_of whole_key
+  quoted_same t = key_of_texts refl refl refl
 
-  pub written_same : (t : List ℕ) → KeyN (runtime t) (quoted t)
-  unfolding name_of
-  written_same t = record { same = refl }
+  pub written_same : (t : List ℕ) → KeyN (runtime t false) (quoted t)
+  unfolding name_of whole_key
+  written_same t = key_of_texts refl refl refl
 
   abbrev pub alike : Tie
   alike = record {
@@ -162,7 +171,7 @@ module _ (P Q : Program) (al : Alike P Q) where
     loaded_later = λ l h. h;
     new_value = λ h. val_as h;
     runs_code = λ h. record { function = h.function; up = (h.up, h.chain); site = tt };
-    key_runtime = λ x t. runtime_same t;
+    key_runtime = λ x v e. runtime_same v e;
     key_quoted = λ x h. quoted_same _;
     key_written = λ x h. written_same _;
     env_top = λ l e. record { at = refl; this = refl; chain = tt };

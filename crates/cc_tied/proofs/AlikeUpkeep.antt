@@ -10,14 +10,14 @@ use Rattle.cc_meaning.specs.Names.{name_proto}
 use Rattle.cc_meaning.specs.Builtins.{ArrayAnswer, answers, answers_array, or_undefined}
 use Rattle.cc_meaning.specs.State.{keyed_kind, Code, FrameKind, of_call, of_catch, Frame, Env, State, Tables}
 use Rattle.cc_meaning.specs.Monad.{passed, seen, M, ret, skip, say, ◌>>=◌, attempt, with_tables}
-use Rattle.cc_meaning.specs.Store.{Access, runtime, quoted, name_of, Global, extern, built_in, of_chunk, global_kind, Use, own_value, change, frame_up, flat_option}
+use Rattle.cc_meaning.specs.Store.{Access, dotted, runtime, quoted, name_of, Global, extern, built_in, of_chunk, global_kind, Use, own_value, change, frame_up, flat_option}
 use Rattle.cc_meaning.specs.Typed.{Variable, global, local, variable_type, value_in, doc_at, params_in, result_in, function_doc}
 use Rattle.cc_meaning.specs.SlotRules.{read_rule, write_rule, prim_read, outside_rule, rule_if, rule_unless, least}
 use Rattle.cc_meaning.specs.Rules.{built_op, operate_rule, host_rule}
 use Rattle.cc_meaning.specs.Judge.{operates, reads, writes, probes, enters, leaves, takes, keeps, casts, hosts, least_broken}
 use Rattle.cc_meaning.specs.Built.{BuiltOutcome, built_value, built_change, built_object, built_question, built_call, built_breaks, outcome_of, wanted_in, rule_in, change_rule}
 use Rattle.cc_meaning.specs.Acts.{judged, is_fatal, reading, changing, add_obj, make_object, make_array, make_from, push_frame, place_in, read_by_kind, read_place, is_loaded, global_value, read_global, read_var, set_place, set_global, keep, write_by_kind, write_place, write_var, read_slot, write_slot, cast_to, handle_of, shown, show}
-use Rattle.cc_meaning.specs.Calls.{Bodies, code_in, code_at, prim_member, call_object, array_answer, perform, use_built}
+use Rattle.cc_meaning.specs.Calls.{Bodies, code_in, code_at, prim_member, call_object, array_answer, perform, use_built, reach_method}
 use Rattle.cc_meaning.specs.Shapes.{tables_of, plain_tables}
 use Rattle.cc_meaning.specs.Meaning.{call_frame}
 use Rattle.cc_meaning.specs.Script.{plain, dependency_failed, note_load}
@@ -32,7 +32,7 @@ use Rattle.cc_tied.proofs.Equal.{Eq, refl_val, refl_list, same_val, same_opt, sa
 use Rattle.cc_tied.proofs.Fatal.{is_low, stops, decide, judged_plain, stops_low, high_outside, high_probe, high_enter, high_leave, low_take, high_keep, high_cast, least_first}
 use Rattle.cc_tied.proofs.AlikeFrames.{Label, KindA, call_k, catch_k, own_k, Chain, EnvA, chain_later, FrameA, FrameAt, frame_there, Found, find_frame, frames_found, frames_get, place_set, set_pair}
 use Rattle.cc_tied.proofs.AlikeObjects.{inside_beyond, CodeA, code_in_t, value_same, chain_of_same, outcome_same, method_same, objs_changed}
-use Rattle.cc_tied.proofs.AlikeTie.{TiedA, KeyN, UpA, kind_same, alike, judged_a, silent_skip, silent_tables, silent_act, silent_bind, silent_receive, silent_each, both_silent}
+use Rattle.cc_tied.proofs.AlikeTie.{TiedA, KeyN, UpA, kind_same, alike, judged_a, Silent, silent_skip, silent_tables, silent_act, silent_bind, silent_receive, silent_each, both_silent}
 use Rattle.cc_tied.proofs.AlikeStore as D
 
 module _ (P Q : Program) (al : Alike P Q) where
@@ -86,7 +86,7 @@ module _ (P Q : Program) (al : Alike P Q) where
     perform_t (built_value v) = sim_ret T v v (refl_val v)
     perform_t (built_change n new c) = sim_bind T {R = Done} (elements_t n c.elements) (λ v2 l2 _ _ _. answer_t c.answer)
     perform_t (built_object p) = from_t p
-    perform_t (built_question n t) = judged_a P Q al i i' (probes (obj n) (runtime t)) (probes (obj n) (runtime t)) _ _ (λ s u ti. D.never P Q al (probes (obj n) (runtime t)) s refl (high_probe s.tables s n (runtime t)) ∙ sym (D.never P Q al (probes (obj n) (runtime t)) u refl (high_probe u.tables u n (runtime t)))) (question_t n t)
+    perform_t (built_question n t) = judged_a P Q al i i' (probes (obj n) (runtime t false)) (probes (obj n) (runtime t false)) _ _ (λ s u ti. D.never P Q al (probes (obj n) (runtime t false)) s refl (high_probe s.tables s n (runtime t false)) ∙ sym (D.never P Q al (probes (obj n) (runtime t false)) u refl (high_probe u.tables u n (runtime t false)))) (question_t n t)
     perform_t (built_call n v vs) = call_t n n v v vs vs refl (refl_val v) (refl_list refl_val vs)
     perform_t (built_breaks r) = sim_fault T tt r
 
@@ -310,7 +310,16 @@ module _ (P Q : Program) (al : Alike P Q) where
   unfolding least_broken read_rule
   method_read_t i i' (out n) a b k = out_read_t i i' n a b skip skip skip_t
   method_read_t i i' (prim p) a b k = judged_a P Q al i i' (reads (prim p) a) (reads (prim p) b) _ _ (λ s t ti. stops_low (reads (prim p) a) refl _ ∙ ap (λ z. is_low (prim_read p z)) (D.name_same P Q al ti a b k) ∙ sym (stops_low (reads (prim p) b) refl _)) skip_t
-  method_read_t i i' (obj o) a b k = judged_a P Q al i i' (reads (obj o) a) (reads (obj o) b) _ _ (λ s t ti. D.never P Q al (reads (obj o) a) s refl (Rattle.cc_tied.proofs.Fatal.high_read s.tables s o a) ∙ sym (D.never P Q al (reads (obj o) b) t refl (Rattle.cc_tied.proofs.Fatal.high_read t.tables t o b))) skip_t
+  method_read_t i i' (obj o) a b k = judged_a P Q al i i' (reads (obj o) a) (reads (obj o) b) _ _ (λ s t ti. D.read_same P Q al ti o a b k) skip_t
+
+  -- what is met on the way to a built-in method ends no plain run
+  pub silent_reach : (i : Spot) (x : Val) (a : Access) → Silent P Q al (reach_method plain i x a)
+  unfolding reach_method least_broken
+  silent_reach i (obj o) (runtime t w) = silent_act P Q al i (probes (obj o) (runtime t w)) (λ s. D.never P Q al (probes (obj o) (runtime t w)) s refl (high_probe s.tables s o (runtime t w)))
+  silent_reach i (obj o) (quoted t) = silent_skip P Q al
+  silent_reach i (obj o) (dotted p) = silent_skip P Q al
+  silent_reach i (out n) a = silent_skip P Q al
+  silent_reach i (prim p) a = silent_skip P Q al
 
   code_at_t : {w : List Label} {s t : State} → Tied w s t → (n : ℕ) → OptT (CodeA S N w) (code_at s n) (code_at t n)
   unfolding code_at
@@ -337,6 +346,7 @@ module _ (P Q : Program) (al : Alike P Q) where
     up_typeof = λ i e. rw e (D.typeof_t P Q al _ _ _);
     up_method = λ ti x k. rw (same_val x) (method_t ti _ _ _ k);
     up_method_read = λ i x k. rw (same_val x) (method_read_t _ _ _ _ _ k);
+    up_reach_method = λ {w} {x} {y} {a} {b} {i} {i'} s v k. both_silent P Q al (silent_reach i x a) (silent_reach i' y b);
     up_use = λ {w} B B' i u vs h. rw (same_list vs) (use_t B B' _ _ w h u _);
     up_prim_read = λ i k. prim_read_t _ _ _ _ _ k;
     up_out_read = λ i k f. out_read_t _ _ _ _ _ _ _ (f k.same);

@@ -23,7 +23,7 @@ rest_of_views [] = []
 rest_of_views (v ∷ vs) = vs
 
 module _ (K : Kit) where
-  open K use {J, J', World, Later, later, now, bound, bound', bound_later, bound_later', SpotT, FunT, RunsT, runs_code, O, KeyT, key_later, Rel, rel_ret, rel_bind, rel_raise, rel_attempt, rel_pay_less, rel_tables, rel_fault, rel_say, rel_show, rel_next_reply, rel_view, rel_views, rel_runs, rel_enters, rel_leaves, rel_read, rel_out_read, rel_prim_read, rel_take_path, rel_cast, rel_method, rel_method_read, rel_instance, rel_use, DeclaresT, declares_none, env_declares, rel_write, rel_out_write, rel_keep_path}
+  open K use {J, J', World, Later, later, now, bound, bound', bound_later, bound_later', SpotT, FunT, RunsT, runs_code, O, KeyT, key_later, Rel, rel_ret, rel_bind, rel_raise, rel_attempt, rel_pay_less, rel_tables, rel_fault, rel_say, rel_show, rel_next_reply, rel_view, rel_views, rel_runs, rel_enters, rel_leaves, rel_read, rel_out_read, rel_prim_read, rel_take_path, rel_cast, rel_method, rel_method_read, rel_reach_method, rel_instance, rel_use, DeclaresT, declares_none, env_declares, rel_write, rel_out_write, rel_keep_path}
 
   pub first_t : {v : World} {vs vs' : List Val} → ListV K v vs vs' → V K v (first_of_views vs) (first_of_views vs')
   unfolding first_of_views
@@ -137,7 +137,9 @@ module _ (K : Kit) where
     rel_callee_by : {v : World} → Later w v → {a b : Reference} → ReferenceV K v a b → (u : Option Use) → Rel (CalleeV K) v (callee_by J B a u) (callee_by J' B' b u)
     unfolding callee_by
     rel_callee_by l {a = a} {b = b} h None = rel_bind (rel_get l h) (λ v2 l2 x y q. rel_ret (called_value x (receiver_of a)) (called_value y (receiver_of b)) (value_t q (receiver_tied (reference_later K l2 h))))
-    rel_callee_by l {a = a} {b = b} h (Some u) = rel_bind (rel_read_method h h.casts) (λ v2 l2 _ _ _. rel_ret (called_use u (a.on ∷ [])) (called_use u (b.on ∷ [])) (use_t (cons_t (val_later K l2 h.on) nil_t)))
+    rel_callee_by l {a = a} {b = b} h (Some u) =
+        rel_bind (rel_reach_method h.site h.on h.key) (λ v2 l2 _ _ _.
+        rel_bind (rel_read_method (reference_later K l2 h) h.casts) (λ v3 l3 _ _ _. rel_ret (called_use u (a.on ∷ [])) (called_use u (b.on ∷ [])) (use_t (cons_t (val_later K (later l2 l3) h.on) nil_t))))
 
     rel_member_callee : {v : World} {i i' : ℕ} → SpotT (at_site i) (at_site i') → (u u' : Option Use) → u ≡ u' → Rel (CalleeV K) v (member_callee J i u) (member_callee J' i' u')
     unfolding member_callee

@@ -169,7 +169,7 @@ equal G Ts = record {
   loaded_later = λ l h. h;
   new_value = λ h. val_as h;
   runs_code = λ h. record { function = ap (λ c. c.function) h; up = ap (λ c. c.up) h; site = ap (λ c. Rattle.cc_meaning.specs.Values.at_site c.site) h };
-  key_runtime = λ x t. refl;
+  key_runtime = λ x v e. refl;
   key_quoted = λ x h. refl;
   key_written = λ x h. absurd h;
   env_top = λ l e. ap (λ z. record Rattle.cc_meaning.specs.Script.top { declares = z }) e;

@@ -11,14 +11,14 @@ use Rattle.cc_meaning.specs.Values.{Val, prim, obj, out, Spot, at_site}
 use Rattle.cc_meaning.specs.Builtins.{ArrayAnswer, answers, answers_array, or_undefined}
 use Rattle.cc_meaning.specs.State.{Kind, keyed_kind, Code, Obj, FrameKind, of_call, of_catch, of_own_name, Frame, Env, State, Tables}
 use Rattle.cc_meaning.specs.Monad.{M, ret, skip, ◌>>=◌, attempt, with_tables, after, said, Mode}
-use Rattle.cc_meaning.specs.Store.{Access, runtime, quoted, name_of, kind_by, Global, extern, built_in, of_chunk, global_kind, Use, own_value, change, frame_up, frame_at}
+use Rattle.cc_meaning.specs.Store.{Access, dotted, runtime, quoted, name_of, kind_by, Global, extern, built_in, of_chunk, global_kind, Use, own_value, change, frame_up, frame_at}
 use Rattle.cc_meaning.specs.Typed.{Variable, global, local, flat, variable_type, value_in, doc_at, params_in, result_in, function_doc}
 use Rattle.cc_meaning.specs.SlotRules.{fields_reached, write_rule}
 use Rattle.cc_meaning.specs.Rules.{unary_op, binary_op, built_op, prototype_at}
 use Rattle.cc_meaning.specs.Judge.{operates, reads, writes, removes, probes, walks, enters, leaves, takes, keeps, casts, hosts, least_broken}
 use Rattle.cc_meaning.specs.Built.{BuiltOutcome, built_value, built_change, built_object, built_question, built_call, built_breaks, outcome_of}
 use Rattle.cc_meaning.specs.Acts.{judged, is_fatal, reading, changing, enter_element, receive, receive_all, receive_each, add_obj, make_object, make_array, make_from, chain_from, make_instance, add_function, add_function_by, has_own_name, make_function, push_frame, place_in, read_by_kind, read_place, is_loaded, global_value, read_global, read_var, set_place, set_global, keep, write_by_kind, write_place, write_var, read_slot, write_slot, dropped_from, remove, is_there, probe, names_of, walk, instance_value, operate, operate_one, cast_to, handle_of, shown, show}
-use Rattle.cc_meaning.specs.Calls.{Bodies, code_at, method_on, declares_on, call_object, take_path, keep_path, array_answer, perform, use_built}
+use Rattle.cc_meaning.specs.Calls.{Bodies, code_at, method_on, declares_on, call_object, take_path, keep_path, array_answer, perform, use_built, reach_method}
 use Rattle.cc_meaning.specs.Meaning.{call_frame}
 use Rattle.cc_meaning.specs.Script.{dependency_failed, note_load}
 use Rattle.cc_tied.specs.Tied.{ListT, OptT, ValT, WayT, CodeT, entering, leaving, loading}
@@ -154,7 +154,15 @@ module _ (X : Budgets) (Ts : Tables) (Y : Passes X Ts) where
 
   probe_t : {w : World T} (i : Spot) (o : ℕ) (t : List ℕ) → Sim T (λ v p q. p ≡ q) w (probe X.J i (obj o) t) (probe X.J' i (obj o) t)
   unfolding probe reading is_there ret
-  probe_t i o t = judged_t X Ts Y i (probes (obj o) (runtime t)) (equals _ (record { stays = λ s. (refl, refl); blind = λ s b. refl }))
+  probe_t i o t = judged_t X Ts Y i (probes (obj o) (runtime t false)) (equals _ (record { stays = λ s. (refl, refl); blind = λ s b. refl }))
+
+  reach_t : {w : World T} (i : Spot) (x : Val) (a : Access) → Sim T Done w (reach_method X.J i x a) (reach_method X.J' i x a)
+  unfolding reach_method
+  reach_t i (obj o) (runtime t b) = judged_t X Ts Y i (probes (obj o) (runtime t b)) (done skip quiet_skip)
+  reach_t i (obj o) (quoted t) = done skip quiet_skip
+  reach_t i (obj o) (dotted p) = done skip quiet_skip
+  reach_t i (out n) a = done skip quiet_skip
+  reach_t i (prim p) a = done skip quiet_skip
 
   walk_t : {w : World T} (i : Spot) (o : ℕ) → Sim T (λ v p q. p ≡ q) w (walk X.J i (obj o)) (walk X.J' i (obj o))
   unfolding walk reading names_of ret
@@ -258,7 +266,7 @@ module _ (X : Budgets) (Ts : Tables) (Y : Passes X Ts) where
     perform_t (built_value v) = sim_ret T v v (refl_val v)
     perform_t (built_change n new c) = sim_bind T {R = Done} (done _ (record { stays = λ s. (refl, refl); blind = λ s b. refl })) (λ v2 l2 _ _ _. answer_t c.answer)
     perform_t (built_object p) = gives _ (quiet_from p)
-    perform_t (built_question n t) = judged_t X Ts Y i (probes (obj n) (runtime t)) (gives _ (record { stays = λ s. (refl, refl); blind = λ s b. refl }))
+    perform_t (built_question n t) = judged_t X Ts Y i (probes (obj n) (runtime t false)) (gives _ (record { stays = λ s. (refl, refl); blind = λ s b. refl }))
     perform_t (built_call n v vs) = call_t n n v v vs vs refl (refl_val v) (Rattle.cc_tied.proofs.Equal.refl_list refl_val vs)
     perform_t (built_breaks r) = fault_t X Ts r i
 
@@ -353,6 +361,7 @@ module _ (X : Budgets) (Ts : Tables) (Y : Passes X Ts) where
     up_typeof = λ i e. rw (i, e) (typeof_t _ _);
     up_method = λ ti x k. rw (same_val x, k) (method_same ti _ _);
     up_method_read = λ i x k. rw (i, same_val x, k) (judged_t X Ts Y _ _ (done skip quiet_skip));
+    up_reach_method = λ i x k. rw (i, same_val x, k) (reach_t _ _ _);
     up_use = λ B B' i u vs h. use_two B B' _ _ i u _ _ vs h;
     up_prim_read = λ i k. rw (i, k) (judged_t X Ts Y _ _ (with_t _ _ (sim_ret T _ _ (refl_val _))));
     up_out_read = λ i k f. rw (i, k) (judged_t X Ts Y _ _ (f (ap (λ z. name_of Ts z) k)));

@@ -12,7 +12,7 @@ use Rattle.cc_meaning.specs.State.{Env, Path}
 use Rattle.cc_meaning.specs.Monad.{M, ret, ◌>>=◌, with_tables, pick, Mode}
 use Rattle.cc_meaning.specs.Operators.{truthy, key_text}
 use Rattle.cc_meaning.specs.Store.{Access, dotted, quoted, runtime, Built, Global, extern, built_in, of_chunk, global_kind, name_of, flat_of}
-use Rattle.cc_meaning.specs.Acts.{operate_one, read_var, runtime_key, key_given}
+use Rattle.cc_meaning.specs.Acts.{operate_one, read_var, is_whole, runtime_key, key_given}
 use Rattle.cc_meaning.specs.Shapes.{site_of, longer, path_of, path_of_target, path_of_key, literal_text, literal_key}
 use Rattle.cc_meaning.specs.Calls.{Reach, plain, access, built_global, built_member, value_of, value, member_use, Bodies, apply_unary, delete_at, cast_reach}
 use Rattle.cc_meaning.specs.Meaning.{Place, variable_place, slot_place, reference, reach_global, reach_var, reach_member, put_key, key_by, stepped, ev, ev_target, evs, ev_fields, updated, get_place, put_place}
@@ -247,7 +247,7 @@ module _ (K : Kit) (X : Below K) where
     rel_runtime_by s h = rel_as (λ u l a b k x. as_key k x) (rel_runtime_key K s h)
       where
         as_key : {u : World} {a b : Access} → RuntimeT a b → (x : Val) → KeyT u x a b
-        as_key (runtime_t {t = t}) x = key_runtime x t
+        as_key (runtime_t y e) x = key_runtime x y e
 
     rel_quoted_by : {v : World} (i i' : ℕ) {t : List ℕ} → QuotedT t → (y y' : Val) → Rel (λ u a b. (x : Val) → KeyT u x a b) v (key_by J i (Some t) y) (key_by J' i' (Some t) y')
     unfolding key_by
@@ -259,8 +259,8 @@ module _ (K : Kit) (X : Below K) where
     text_tied (obj_t h) e = absurd (cc)
 
     rel_written_by : {v : World} (i i' : ℕ) {t : List ℕ} → WrittenT t → (y y' : Val) → y ≡ prim (text t) → Rel (λ u a b. (x : Val) → KeyT u x a b) v (key_by J i None y) (key_by J' i' (Some t) y')
-    unfolding key_by runtime_key key_given key_text
-    rel_written_by {v = v} i i' {t = t} h y y' e = subst (λ z. Rel (λ u a b. (x : Val) → KeyT u x a b) v (key_by J i None z) (key_by J' i' (Some t) y')) (sym e) (rel_ret (runtime t) (quoted t) (λ x. key_written x h))
+    unfolding key_by runtime_key key_given is_whole key_text
+    rel_written_by {v = v} i i' {t = t} h y y' e = subst (λ z. Rel (λ u a b. (x : Val) → KeyT u x a b) v (key_by J i None z) (key_by J' i' (Some t) y')) (sym e) (rel_ret (runtime t false) (quoted t) (λ x. key_written x h))
 
     -- a part whose right side only gives a text
     rel_text : {A B : Type 0} {R : World → A → B → Type 0} {v : World} {m m' : M Val} {k : Val → M A} {k' : Val → M B} (t : List ℕ) → m' ≡ ret (prim (text t)) → Rel (V K) v m m' → ((u : World) → Later v u → (y y' : Val) → y ≡ prim (text t) → Rel R u (k y) (k' y')) → Rel R v (m >>= k) (m' >>= k')

@@ -1,12 +1,12 @@
 -- The acts that end the plain run: which of them no state can make so.
-use Rattle.std.proofs.Common.{◌≡◌, refl, ap, ◌∙◌, ℕ, Bool, true, false, List, [], ◌∷◌, Option, Some, None, arith}
+use Rattle.std.proofs.Common.{◌≡◌, refl, sym, ap, ◌∙◌, ℕ, Bool, true, false, List, [], ◌∷◌, Option, Some, None, is_some, arith}
 use Rattle.std.specs.Prelude.{nat_le, nat_lt, not, ◌&&◌, ◌||◌, slice_get}
 use Rattle.std.proofs.lemmas.Bool.Decides.{nat_tests}
 use Rattle.cc_meaning.specs.Values.{Val, obj, Spot}
 use Rattle.cc_meaning.specs.State.{Kind, kept_kind, indexed_kind, dotted_kind, quoted_kind, keyed_kind, Slot, Code, Obj, Tables, State}
 use Rattle.cc_meaning.specs.Monad.{strayed, over, M, ret, stop, after, ◌>>=◌, pick}
 use Rattle.cc_meaning.specs.Store.{Access, dotted, quoted, runtime, name_of, is_kept, chain_of, slots_in, slots_on, look_up, class_of_function, Found, found_value, found_use, nothing_found}
-use Rattle.cc_meaning.specs.SlotRules.{least, rule_if, rule_unless, dotted_rule, slot_rule, slots_rule, outside_rule, walk_slots, unfound_rule, function_rule, field_rule, object_read, read_rule, array_write_rule, element_rule, declares_well, code_rule, prototype_rule, object_write, write_rule, has_slot, object_remove, remove_rule, probe_rule, is_dotted, meets_function}
+use Rattle.cc_meaning.specs.SlotRules.{least, rule_if, rule_unless, dotted_rule, slot_rule, slots_rule, outside_rule, walk_slots, unfound_rule, unwritten_rule, whole_key_rule, function_rule, field_rule, object_read, read_rule, array_write_rule, element_rule, declares_well, code_rule, prototype_rule, object_write, write_rule, has_slot, object_remove, remove_rule, probe_rule, is_dotted, meets_function}
 use Rattle.cc_meaning.specs.Judge.{Act, hosts, calls_inner, answers_with, least_broken}
 use Rattle.cc_meaning.specs.Rules.{enter_rule, leave_rule, take_rule, keep_rule, cast_rule}
 use Rattle.cc_meaning.specs.Typed.{Variable, elements_in, is_settled}
@@ -128,7 +128,7 @@ pub high_slot : (T : Tables) (a : Access) (n : List ℕ) (k : Kind) (m : List �
 unfolding slot_rule
 high_slot T (dotted p) n k m = high_chosen (is_kept T n) None (dotted_rule n k m) high_none (high_dotted n k m)
 high_slot T (quoted t) n k m = high_if _ 7 refl
-high_slot T (runtime t) n k m = high_chosen (is_index n) None (rule_if (is_dotted k) 8) high_none (high_if _ 8 refl)
+high_slot T (runtime t w) n k m = high_chosen (is_index n) None (rule_if (is_dotted k) 8) high_none (high_if _ 8 refl)
 
 pub high_slots : (T : Tables) (a : Access) (n : List ℕ) (xs : List Slot) → is_low (slots_rule T a n xs) ≡ false
 unfolding slots_rule
@@ -144,22 +144,60 @@ unfolding walk_slots
 high_walk [] = high_none
 high_walk (x ∷ xs) = least_high _ _ (high_if _ 9 refl) (high_walk xs)
 
-high_unfound : (n : List ℕ) (f : Found) → is_low (unfound_rule n f) ≡ false
+high_unfound : (os : List Obj) (c n : List ℕ) (f : Found) → is_low (unfound_rule os c n f) ≡ false
 unfolding unfound_rule
-high_unfound n (found_value v) = high_none
-high_unfound n (found_use u) = high_some 10 refl
-high_unfound n nothing_found = high_if _ 10 refl
+high_unfound os c n (found_value v) = high_none
+high_unfound os c n (found_use u) = high_some 10 refl
+high_unfound os c n nothing_found = high_if _ 10 refl
+
+-- ---- keys of arrays
+
+-- whether the key is a value that is a whole number
+unfoldable pub whole_key : Access → Bool
+whole_key (dotted p) = false
+whole_key (quoted t) = false
+whole_key (runtime t w) = w
+
+-- a whole number that is no index is the key of an array
+unfoldable pub broken_key : Option (List Val) → Bool → List ℕ → Bool
+broken_key es w n = w && (is_some es && not (is_index n))
+
+and_false : (b : Bool) → b && false ≡ false
+and_false true = refl
+and_false false = refl
+
+or_false : (b : Bool) → b || false ≡ b
+or_false true = refl
+or_false false = refl
+
+whole_then : (T : Tables) (es : Option (List Val)) (a : Access) (y : Option ℕ) → is_low (least (whole_key_rule es a) y) ≡ broken_key es (whole_key a) (name_of T a) || is_low y
+unfolding whole_key_rule broken_key whole_key name_of least
+whole_then T None (dotted p) y = refl
+whole_then T None (quoted t) y = refl
+whole_then T None (runtime t w) y = ap (λ z. z || is_low y) (sym (and_false w))
+whole_then T (Some vs) (dotted p) y = refl
+whole_then T (Some vs) (quoted t) y = refl
+whole_then T (Some vs) (runtime t w) y = least_two (w && not (is_index t)) y
 
 high_field : (T : Tables) (s : State) (o : ℕ) (a : Access) (n : List ℕ) (r : Option ℕ) (v : Val) → is_low (field_rule T s o a n r v) ≡ false
 unfolding field_rule
 high_field T s o a n r v = high_unless _ 6 refl
 
-pub high_read : (T : Tables) (s : State) (o : ℕ) (a : Access) → is_low (read_rule T s (obj o) a) ≡ false
+-- a read is low by its key and by the elements alone
+pub low_read : (T : Tables) (s : State) (o : ℕ) (a : Access) → is_low (read_rule T s (obj o) a) ≡ broken_key (elements_in (slice_get s.objs o)) (whole_key a) (name_of T a)
 unfolding read_rule object_read function_rule
-high_read T s o a =
+low_read T s o a =
     let n = name_of T a in
     let slots = slots_on s.objs (chain_of s.objs o) in
-    least_high _ _ (high_field T s o a _ _ _) (least_high _ _ (high_slots T a n slots) (least_high _ _ (high_if (is_in n function_names && meets_function s.objs (chain_of s.objs o) n) 10 refl) (high_unfound n (look_up s.objs o n))))
+    let broken = broken_key (elements_in (slice_get s.objs o)) (whole_key a) (name_of T a) in
+    whole_then T (elements_in (slice_get s.objs o)) a _
+    ∙ ap (λ z. broken || z) (least_high _ _ (high_field T s o a _ _ _) (least_high _ _ (high_slots T a n slots) (least_high _ _ (high_if (is_in n function_names && meets_function s.objs (chain_of s.objs o) n) 10 refl) (high_unfound s.objs (chain_of s.objs o) n (look_up s.objs o n)))))
+    ∙ or_false broken
+
+-- a key that is no whole number
+pub no_whole : (es : Option (List Val)) (n : List ℕ) → broken_key es false n ≡ false
+unfolding broken_key
+no_whole es n = refl
 
 high_element : (T : Tables) (os : List Obj) (o : Option Obj) (i : Option ℕ) (v : Val) → is_low (element_rule T os o i v) ≡ false
 unfolding element_rule
@@ -177,15 +215,21 @@ unfolding prototype_rule
 high_prototype T s None n v d = high_none
 high_prototype T s (Some o) n v d = high_code T s o o.code n v d
 
--- a write is low by its name and by the elements alone
-unfoldable pub write_low : List ℕ → Option (List Val) → Bool
-write_low n es = list_eq n name_proto || is_low (array_write_rule es n (index_value n))
+high_unwritten : (os : List Obj) (o : ℕ) (n : List ℕ) → is_low (unwritten_rule os o n) ≡ false
+unfolding unwritten_rule
+high_unwritten os o n = high_if _ 10 refl
 
-pub low_write : (T : Tables) (s : State) (o : ℕ) (a : Access) (v : Val) (d : Bool) → is_low (write_rule T s (obj o) a v d) ≡ write_low (name_of T a) (elements_in (slice_get s.objs o))
+-- a write is low by its key and by the elements alone
+unfoldable pub write_low : Bool → List ℕ → Option (List Val) → Bool
+write_low w n es = list_eq n name_proto || (broken_key es w n || is_low (array_write_rule es n (index_value n)))
+
+pub low_write : (T : Tables) (s : State) (o : ℕ) (a : Access) (v : Val) (d : Bool) → is_low (write_rule T s (obj o) a v d) ≡ write_low (whole_key a) (name_of T a) (elements_in (slice_get s.objs o))
 unfolding write_rule object_write write_low
 low_write T s o a v d =
+    let es = elements_in (slice_get s.objs o) in
     least_two (list_eq (name_of T a) name_proto) _
-    ∙ ap (λ z. list_eq (name_of T a) name_proto || z) (least_first _ _ (least_high _ _ (high_element T s.objs _ _ v) (least_high _ _ (high_field T s o a _ _ v) (least_high _ _ (high_slots T a (name_of T a) (slots_in (slice_get s.objs o))) (high_prototype T s (slice_get s.objs o) (name_of T a) v d)))))
+    ∙ ap (λ z. list_eq (name_of T a) name_proto || z) (whole_then T es a _
+    ∙ ap (λ z. broken_key es (whole_key a) (name_of T a) || z) (least_first _ _ (least_high _ _ (high_element T s.objs _ _ v) (least_high _ _ (high_field T s o a _ _ v) (least_high _ _ (high_slots T a (name_of T a) (slots_in (slice_get s.objs o))) (least_high _ _ (high_unwritten s.objs o (name_of T a)) (high_prototype T s (slice_get s.objs o) (name_of T a) v d)))))))
 
 pub low_remove : (T : Tables) (s : State) (o : ℕ) (a : Access) → is_low (remove_rule T s (obj o) a) ≡ not (has_slot (slice_get s.objs o) (name_of T a))
 unfolding remove_rule object_remove

@@ -1,5 +1,5 @@
 -- Acts of two checked runs, where the left one excuses the right one by a broken rule; and changes of tied objects.
-use Rattle.std.proofs.Common.{◌≡◌, ◌≢◌, ◌⊎◌, inl, inr, ℕ, zero, suc, Bool, true, false, List, [], ◌∷◌, ◌++◌, length, Option, Some, None, is_some, refl, sym, ap, subst, ◌∙◌, arith}
+use Rattle.std.proofs.Common.{◌≡◌, ◌≢◌, ◌⊎◌, inl, inr, ℕ, zero, suc, ◌<◌, Bool, true, false, List, [], ◌∷◌, ◌++◌, length, Option, Some, None, is_some, refl, sym, ap, subst, ◌∙◌, arith}
 use Rattle.std.specs.Prelude.{slice_get, slice_set}
 use Rattle.cc_ast.specs.Syntax.{Prim}
 use Rattle.cc_ast.specs.declared.tables.TypeSet.{TypeSet}
@@ -22,7 +22,7 @@ use Rattle.cc_tied.proofs.Lists.{place_cases, get_set_other}
 use Rattle.cc_tied.proofs.Sim.{Tie, World, ResT, ok_t, broken_t, Sim, fine, sim_bind, sim_ret}
 use Rattle.cc_tied.proofs.InjectTable.{in_cases, table_more, add_both, set_both, set_left}
 use Rattle.cc_tied.proofs.InjectPlaces.{places_more}
-use Rattle.cc_tied.proofs.InjectWorld.{Tabs, Ext, Mates, Mate, mates_more, Vals, val_more, ObjT, obj_more, frame_more, known_more}
+use Rattle.cc_tied.proofs.InjectWorld.{Tabs, Ext, Mates, Mate, Mated, AllMated, mates_more, Vals, val_more, ObjT, obj_more, frame_more, known_more}
 use Rattle.cc_tied.proofs.InjectTie.{Owned, with_set, TiedI, inject}
 use Rattle.cc_tied.proofs.InjectObjects.{ObjAt, obj_at, is_some_same}
 use Rattle.cc_tied.proofs.InjectTypes.{entered_both}
@@ -76,6 +76,25 @@ owned_one ps os o m h x j p (inr e) k = owned_as ps os (slice_set os m x) (sym (
 pub owned_set : (ps : List (Pair (Option Code))) (os : List Obj) → AllOwned ps os → (m : ℕ) → Mate ps m → (x : Obj) → AllOwned ps (slice_set os m x)
 owned_set ps os o m h x j p k = owned_one ps os o m h x j p (place_cases m j) k
 
+-- ---- objects of the right run, where a pair is added
+
+pub mated_on : {ps qs : List (Pair (Option Code))} → ((p : Pair (Option Code)) → In p ps → In p qs) → {n : ℕ} → Mated ps n → Mated qs n
+mated_on f h = record { label = h.label; left = h.left; mates = f _ h.mates }
+
+mated_by : (ps : List (Pair (Option Code))) (k : ℕ) (q : Pair (Option Code)) → q.right ≡ k → AllMated ps k → (n : ℕ) → (n ≡ k) ⊎ (n ≢ k) → n < suc k → Mated (q ∷ ps) n
+mated_by ps k q e h n (inl d) l = record { label = q.label; left = q.left; mates = subst (λ z. In (record { label = q.label; left = q.left; right = z }) (q ∷ ps)) (e ∙ sym d) here }
+mated_by ps k q e h n (inr d) l = mated_on (λ p i. there i) (h n (less n k d l))
+  where
+    less : (n k : ℕ) → n ≢ k → n < suc k → n < k
+    less n k d l = below (place_cases n k)
+      where
+        below : (n ≡ k) ⊎ (n ≢ k) → n < k
+        below (inl c) = absurd (d c)
+        below (inr c) = omega arith
+
+pub mated_new : (ps : List (Pair (Option Code))) (os : List Obj) (q : Pair (Option Code)) (x : Obj) → q.right ≡ length os → AllMated ps (length os) → AllMated (q ∷ ps) (length (os ++ x ∷ []))
+mated_new ps os q x e h n l = mated_by ps (length os) q e h n (place_cases n (length os)) (subst (λ z. n < z) (one_longer os x) l)
+
 module _ (F : Facts) (S : Tables) (set' : List (Path × ℕ)) where
   abbrev R : Tables
   R = with_set S set'
@@ -122,6 +141,15 @@ module _ (F : Facts) (S : Tables) (set' : List (Path × ℕ)) where
   pub judged_i : {A B : Type 0} {Q : W → A → B → Type 0} {w : W} (i i' : Spot) (a a' : Act) (m : M A) (m' : M B) → ((s t : State) → Tied w.w s t → least_broken S s a ≡ None → least_broken R t a' ≡ None) → Sim T Q w m m' → Sim T Q w (judged checked i a m) (judged checked i' a' m')
   judged_i i i' a a' m m' e h s t ti le le' = judged_in i i' a a' m m' ti (λ d. (e s t ti d, h s t ti le le'))
 
+  -- an act of the left run alone
+  pub judged_left : {A B : Type 0} {Q : W → A → B → Type 0} {w : W} (i : Spot) (a : Act) (m : M A) (m' : M B) → Sim T Q w m m' → Sim T Q w (judged checked i a m) m'
+  unfolding judged allowed
+  judged_left {Q = Q} {w = w} i a m m' h s t ti le le' = by_rule (least_broken s.tables s a)
+    where
+      by_rule : (o : Option ℕ) → ResT T Q w (allowed checked i a o m s) (m' t)
+      by_rule None = h s t ti le le'
+      by_rule (Some r) = refused_left i (is_fatal a r) r m s
+
   -- ---- objects
 
   at_both : {w : Tabs} {x : Option Code} {a b : Option Obj} → Both (ObjT F S w x) a b → ObjAt F S w a b
@@ -145,6 +173,7 @@ module _ (F : Facts) (S : Tables) (set' : List (Path × ℕ)) where
         tables' = ti.tables';
         objs = add_both (table_more ti.objs (obj_more F S e)) x.code x y (obj_more F S e x.code x y h);
         owned = owned_new w.objs s.objs q x refl ti.owned;
+        mated = mated_new w.objs t.objs q y refl ti.mated;
         frames = table_more ti.frames (frame_more F S e);
         globals = places_more (val_more e) ti.globals;
         known = λ g k d. known_more e (ti.known g k d);
@@ -165,8 +194,8 @@ module _ (F : Facts) (S : Tables) (set' : List (Path × ℕ)) where
 
   -- ---- tied objects change
 
-  pub with_objs : {w : Tabs} {s t : State} (os ps : List Obj) → Tied w s t → Table (ObjT F S w) (λ y a. a.code ≡ None) w.objs w.spare os ps → AllOwned w.objs os → Tied w (record s { objs = os }) (record t { objs = ps })
-  with_objs os ps ti h o = record { tables = ti.tables; tables' = ti.tables'; objs = h; owned = o; frames = ti.frames; globals = ti.globals; known = ti.known; loaded = ti.loaded; begun = ti.begun; failed = ti.failed; constructed = ti.constructed; handles = ti.handles; replies = ti.replies; budget = ti.budget }
+  pub with_objs : {w : Tabs} {s t : State} (os ps : List Obj) → Tied w s t → Table (ObjT F S w) (λ y a. a.code ≡ None) w.objs w.spare os ps → AllOwned w.objs os → length ps ≡ length t.objs → Tied w (record s { objs = os }) (record t { objs = ps })
+  with_objs {w = w} os ps ti h o e = record { tables = ti.tables; tables' = ti.tables'; objs = h; owned = o; mated = subst (λ z. AllMated w.objs z) (sym e) ti.mated; frames = ti.frames; globals = ti.globals; known = ti.known; loaded = ti.loaded; begun = ti.begun; failed = ti.failed; constructed = ti.constructed; handles = ti.handles; replies = ti.replies; budget = ti.budget }
 
   -- both change an object
   pub change_both : {w : Tabs} {s t : State} → Tied w s t → {m n : ℕ} → Mates w m n → (f g : Obj → Obj) → ((x : Option Code) (a b : Obj) → ObjT F S w x a b → ObjT F S w x (f a) (g b)) → Tied w (change m f s) (change n g t)
@@ -174,7 +203,7 @@ module _ (F : Facts) (S : Tables) (set' : List (Path × ℕ)) where
   change_both {w = w} {s = s} {t = t} ti {m = m} {n = n} o f g keep = by_both (slice_get s.objs m) (slice_get t.objs n) refl refl (ti.objs.tied _ o.1)
     where
       by_both : (a b : Option Obj) → slice_get s.objs m ≡ a → slice_get t.objs n ≡ b → Both (ObjT F S w o.0) a b → Tied w (record s { objs = changed_at s.objs m a f }) (record t { objs = changed_at t.objs n b g })
-      by_both _ _ e d (both {a = a} {b = b} h) = with_objs _ _ ti (set_both ti.objs _ o.1 (f a) (g b) (keep o.0 a b h) a b e d) (owned_set w.objs s.objs ti.owned m (record { label = o.0; right = n; mates = o.1 }) (f a))
+      by_both _ _ e d (both {a = a} {b = b} h) = with_objs _ _ ti (set_both ti.objs _ o.1 (f a) (g b) (keep o.0 a b h) a b e d) (owned_set w.objs s.objs ti.owned m (record { label = o.0; right = n; mates = o.1 }) (f a)) (set_length t.objs n (g b))
 
   -- the left one alone changes it
   pub change_left : {w : Tabs} {s t : State} → Tied w s t → {m n : ℕ} → Mates w m n → (f : Obj → Obj) → ((x : Option Code) (a b : Obj) → ObjT F S w x a b → ObjT F S w x (f a) b) → Tied w (change m f s) t
@@ -182,7 +211,7 @@ module _ (F : Facts) (S : Tables) (set' : List (Path × ℕ)) where
   change_left {w = w} {s = s} {t = t} ti {m = m} {n = n} o f keep = by_both (slice_get s.objs m) (slice_get t.objs n) refl refl (ti.objs.tied _ o.1)
     where
       by_both : (a b : Option Obj) → slice_get s.objs m ≡ a → slice_get t.objs n ≡ b → Both (ObjT F S w o.0) a b → Tied w (record s { objs = changed_at s.objs m a f }) t
-      by_both _ _ e d (both {a = a} {b = b} h) = with_objs (slice_set s.objs m (f a)) t.objs ti (set_left ti.objs _ o.1 (f a) b (keep o.0 a b h) a e d) (owned_set w.objs s.objs ti.owned m (record { label = o.0; right = n; mates = o.1 }) (f a))
+      by_both _ _ e d (both {a = a} {b = b} h) = with_objs (slice_set s.objs m (f a)) t.objs ti (set_left ti.objs _ o.1 (f a) b (keep o.0 a b h) a e d) (owned_set w.objs s.objs ti.owned m (record { label = o.0; right = n; mates = o.1 }) (f a)) refl
 
   pub change_t : {w : W} {m n : ℕ} → Mates w.w m n → (f g : Obj → Obj) → ((x : Option Code) (a b : Obj) → ObjT F S w.w x a b → ObjT F S w.w x (f a) (g b)) → Sim T Done w (changing (change m f)) (changing (change n g))
   unfolding changing change ret

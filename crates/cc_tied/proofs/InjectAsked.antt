@@ -9,20 +9,21 @@ use Rattle.cc_meaning.specs.Values.{Val, prim, obj, Spot}
 use Rattle.cc_meaning.specs.Operators.{list_eq}
 use Rattle.cc_meaning.specs.State.{Slot, Code, Obj, Path, State, Tables}
 use Rattle.cc_meaning.specs.Monad.{ret, ◌>>=◌, after, said, pick}
-use Rattle.cc_meaning.specs.Store.{Access, runtime, name_of, drop_slot, change, has_name}
+use Rattle.cc_meaning.specs.Store.{Access, dotted, quoted, runtime, name_of, drop_slot, change, has_name}
 use Rattle.cc_meaning.specs.SlotRules.{rule_if, rule_unless, object_remove, remove_rule, probe_rule, walk_rule}
 use Rattle.cc_meaning.specs.Rules.{unary_op, binary_op, prototype_at, binary_rule, unary_rule, operate_rule}
 use Rattle.cc_meaning.specs.Judge.{removes, probes, walks, operates, least_broken}
 use Rattle.cc_meaning.specs.Acts.{reading, changing, drop_own, dropped_from, remove, is_there, probe, names_of, walk, is_on, instance_value, operate, object_type, operate_one}
+use Rattle.cc_meaning.specs.Calls.{reach_method}
 use Rattle.cc_meaning.specs.Script.{checked}
 use Rattle.cc_tied.specs.Tied.{ListT, nil_t, cons_t, OptT, none_t, some_t, prim_t, out_t, obj_t}
 use Rattle.cc_tied.specs.Facts.{Facts}
-use Rattle.cc_tied.proofs.Sim.{Tie, World, Sim, fine}
+use Rattle.cc_tied.proofs.Sim.{Tie, World, Sim, fine, sim_ret}
 use Rattle.cc_tied.proofs.InjectWorld.{Tabs, Mates, Vals, SlotT, ObjT}
-use Rattle.cc_tied.proofs.InjectTie.{KeyI, same_key, with_set, TiedI, once, inject}
+use Rattle.cc_tied.proofs.InjectTie.{KeyI, same_key, written_key, with_set, TiedI, once, inject}
 use Rattle.cc_tied.proofs.InjectRules.{least_none, none_least, name_same, slots_none, walk_same}
 use Rattle.cc_tied.proofs.InjectObjects.{has_slot_same, slots_at, chain_at, type_same, is_none_same, found_is_value, look_up_tied, chain_of_tied, slots_on_tied, names_on_same}
-use Rattle.cc_tied.proofs.InjectActs.{judged_i, at_of, change_both}
+use Rattle.cc_tied.proofs.InjectActs.{judged_i, judged_left, at_of, change_both}
 use Rattle.cc_tied.proofs.InjectMade.{prototype_at_tied}
 use Rattle.cc_tied.proofs.InjectStore.{name_in_states}
 
@@ -84,13 +85,23 @@ module _ (F : Facts) (S : Tables) (set' : List (Path × ℕ)) where
   unfolding reading is_there has_name ret
   there_t {w = w} o c s t ti le le' = fine T _ _ (found_is_value (look_up_tied F S w.w s.objs t.objs (at_of F S set' ti) o c)) ti le le'
 
-  pub probe_none : {w : Tabs} {s t : State} → Tied w s t → {m n : ℕ} → Mates w m n → (c : List ℕ) → probe_rule S s (obj m) (runtime c) ≡ None → probe_rule R t (obj n) (runtime c) ≡ None
+  pub probe_none : {w : Tabs} {s t : State} → Tied w s t → {m n : ℕ} → Mates w m n → (c : List ℕ) (b : Bool) → probe_rule S s (obj m) (runtime c b) ≡ None → probe_rule R t (obj n) (runtime c b) ≡ None
   unfolding probe_rule name_of
-  probe_none {w = w} {s = s} {t = t} ti o c e = let at = at_of F S set' ti in slots_none S set' (same_key {a = runtime c}) c (slots_on_tied F S w s.objs t.objs at (chain_of_tied F S w s.objs t.objs at o)) e
+  probe_none {w = w} {s = s} {t = t} ti o c b e = let at = at_of F S set' ti in slots_none S set' (same_key {a = runtime c b}) c (slots_on_tied F S w s.objs t.objs at (chain_of_tied F S w s.objs t.objs at o)) e
 
   pub probe_t : {w : W} (i i' : Spot) {m n : ℕ} → Mates w.w m n → (c : List ℕ) → Sim T (λ v p q. p ≡ q) w (probe checked i (obj m) c) (probe checked i' (obj n) c)
   unfolding probe least_broken
-  probe_t i i' {m = m} {n = n} o c = judged_i F S set' i i' (probes (obj m) (runtime c)) (probes (obj n) (runtime c)) _ _ (λ s t ti e. probe_none ti o c e) (there_t o c)
+  probe_t i i' {m = m} {n = n} o c = judged_i F S set' i i' (probes (obj m) (runtime c false)) (probes (obj n) (runtime c false)) _ _ (λ s t ti e. probe_none ti o c false e) (there_t o c)
+
+  -- what is met on the way to a built-in method
+  pub reach_t : {w : W} (i i' : Spot) {x y : Val} → Vals w.w x y → {a b : Access} → KeyI a b → Sim T (λ v p q. Unit {0}) w (reach_method checked i x a) (reach_method checked i' y b)
+  unfolding reach_method least_broken
+  reach_t i i' prim_t k = sim_ret T tt tt tt
+  reach_t i i' out_t k = sim_ret T tt tt tt
+  reach_t i i' (obj_t {m = m} {n = n} o) (same_key {a = runtime c b}) = judged_i F S set' i i' (probes (obj m) (runtime c b)) (probes (obj n) (runtime c b)) _ _ (λ s t ti e. probe_none ti o c b e) (sim_ret T tt tt tt)
+  reach_t i i' (obj_t o) (same_key {a = quoted c}) = sim_ret T tt tt tt
+  reach_t i i' (obj_t o) (same_key {a = dotted p}) = sim_ret T tt tt tt
+  reach_t i i' (obj_t {m = m} o) (written_key {t = c}) = judged_left F S set' i (probes (obj m) (runtime c false)) _ _ (sim_ret T tt tt tt)
 
   walk_none : {w : Tabs} {s t : State} → Tied w s t → {m n : ℕ} → Mates w m n → walk_rule s (obj m) ≡ None → walk_rule t (obj n) ≡ None
   unfolding walk_rule
@@ -106,7 +117,7 @@ module _ (F : Facts) (S : Tables) (set' : List (Path × ℕ)) where
 
   -- ---- operators
 
-  on_same : {w : Tabs} {s t : State} → Tied w s t → {c d : List ℕ} → ListT (Mates w) c d → {p q : ℕ} → Mates w p q → list_any (λ m. nat_eq m p) c ≡ list_any (λ m. nat_eq m q) d
+  pub on_same : {w : Tabs} {s t : State} → Tied w s t → {c d : List ℕ} → ListT (Mates w) c d → {p q : ℕ} → Mates w p q → list_any (λ m. nat_eq m p) c ≡ list_any (λ m. nat_eq m q) d
   on_same ti nil_t o = refl
   on_same ti (cons_t k h) o = rw (once F S set' ti k o, on_same ti h o) refl
 

@@ -96,6 +96,7 @@ module _ (F : Facts) (S : Tables) (set' : List (Path × ℕ)) where
         tables' = ti.tables';
         objs = table_more ti.objs (obj_more F S e);
         owned = ti.owned;
+        mated = ti.mated;
         frames = table_more ti.frames (frame_more F S e);
         globals = places_more (val_more e) (places_set ti.globals n m.vals);
         known = λ g h d. known_more e (function_known ti n f u m.made k g h d (place_cases n g));

@@ -62,6 +62,7 @@ module _ (F : Facts) (S : Tables) (set' : List (Path × ℕ)) where
         tables' = ti.tables';
         objs = table_more ti.objs (obj_more F S e);
         owned = ti.owned;
+        mated = ti.mated;
         frames = add_both (table_more ti.frames (frame_more F S e)) x a b (frame_more F S e x a b h);
         globals = places_more (val_more e) ti.globals;
         known = λ g k d. known_more e (ti.known g k d);

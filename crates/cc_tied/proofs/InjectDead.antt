@@ -110,7 +110,7 @@ module _ (F : Facts) (S : Tables) (set' : List (Path × ℕ)) where
 
   global_left : {w : Tabs} {s t : State} → Tied w s t → (n : ℕ) → F.Unread n → ((h : Held) → F.Known n h → ⊥) → (u : Val) → Tied w (set_global n u s) t
   unfolding set_global
-  global_left ti n r d u = record { tables = ti.tables; tables' = ti.tables'; objs = ti.objs; owned = ti.owned; frames = ti.frames; globals = places_left ti.globals n u r; known = λ g h k. known_left ti n u d g h k (place_cases n g); loaded = ti.loaded; begun = ti.begun; failed = ti.failed; constructed = ti.constructed; handles = ti.handles; replies = ti.replies; budget = ti.budget }
+  global_left ti n r d u = record { tables = ti.tables; tables' = ti.tables'; objs = ti.objs; owned = ti.owned; mated = ti.mated; frames = ti.frames; globals = places_left ti.globals n u r; known = λ g h k. known_left ti n u d g h k (place_cases n g); loaded = ti.loaded; begun = ti.begun; failed = ti.failed; constructed = ti.constructed; handles = ti.handles; replies = ti.replies; budget = ti.budget }
 
   pub left_writes_unread : {w : W} (i : Spot) (g : Env) (n : ℕ) → F.Unread n → ((h : Held) → F.Known n h → ⊥) → (u : Val) → Quiet w (write_var checked i g (Ref.Global n) u)
   unfolding write_var

@@ -1,5 +1,5 @@
 -- Two programs whose bodies and chunks keep the injection do the same.
-use Rattle.std.proofs.Common.{◌≡◌, ◌⊎◌, inr, ℕ, zero, suc, List, [], ◌∷◌, length, map, Option, Some, None, refl, sym, ap, ◌∙◌}
+use Rattle.std.proofs.Common.{◌≡◌, ◌⊎◌, inr, ℕ, zero, suc, List, [], ◌∷◌, length, map, Option, Some, None, refl, sym, ap, ◌∙◌, arith}
 use Rattle.std.specs.Prelude.{slice_get}
 use Rattle.cc_ast.specs.Syntax.{Program}
 use Rattle.cc_ast.specs.declared.tables.GlobalInfo.{GlobalInfo}
@@ -82,6 +82,7 @@ module _ (F : Facts) (P Q : Program) (same : SameButSet P Q) where
     tables' = same.tables;
     objs = none_tied;
     owned = λ m p e. absurd (no_owner m p e);
+    mated = λ n l. absurd (omega arith);
     frames = none_tied;
     globals = none_set;
     known = λ g h k. not_known g h;

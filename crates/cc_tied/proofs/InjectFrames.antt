@@ -142,7 +142,7 @@ module _ (F : Facts) (S : Tables) (set' : List (Path × ℕ)) where
       stays m q (inr e) = get_set_other a.values n m (Some u) e ∙ h.fixed m q
 
   pub with_frames : {w : Tabs} {s t : State} (fs gs : List Frame) → Tied w s t → Table (FrameT F S w) (λ y a. a ≡ y) w.frames w.alone fs gs → Tied w (record s { frames = fs }) (record t { frames = gs })
-  with_frames fs gs ti h = record { tables = ti.tables; tables' = ti.tables'; objs = ti.objs; owned = ti.owned; frames = h; globals = ti.globals; known = ti.known; loaded = ti.loaded; begun = ti.begun; failed = ti.failed; constructed = ti.constructed; handles = ti.handles; replies = ti.replies; budget = ti.budget }
+  with_frames fs gs ti h = record { tables = ti.tables; tables' = ti.tables'; objs = ti.objs; owned = ti.owned; mated = ti.mated; frames = h; globals = ti.globals; known = ti.known; loaded = ti.loaded; begun = ti.begun; failed = ti.failed; constructed = ti.constructed; handles = ti.handles; replies = ti.replies; budget = ti.budget }
 
   frames_set : {w : Tabs} {s t : State} → Tied w s t → (x : Label) {m k : ℕ} → In (record { label = x; left = m; right = k }) w.frames → (n : ℕ) → (FixedAt F x.level n → ⊥) → {u v : Val} → Vals w u v → (a b : Option Frame) → slice_get s.frames m ≡ a → slice_get t.frames k ≡ b → Both (FrameT F S w x) a b → Table (FrameT F S w) (λ y a. a ≡ y) w.frames w.alone (frames_with s.frames m n u a) (frames_with t.frames k n v b)
   unfolding frames_with
@@ -192,7 +192,7 @@ module _ (F : Facts) (S : Tables) (set' : List (Path × ℕ)) where
 
   pub global_tied : {w : Tabs} {s t : State} → Tied w s t → (n : ℕ) → ((h : Held) → F.Known n h → ⊥) → {u v : Val} → Vals w u v → Tied w (set_global n u s) (set_global n v t)
   unfolding set_global
-  global_tied ti n d {u = u} v = record { tables = ti.tables; tables' = ti.tables'; objs = ti.objs; owned = ti.owned; frames = ti.frames; globals = places_set ti.globals n v; known = λ g h k. known_set ti n u d g h k (place_cases n g); loaded = ti.loaded; begun = ti.begun; failed = ti.failed; constructed = ti.constructed; handles = ti.handles; replies = ti.replies; budget = ti.budget }
+  global_tied ti n d {u = u} v = record { tables = ti.tables; tables' = ti.tables'; objs = ti.objs; owned = ti.owned; mated = ti.mated; frames = ti.frames; globals = places_set ti.globals n v; known = λ g h k. known_set ti n u d g h k (place_cases n g); loaded = ti.loaded; begun = ti.begun; failed = ti.failed; constructed = ti.constructed; handles = ti.handles; replies = ti.replies; budget = ti.budget }
 
   pub global_budget : (n : ℕ) (x : Val) (u : State) → (set_global n x u).budget ≡ u.budget
   unfolding set_global

@@ -151,6 +151,7 @@ module _ (F : Facts) (S : Tables) (set' : List (Path × ℕ)) where
     tables' = ti.tables';
     objs = table_more ti.objs (obj_more F S e);
     owned = ti.owned;
+    mated = ti.mated;
     frames = table_more ti.frames (frame_more F S e);
     globals = places_more (val_more e) ti.globals;
     known = λ g h k. known_more e (ti.known g h k);

@@ -52,7 +52,7 @@ module _ (F : Facts) (S : Tables) (set' : List (Path × ℕ)) where
 
   literal_set : {w : Tabs} {s t : State} → Tied w s t → (n : ℕ) (p : Prim) → ((h : Held) → F.Known n h → h ≡ holds_literal p) → Tied w (set_global n (prim p) s) (set_global n (prim p) t)
   unfolding set_global
-  literal_set ti n p u = record { tables = ti.tables; tables' = ti.tables'; objs = ti.objs; owned = ti.owned; frames = ti.frames; globals = places_set ti.globals n prim_t; known = λ g h k. literal_known ti n p u g h k (place_cases n g); loaded = ti.loaded; begun = ti.begun; failed = ti.failed; constructed = ti.constructed; handles = ti.handles; replies = ti.replies; budget = ti.budget }
+  literal_set ti n p u = record { tables = ti.tables; tables' = ti.tables'; objs = ti.objs; owned = ti.owned; mated = ti.mated; frames = ti.frames; globals = places_set ti.globals n prim_t; known = λ g h k. literal_known ti n p u g h k (place_cases n g); loaded = ti.loaded; begun = ti.begun; failed = ti.failed; constructed = ti.constructed; handles = ti.handles; replies = ti.replies; budget = ti.budget }
 
   pub set_known_t : {w : W} (i i' : Spot) {c : Ctx} {g h : Env} {r : Ref} {p : Prim} → EnvI F S set' w.w c g h → SetI F S c r p → Sim T Done w (write_var checked i g r (prim p)) (write_var checked i' h r (prim p))
   unfolding write_var

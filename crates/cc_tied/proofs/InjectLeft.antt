@@ -26,7 +26,7 @@ use Rattle.cc_tied.proofs.InjectPlaces.{places_more}
 use Rattle.cc_tied.proofs.InjectWorld.{Tabs, Ext, ext_same, KnownT, Mate, mates_more, val_more, ObjT, obj_more, FrameT, frame_more, known_more}
 use Rattle.cc_tied.proofs.InjectTie.{Owned, TiedI, inject}
 use Rattle.cc_tied.proofs.InjectTypes.{entered_old}
-use Rattle.cc_tied.proofs.InjectActs.{get_beside, one_longer, set_length, AllOwned, with_objs}
+use Rattle.cc_tied.proofs.InjectActs.{get_beside, one_longer, set_length, AllOwned, mated_on, with_objs}
 
 -- ---- prototypes of functions, where the left alone makes an object or changes one
 
@@ -155,6 +155,7 @@ module _ (F : Facts) (S : Tables) (set' : List (Path × ℕ)) where
     tables' = ti.tables';
     objs = objs;
     owned = owned;
+    mated = λ n l. mated_on e.objs (ti.mated n l);
     frames = frames;
     globals = places_more (val_more e) ti.globals;
     known = λ g h k. subst (λ z. KnownT w z g h (flat_option (slice_get s.globals g))) d (known_more e (ti.known g h k));
@@ -220,8 +221,8 @@ module _ (F : Facts) (S : Tables) (set' : List (Path × ℕ)) where
   any_changes {w = w} {s = s} {t = t} n f keep code owner ti = by_object (slice_get s.objs n) refl
     where
       by_object : (o : Option Obj) → slice_get s.objs n ≡ o → Tied w (record s { objs = changed_at s.objs n o f }) t
-      by_object None e = with_objs F S set' s.objs t.objs ti ti.objs ti.owned
-      by_object (Some o) e = with_objs F S set' (slice_set s.objs n (f o)) t.objs ti (set_any ti.objs n o (f o) e (λ x b h. keep x o b h) (λ y h. code o ∙ h)) (owned_any w.objs s.objs ti.owned n o (f o) e (owner o))
+      by_object None e = with_objs F S set' s.objs t.objs ti ti.objs ti.owned refl
+      by_object (Some o) e = with_objs F S set' (slice_set s.objs n (f o)) t.objs ti (set_any ti.objs n o (f o) e (λ x b h. keep x o b h) (λ y h. code o ∙ h)) (owned_any w.objs s.objs ti.owned n o (f o) e (owner o)) refl
 
   entered_left : {w : Tabs} (e : Element) (x : Option Code) (a b : Obj) → ObjT F S w x a b → ObjT F S w x (entered_in e a) b
   unfolding entered_in
@@ -294,7 +295,7 @@ module _ (F : Facts) (S : Tables) (set' : List (Path × ℕ)) where
       by_object : (o : Option Obj) → slice_get s.objs m ≡ o → Holds (λ a. a.code ≡ None) o → Tied w (record s { objs = changed_at s.objs m o (put_own n k v) }) t
       by_object _ e (holds {a = a} h) =
           let c : (put_own n k v a).code ≡ None = put_code n k v a ∙ h in
-          with_objs F S set' (slice_set s.objs m (put_own n k v a)) t.objs ti (set_lone ti.objs _ q (put_own n k v a) (λ y. c) a e) (owned_any w.objs s.objs ti.owned m a (put_own n k v a) e (no_owner (put_own n k v a) c ∙ sym (no_owner a h)))
+          with_objs F S set' (slice_set s.objs m (put_own n k v a)) t.objs ti (set_lone ti.objs _ q (put_own n k v a) (λ y. c) a e) (owned_any w.objs s.objs ti.owned m a (put_own n k v a) e (no_owner (put_own n k v a) c ∙ sym (no_owner a h))) refl
 
   pub left_writes : {w : W} (i : Spot) {m : ℕ} → Spare w.w (obj m) → (a : Access) (k : Kind) (v : Val) (d : Bool) → Silent Any w (write_slot checked i m a k v d)
   unfolding write_slot changing ret

@@ -20,7 +20,7 @@ use Rattle.cc_tied.proofs.InjectPlaces.{places_more, places_of_list}
 use Rattle.cc_tied.proofs.InjectWorld.{FunctionAt, a_function, Label, Tabs, Ext, Mates, mates_more, Vals, val_more, same_kind, UpT, an_up, up_more, Codes, ObjT, obj_more, FrameT, frame_more, known_more}
 use Rattle.cc_tied.proofs.InjectTie.{StandI, stands_at, EnvI, env_at, with_set, TiedI, inject}
 use Rattle.cc_tied.proofs.InjectObjects.{chain_of_tied, prototype_tied}
-use Rattle.cc_tied.proofs.InjectActs.{one_longer, owned_new, at_of, add_t}
+use Rattle.cc_tied.proofs.InjectActs.{one_longer, owned_new, mated_new, at_of, add_t}
 
 prototype_object_tied : {O : ℕ → ℕ → Type 0} {x y : Option Val} → OptT (ValT O) x y → OptT O (prototype_object x) (prototype_object y)
 unfolding prototype_object
@@ -155,6 +155,7 @@ module _ (F : Facts) (S : Tables) (set' : List (Path × ℕ)) where
       tables' = ti.tables';
       objs = add_both (add_both (table_more ti.objs (obj_more F S e)) None bare bare (bare_t None None none_t)) (Some c) (function_object c (length s.objs)) (function_object c' (length t.objs)) (record { label = refl; class = refl; chain = nil_t; slots = cons_t (record { name = refl; kind = same_kind; value = obj_t (None, there here); index = λ d. absurd (cc) }) nil_t; code = some_t k; elements = none_t; wanted = λ e q. q });
       owned = owned_new (proto_pair s t ∷ w.objs) (s.objs ++ bare ∷ []) (function_pair c s t) (function_object c (length s.objs)) refl (owned_new w.objs s.objs (proto_pair s t) bare refl ti.owned);
+      mated = mated_new (proto_pair s t ∷ w.objs) (t.objs ++ bare ∷ []) (function_pair c s t) (function_object c' (length t.objs)) refl (mated_new w.objs t.objs (proto_pair s t) bare refl ti.mated);
       frames = frames;
       globals = places_more (val_more e) ti.globals;
       known = λ g h d. known_more e (ti.known g h d);
@@ -269,7 +270,7 @@ module _ (F : Facts) (S : Tables) (set' : List (Path × ℕ)) where
   class_in_states ti f = ap (λ z. class_of_function z f) ti.tables ∙ class_same f ∙ sym (ap (λ z. class_of_function z f) ti.tables')
 
   with_constructed : {w : Tabs} {s t : State} (o p : Option ℕ) → o ≡ p → Tied w s t → Tied w (record s { constructed = note_constructed o s.constructed }) (record t { constructed = note_constructed p t.constructed })
-  with_constructed {s = s} {t = t} o p e ti = record { tables = ti.tables; tables' = ti.tables'; objs = ti.objs; owned = ti.owned; frames = ti.frames; globals = ti.globals; known = ti.known; loaded = ti.loaded; begun = ti.begun; failed = ti.failed; constructed = λ c h. noted_both o s.constructed t.constructed ti.constructed c (subst (λ z. Among c (note_constructed z t.constructed)) (sym e) h); handles = ti.handles; replies = ti.replies; budget = ti.budget }
+  with_constructed {s = s} {t = t} o p e ti = record { tables = ti.tables; tables' = ti.tables'; objs = ti.objs; owned = ti.owned; mated = ti.mated; frames = ti.frames; globals = ti.globals; known = ti.known; loaded = ti.loaded; begun = ti.begun; failed = ti.failed; constructed = λ c h. noted_both o s.constructed t.constructed ti.constructed c (subst (λ z. Among c (note_constructed z t.constructed)) (sym e) h); handles = ti.handles; replies = ti.replies; budget = ti.budget }
 
   instance_one : {w : W} {m n : ℕ} → Mates w.w m n → (f : ℕ) → Sim T (λ v. Vals v.w) w (make_instance m f) (make_instance n f)
   unfolding make_instance

@@ -1,16 +1,16 @@
 -- Objects of two runs that are tied by an injection: what is found on them.
 use Rattle.std.proofs.Common.{◌≡◌, ℕ, suc, Bool, true, false, List, ◌++◌, map, Option, Some, None, is_some, refl, ap, ◌∙◌}
-use Rattle.std.specs.Prelude.{slice_get, pos, is_none, ◌&&◌}
+use Rattle.std.specs.Prelude.{slice_get, pos, is_none, ◌&&◌, ◌||◌}
 use Rattle.cc_ast.specs.Syntax.{Prim, whole}
 use Rattle.cc_meaning.specs.Values.{Val, prim}
-use Rattle.cc_meaning.specs.Operators.{list_eq}
-use Rattle.cc_meaning.specs.Names.{index_value, name_prototype, name_length, name_call, name_hasOwnProperty}
+use Rattle.cc_meaning.specs.Operators.{list_eq, is_in}
+use Rattle.cc_meaning.specs.Names.{index_value, name_prototype, name_length, name_call, name_hasOwnProperty, common_names, standard_array_names, unwritten_names}
 use Rattle.cc_meaning.specs.Builtins.{ArrayUse, array_method}
 use Rattle.cc_meaning.specs.State.{Slot, Code, Obj, Tables}
 use Rattle.cc_meaning.specs.Monad.{pick}
 use Rattle.cc_meaning.specs.Store.{find_slot, at_index, find_element, first_of, find_own, own_value, Use, has_own, Found, found_value, found_use, nothing_found, array_found, built_here, found_here, found_at, found_on, chain_in, chain_of, look_up, is_found_value, value_found, slots_in, slots_on, element_names, names_of_elements, own_names, fresh_names, names_on}
 use Rattle.cc_meaning.specs.Typed.{elements_in, class_in}
-use Rattle.cc_meaning.specs.SlotRules.{is_function, meets_function, unfound_rule, function_rule, has_slot, prototype_of_function}
+use Rattle.cc_meaning.specs.SlotRules.{is_function, meets_function, has_function, has_array, rule_if, unfound_rule, unwritten_rule, function_rule, has_slot, prototype_of_function}
 use Rattle.cc_meaning.specs.Acts.{object_type}
 use Rattle.cc_meaning.specs.Calls.{code_in, use_found}
 use Rattle.cc_tied.specs.Tied.{ListT, nil_t, cons_t, OptT, none_t, some_t, ValT, prim_t}
@@ -44,12 +44,6 @@ module _ {O : ℕ → ℕ → Type 0} where
   found_use_same (value_found_t h) = refl
   found_use_same use_found_t = refl
   found_use_same nothing_found_t = refl
-
-  pub unfound_same : (n : List ℕ) {a b : Found} → FoundT (ValT O) a b → unfound_rule n a ≡ unfound_rule n b
-  unfolding unfound_rule
-  unfound_same n (value_found_t h) = refl
-  unfound_same n use_found_t = refl
-  unfound_same n nothing_found_t = refl
 
   pick_opt : (b : Bool) {x y z u : Option Val} → OptT (ValT O) x y → OptT (ValT O) z u → OptT (ValT O) (pick b x z) (pick b y u)
   pick_opt true h k = h
@@ -226,6 +220,26 @@ module _ (F : Facts) (S : Tables) (w : Tabs) where
     unfolding meets_function
     meets_same n nil_t = refl
     meets_same n (cons_t o t) = rw (is_function_same (at _ _ o), is_none_same (value_at (at _ _ o) n), meets_same n t) refl
+
+    has_array_same : {c d : List ℕ} → ListT (Mates w) c d → has_array os c ≡ has_array ps d
+    unfolding has_array
+    has_array_same nil_t = refl
+    has_array_same (cons_t o t) = rw (is_some_same (elements_at (at _ _ o)), has_array_same t) refl
+
+    has_function_same : {c d : List ℕ} → ListT (Mates w) c d → has_function os c ≡ has_function ps d
+    unfolding has_function
+    has_function_same nil_t = refl
+    has_function_same (cons_t o t) = rw (is_function_same (at _ _ o), has_function_same t) refl
+
+    pub unfound_same : {c d : List ℕ} → ListT (Mates w) c d → (n : List ℕ) {a b : Found} → FoundT (Vals w) a b → unfound_rule os c n a ≡ unfound_rule ps d n b
+    unfolding unfound_rule
+    unfound_same h n (value_found_t v) = refl
+    unfound_same h n use_found_t = refl
+    unfound_same h n nothing_found_t = ap (λ z. rule_if (is_in n common_names || (is_in n standard_array_names && z)) 10) (has_array_same h)
+
+    pub unwritten_same : {m n : ℕ} → Mates w m n → (t : List ℕ) → unwritten_rule os m t ≡ unwritten_rule ps n t
+    unfolding unwritten_rule
+    unwritten_same o t = ap (λ z. rule_if (is_in t unwritten_names && z) 10) (has_function_same (chain_of_tied o))
 
     pub function_rule_same : {m n : ℕ} → Mates w m n → (t : List ℕ) → function_rule os m t ≡ function_rule ps n t
     unfolding function_rule

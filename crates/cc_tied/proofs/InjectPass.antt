@@ -69,7 +69,7 @@ module _ (F : Facts) (P Q : Program) (none : HasNoPaths P) (built : Ref → Bool
 
 module _ (P : Program) where
   pub mention_sound : (f k : ℕ) (r : Ref) → Reached P f → IsPart P f (mentions k r) → IsSound P f k r
-  mention_sound f k r h (a_mention _ _ s) = s h
+  mention_sound f k r h (a_mention _ _ n s) = s h
 
   pub declared_sound : (f k : ℕ) (r : Ref) → Reached P f → IsPart P f (declares k r) → IsSound P f k r
   declared_sound f k r h (a_declaration _ _ p s) = s h

@@ -122,7 +122,7 @@ module _ (F : Facts) (S : Tables) (set' : List (Path × ℕ)) where
 
   left_probes : {w : W} (i : Spot) (x : Val) (n : List ℕ) → Quiet w (probe checked i x n)
   unfolding probe
-  left_probes i x n = silent_judged F S set' i (probes x (runtime n)) _ (quiet_reading _)
+  left_probes i x n = silent_judged F S set' i (probes x (runtime n false)) _ (quiet_reading _)
 
   left_operates : {w : W} (i : Spot) (op : BinOp) (a b : Val) → Quiet w (operate checked i op a b)
   unfolding operate

@@ -3,13 +3,14 @@ use Rattle.std.proofs.Common.{◌≡◌, ℕ, Bool, true, false, List, [], ◌�
 use Rattle.std.specs.Prelude.{◌&&◌, ◌||◌}
 use Rattle.std.specs.List.{list_any}
 use Rattle.std.proofs.lemmas.Bool.{eqb-true}
+use Rattle.cc_meaning.specs.Values.{Val}
 use Rattle.cc_meaning.specs.Operators.{list_eq, is_in}
 use Rattle.cc_meaning.specs.Names.{is_index}
 use Rattle.cc_meaning.specs.State.{Kind, kept_kind, indexed_kind, dotted_kind, quoted_kind, keyed_kind, Slot, Path, Tables}
 use Rattle.cc_meaning.specs.Monad.{pick}
 use Rattle.cc_meaning.specs.Store.{Access, dotted, quoted, runtime, name_of, is_kept, kind_by, kind_for}
-use Rattle.cc_meaning.specs.SlotRules.{least, rule_if, rule_unless, dotted_rule, is_dotted, slot_rule, slots_rule, outside_rule, walk_slots, is_dot}
-use Rattle.cc_tied.specs.Tied.{ListT, nil_t, cons_t}
+use Rattle.cc_meaning.specs.SlotRules.{least, rule_if, rule_unless, dotted_rule, is_dotted, slot_rule, slots_rule, outside_rule, walk_slots, whole_key_rule, is_dot}
+use Rattle.cc_tied.specs.Tied.{ListT, nil_t, cons_t, OptT, none_t, some_t}
 use Rattle.cc_tied.proofs.InjectWorld.{KindT, same_kind, written_kind, SlotT}
 use Rattle.cc_tied.proofs.InjectTie.{KeyI, same_key, written_key, with_set}
 
@@ -101,6 +102,16 @@ made_index true i made e = absurd (cc)
 made_index false true made e = absurd (cc)
 made_index false false made e = refl
 
+-- ---- keys of arrays
+
+pub whole_key_none : {V : Val → Val → Type 0} {x y : Option (List Val)} → OptT (ListT V) x y → {a b : Access} → KeyI a b → whole_key_rule x a ≡ None → whole_key_rule y b ≡ None
+unfolding whole_key_rule
+whole_key_none none_t k e = refl
+whole_key_none (some_t h) (same_key {a = dotted p}) e = refl
+whole_key_none (some_t h) (same_key {a = quoted t}) e = refl
+whole_key_none (some_t h) (same_key {a = runtime t w}) e = e
+whole_key_none (some_t h) written_key e = refl
+
 module _ (S : Tables) (set' : List (Path × ℕ)) where
   abbrev R : Tables
   R = with_set S set'
@@ -109,7 +120,7 @@ module _ (S : Tables) (set' : List (Path × ℕ)) where
   unfolding name_of
   name_table (dotted p) = refl
   name_table (quoted t) = refl
-  name_table (runtime t) = refl
+  name_table (runtime t w) = refl
 
   pub name_same : {a b : Access} → KeyI a b → name_of S a ≡ name_of R b
   unfolding name_of
@@ -144,7 +155,7 @@ module _ (S : Tables) (set' : List (Path × ℕ)) where
   unfolding slot_rule is_kept
   same_slot (dotted p) n m h e = pick_none (is_in n S.kept) (dotted_none n m h) e
   same_slot (quoted t) n m h e = rw (← dotted_same h) e
-  same_slot (runtime t) n m h e = rw (← dotted_same h) e
+  same_slot (runtime t w) n m h e = rw (← dotted_same h) e
 
   -- a key of the left run that the right has written
   written_by : (i d q : Bool) (n m : List ℕ) → (i ≡ true → list_eq m n ≡ true → d ≡ false) → pick i None (rule_if d 8) ≡ None → d && list_eq m n ≡ false
@@ -157,7 +168,7 @@ module _ (S : Tables) (set' : List (Path × ℕ)) where
       by_name true e = f refl e
       by_name false e = refl
 
-  written_slot : (t n m : List ℕ) {k k' : Kind} → KindT k k' → (k ≡ dotted_kind → is_index m ≡ false) → slot_rule S (runtime t) n k m ≡ None → slot_rule R (quoted t) n k' m ≡ None
+  written_slot : (t n m : List ℕ) {k k' : Kind} → KindT k k' → (k ≡ dotted_kind → is_index m ≡ false) → slot_rule S (runtime t false) n k m ≡ None → slot_rule R (quoted t) n k' m ≡ None
   unfolding slot_rule
   written_slot t n m {k = k} h index e = rw (← dotted_same h) (none_if 7 (written_by (is_index n) (is_dotted k) true n m (λ i q. no_index (is_dotted k) refl i q) e))
     where

@@ -17,8 +17,8 @@ use Rattle.cc_tied.specs.Facts.{Facts}
 use Rattle.cc_tied.proofs.Sim.{Tie, World, ResT, Sim, fine, sim_bind, sim_ret}
 use Rattle.cc_tied.proofs.InjectWorld.{Tabs, Mates, Vals, val_more, SlotT, ObjT}
 use Rattle.cc_tied.proofs.InjectTie.{KeyI, with_set, TiedI, inject}
-use Rattle.cc_tied.proofs.InjectRules.{least_none, none_least, unless_none, none_unless, name_same, slots_none, outside_none}
-use Rattle.cc_tied.proofs.InjectObjects.{found_value_tied, found_use_same, unfound_same, look_up_tied, chain_of_tied, slots_on_tied, function_rule_same}
+use Rattle.cc_tied.proofs.InjectRules.{least_none, none_least, unless_none, none_unless, name_same, whole_key_none, slots_none, outside_none}
+use Rattle.cc_tied.proofs.InjectObjects.{elements_at, found_value_tied, found_use_same, unfound_same, look_up_tied, chain_of_tied, slots_on_tied, function_rule_same}
 use Rattle.cc_tied.proofs.InjectTypes.{of_all_types_same, fields_reached_same}
 use Rattle.cc_tied.proofs.InjectActs.{judged_i, at_of, receive_all_t}
 
@@ -76,10 +76,11 @@ module _ (F : Facts) (S : Tables) (set' : List (Path × ℕ)) where
   object_read_none {w = w} {s = s} {t = t} ti {m = m} {n = n} o {a = a} {b = b} k c h =
       let at = at_of F S set' ti in
       let found = look_up_tied F S w s.objs t.objs at o c in
-      let p = least_none _ _ h in let q = least_none _ _ p.1 in let r = least_none _ _ q.1 in
-      none_least (field_none ti o k c c _ _ (found_value_tied found) q.0 p.0)
+      let whole = least_none _ _ h in let p = least_none _ _ whole.1 in let q = least_none _ _ p.1 in let r = least_none _ _ q.1 in
+      none_least (whole_key_none (elements_at F S w (at m n o)) k whole.0)
+      (none_least (field_none ti o k c c _ _ (found_value_tied found) q.0 p.0)
       (none_least (slots_none S set' k c (slots_on_tied F S w s.objs t.objs at (chain_of_tied F S w s.objs t.objs at o)) q.0)
-      (none_least (sym (function_rule_same F S w s.objs t.objs at o c) ∙ r.0) (sym (unfound_same c found) ∙ r.1)))
+      (none_least (sym (function_rule_same F S w s.objs t.objs at o c) ∙ r.0) (sym (unfound_same F S w s.objs t.objs at (chain_of_tied F S w s.objs t.objs at o) c found) ∙ r.1))))
 
   pub read_none : {w : Tabs} {s t : State} → Tied w s t → {x y : Val} → Vals w x y → {a b : Access} → KeyI a b → read_rule S s x a ≡ None → read_rule R t y b ≡ None
   unfolding read_rule

@@ -22,7 +22,7 @@ use Rattle.cc_tied.specs.Injection.{Pair, Table}
 use Rattle.cc_tied.proofs.Sim.{Tie, World, PayT, both_pay, neither, excuse}
 use Rattle.cc_tied.proofs.EqualModes.{SameEnd, same_end}
 use Rattle.cc_tied.proofs.InjectPlaces.{Places}
-use Rattle.cc_tied.proofs.InjectWorld.{Tabs, Ext, ext_same, ext_on, Mates, Mate, mates_more, Vals, val_more, opt_more, UpT, no_up, up_more, FunI, Codes, ObjT, FrameT, KnownT}
+use Rattle.cc_tied.proofs.InjectWorld.{Tabs, Ext, ext_same, ext_on, Mates, Mate, AllMated, mates_more, Vals, val_more, opt_more, UpT, no_up, up_more, FunI, Codes, ObjT, FrameT, KnownT}
 
 -- what stays tied, while functions are bound to no global
 pub record ExtI (v w : Tabs) : Type 0 where
@@ -60,7 +60,7 @@ pub record DeclaresI (d d' : List ℕ) : Type 0 where
 -- one key, or a text that the right has written
 pub data KeyI : Access → Access → Type 0 where
   same_key : {a : Access} → KeyI a a
-  written_key : {t : List ℕ} → KeyI (runtime t) (quoted t)
+  written_key : {t : List ℕ} → KeyI (runtime t false) (quoted t)
 
 pub data ThisI : Ctx → Type 0 where
   this_at : {o : Option ℕ} {c : ℕ} → ThisI (at o c)
@@ -110,6 +110,8 @@ module _ (F : Facts) (S : Tables) (set' : List (Path × ℕ)) where
     pub objs : Table (ObjT F S w) (λ y a. a.code ≡ None) w.objs w.spare s.objs t.objs
     -- the prototype of a function of the left alone isn't tied
     pub owned : (m p : ℕ) → prototype_of_function (slice_get s.objs m) ≡ Some (obj p) → Owned w.objs s.objs m p
+    -- the right alone makes no object
+    pub mated : AllMated w.objs (length t.objs)
     pub frames : Table (FrameT F S w) (λ y a. a ≡ y) w.frames w.alone s.frames t.frames
     pub globals : Places (Vals w) F.Unread s.globals t.globals
     pub known : (g : ℕ) (h : Held) → F.Known g h → KnownT w w.still g h (flat_option (slice_get s.globals g))
@@ -123,7 +125,7 @@ module _ (F : Facts) (S : Tables) (set' : List (Path × ℕ)) where
     pub budget : s.budget ≡ t.budget
 
   pub with_budget : {w : Tabs} {s t : State} (b c : ℕ) → b ≡ c → TiedI w s t → TiedI w (record s { budget = b }) (record t { budget = c })
-  with_budget b c e h = record { tables = h.tables; tables' = h.tables'; objs = h.objs; owned = h.owned; frames = h.frames; globals = h.globals; known = h.known; loaded = h.loaded; begun = h.begun; failed = h.failed; constructed = h.constructed; handles = h.handles; replies = h.replies; budget = e }
+  with_budget b c e h = record { tables = h.tables; tables' = h.tables'; objs = h.objs; owned = h.owned; mated = h.mated; frames = h.frames; globals = h.globals; known = h.known; loaded = h.loaded; begun = h.begun; failed = h.failed; constructed = h.constructed; handles = h.handles; replies = h.replies; budget = e }
 
   pay_one : {w : Tabs} {s t : State} → TiedI w s t → (o : Option ℕ) → PayT (TiedI w) ⊥ ⊥ s t o o
   pay_one h None = neither
@@ -133,7 +135,7 @@ module _ (F : Facts) (S : Tables) (set' : List (Path × ℕ)) where
   pay_tied {w = w} {s = s} {t = t} h = subst (λ z. PayT (TiedI w) ⊥ ⊥ s t (paid 1 s.budget) (paid 1 z)) h.budget (pay_one h (paid 1 s.budget))
 
   pub replied : {w : Tabs} {s t : State} (rs : List Reply) → TiedI w s t → TiedI w (record s { replies = rs }) (record t { replies = rs })
-  replied rs h = record { tables = h.tables; tables' = h.tables'; objs = h.objs; owned = h.owned; frames = h.frames; globals = h.globals; known = h.known; loaded = h.loaded; begun = h.begun; failed = h.failed; constructed = h.constructed; handles = h.handles; replies = refl; budget = h.budget }
+  replied rs h = record { tables = h.tables; tables' = h.tables'; objs = h.objs; owned = h.owned; mated = h.mated; frames = h.frames; globals = h.globals; known = h.known; loaded = h.loaded; begun = h.begun; failed = h.failed; constructed = h.constructed; handles = h.handles; replies = refl; budget = h.budget }
 
   -- ---- environments
 
@@ -243,7 +245,7 @@ module _ (F : Facts) (S : Tables) (set' : List (Path × ℕ)) where
     loaded_later = λ l h. h;
     new_value = λ h. h;
     runs_code = λ h. h;
-    key_runtime = λ x t. same_key;
+    key_runtime = λ x v e. same_key;
     key_quoted = λ x h. same_key;
     key_written = λ x h. written_key;
     env_top = λ l d. env_top d;

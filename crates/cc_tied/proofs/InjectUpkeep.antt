@@ -32,7 +32,7 @@ use Rattle.cc_tied.proofs.InjectActs.{judged_in, judged_i, stopped_left, at_of}
 use Rattle.cc_tied.proofs.InjectMade.{any_front, object_t, array_t, function_t, instance_t}
 use Rattle.cc_tied.proofs.InjectStore.{read_none, read_slot_t, method_same, method_read_t}
 use Rattle.cc_tied.proofs.InjectWrites.{out_none, write_slot_t, write_t}
-use Rattle.cc_tied.proofs.InjectAsked.{remove_t, probe_t, walk_t, instance_of_t, typeof_t}
+use Rattle.cc_tied.proofs.InjectAsked.{remove_t, probe_t, reach_t, walk_t, instance_of_t, typeof_t}
 use Rattle.cc_tied.proofs.InjectUses.{use_t}
 use Rattle.cc_tied.proofs.InjectFrames.{read_var_t, write_var_t}
 use Rattle.cc_tied.proofs.InjectKnown.{set_known_t}
@@ -99,7 +99,7 @@ module _ (F : Facts) (S : Tables) (set' : List (Path × ℕ)) where
   shown_t : {w : W} (o : Option ℕ) {m n : ℕ} → Mates w.w m n → Sim T (λ v a b. a ≡ b) w (shown o m) (shown o n)
   unfolding shown ret
   shown_t (Some h) o s t ti le le' = fine T _ _ refl ti le le'
-  shown_t None o s t ti le le' = fine T _ _ (ap handle (tied_length ti.handles)) (record { tables = ti.tables; tables' = ti.tables'; objs = ti.objs; owned = ti.owned; frames = ti.frames; globals = ti.globals; known = ti.known; loaded = ti.loaded; begun = ti.begun; failed = ti.failed; constructed = ti.constructed; handles = list_on ti.handles (cons_t o nil_t); replies = ti.replies; budget = ti.budget }) le le'
+  shown_t None o s t ti le le' = fine T _ _ (ap handle (tied_length ti.handles)) (record { tables = ti.tables; tables' = ti.tables'; objs = ti.objs; owned = ti.owned; mated = ti.mated; frames = ti.frames; globals = ti.globals; known = ti.known; loaded = ti.loaded; begun = ti.begun; failed = ti.failed; constructed = ti.constructed; handles = list_on ti.handles (cons_t o nil_t); replies = ti.replies; budget = ti.budget }) le le'
 
   show_t : {w : W} {a b : Val} → Vals w.w a b → Sim T (λ v a b. a ≡ b) w (show a) (show b)
   unfolding show ret
@@ -119,7 +119,7 @@ module _ (F : Facts) (S : Tables) (set' : List (Path × ℕ)) where
 
   load_t : {w : W} (c : ℕ) → Sim T Done w (changing (note_load c)) (changing (note_load c))
   unfolding changing note_load ret
-  load_t c s t ti le le' = fine T tt tt tt (record { tables = ti.tables; tables' = ti.tables'; objs = ti.objs; owned = ti.owned; frames = ti.frames; globals = ti.globals; known = ti.known; loaded = ap (λ z. z ++ c ∷ []) ti.loaded; begun = λ d q. still_loaded s c d (ti.begun d q); failed = ti.failed; constructed = ti.constructed; handles = ti.handles; replies = ti.replies; budget = ti.budget }) le le'
+  load_t c s t ti le le' = fine T tt tt tt (record { tables = ti.tables; tables' = ti.tables'; objs = ti.objs; owned = ti.owned; mated = ti.mated; frames = ti.frames; globals = ti.globals; known = ti.known; loaded = ap (λ z. z ++ c ∷ []) ti.loaded; begun = λ d q. still_loaded s c d (ti.begun d q); failed = ti.failed; constructed = ti.constructed; handles = ti.handles; replies = ti.replies; budget = ti.budget }) le le'
 
   host_none : {w : Tabs} {s t : State} → Tied w s t → (given : Bool) (b b' c c' : Bool) → b ≡ b' → c ≡ c' → rule_unless (given && b && not c) 13 ≡ None → rule_unless (given && b' && not c') 13 ≡ None
   host_none ti given b b' c c' e d h = rw (← e, ← d) h
@@ -129,7 +129,7 @@ module _ (F : Facts) (S : Tables) (set' : List (Path × ℕ)) where
   loading_t i i' c s t ti le le' = judged_in F S set' i i' (hosts true None None (dependency_failed s c)) (hosts true None None (dependency_failed t c)) (changing (note_load c)) (changing (note_load c)) ti (λ e. (host_none ti true true true (dependency_failed s c) (dependency_failed t c) refl (failed_same ti c) e, load_t c s t ti le le'))
 
   failed_t : {w : Tabs} {s t : State} (c : ℕ) → Tied w s t → Tied w (record s { failed = s.failed ++ c ∷ [] }) (record t { failed = t.failed ++ c ∷ [] })
-  failed_t c ti = record { tables = ti.tables; tables' = ti.tables'; objs = ti.objs; owned = ti.owned; frames = ti.frames; globals = ti.globals; known = ti.known; loaded = ti.loaded; begun = ti.begun; failed = ap (λ z. z ++ c ∷ []) ti.failed; constructed = ti.constructed; handles = ti.handles; replies = ti.replies; budget = ti.budget }
+  failed_t c ti = record { tables = ti.tables; tables' = ti.tables'; objs = ti.objs; owned = ti.owned; mated = ti.mated; frames = ti.frames; globals = ti.globals; known = ti.known; loaded = ti.loaded; begun = ti.begun; failed = ap (λ z. z ++ c ∷ []) ti.failed; constructed = ti.constructed; handles = ti.handles; replies = ti.replies; budget = ti.budget }
 
   names_same : {w : Tabs} {s t : State} → Tied w s t → {m n : ℕ} → Mates w m n → (c : List ℕ) → names_well S s (Some (obj m)) (Some c) ≡ names_well R t (Some (obj n)) (Some c)
   unfolding names_well is_kept
@@ -169,6 +169,7 @@ module _ (F : Facts) (S : Tables) (set' : List (Path × ℕ)) where
     up_typeof = λ i o. typeof_t F S set' _ _ o;
     up_method = λ ti x k. method_same F S set' ti x k;
     up_method_read = λ i x k. method_read_t F S set' _ _ x k;
+    up_reach_method = λ i x k. reach_t F S set' _ _ x k;
     up_use = λ {w} B B' i u vs h. use_t F S set' B B' _ _ w h u vs;
     up_prim_read = λ i k. prim_read_t _ _ _ k;
     up_out_read = λ i k f. out_read_t _ _ _ k (f (name_same S set' k));

@@ -187,7 +187,7 @@ module _ (F : Facts) (S : Tables) (set' : List (Path × ℕ)) where
     perform_t (value_b h) = sim_ret T _ _ h
     perform_t (change_b o h k) = sim_bind T {R = Done} (change_t F S set' o _ _ (elements_tied k.elements)) (λ v l _ _ _. answer_t (answer_later l.2.ext k.answer))
     perform_t (object_b h) = from_t h
-    perform_t (question_b {m = m} {n = n} o x) = judged_i F S set' i i' (probes (obj m) (runtime x)) (probes (obj n) (runtime x)) _ _ (λ s t ti e. probe_none F S set' ti o x e) (question_t o x)
+    perform_t (question_b {m = m} {n = n} o x) = judged_i F S set' i i' (probes (obj m) (runtime x false)) (probes (obj n) (runtime x false)) _ _ (λ s t ti e. probe_none F S set' ti o x false e) (question_t o x)
     perform_t (call_b o v k) = call_t _ _ _ _ _ _ o v k
     perform_t (breaks_b {r = r}) = stopped_left F S set' r i _
 

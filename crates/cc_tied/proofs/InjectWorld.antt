@@ -1,5 +1,5 @@
 -- What is tied in a world: objects and frames by partial injections, values by their objects.
-use Rattle.std.proofs.Common.{◌≡◌, ℕ, false, List, Option, Some, None}
+use Rattle.std.proofs.Common.{◌≡◌, ℕ, ◌<◌, false, List, Option, Some, None}
 use Rattle.std.specs.Prelude.{slice_get}
 use Rattle.cc_ast.specs.Syntax.{Prim}
 use Rattle.cc_ast.specs.declared.tables.Element.{Element}
@@ -56,6 +56,15 @@ pub record Mate (ps : List (Pair (Option Code))) (m : ℕ) : Type 0 where
   pub label : Option Code
   pub right : ℕ
   pub mates : In (record { label = label; left = m; right = right }) ps
+
+-- an object of the right run that is tied to one of the left; and each of the first ones is
+pub record Mated (ps : List (Pair (Option Code))) (n : ℕ) : Type 0 where
+  pub label : Option Code
+  pub left : ℕ
+  pub mates : In (record { label = label; left = left; right = n }) ps
+
+abbrev pub AllMated : List (Pair (Option Code)) → (count : ℕ) → Type 0
+AllMated ps k = (n : ℕ) → n < k → Mated ps n
 
 abbrev pub Vals : Tabs → Val → Val → Type 0
 Vals w = ValT (Mates w)

@@ -1,5 +1,5 @@
 -- Writes to tied objects keep the injection.
-use Rattle.std.proofs.Common.{◌≡◌, ◌⊎◌, inl, inr, ℕ, zero, suc, Bool, true, false, List, [], ◌∷◌, length, Option, Some, None, is_some, refl, sym, ap, subst, ◌∙◌}
+use Rattle.std.proofs.Common.{◌≡◌, ◌⊎◌, inl, inr, ℕ, zero, suc, ◌<◌, arith, Bool, true, false, List, [], ◌∷◌, length, Option, Some, None, is_some, refl, sym, ap, subst, ◌∙◌}
 use Rattle.std.specs.Prelude.{slice_get, nat_eq, nat_lt, not, ◌&&◌, ◌||◌}
 use Rattle.std.specs.List.{list_any}
 use Rattle.std.proofs.lemmas.Bool.{eqb-true}
@@ -10,10 +10,10 @@ use Rattle.cc_meaning.specs.Names.{is_index, index_value, name_proto, name_proto
 use Rattle.cc_meaning.specs.State.{Kind, dotted_kind, Slot, Code, Obj, Path, State, Tables}
 use Rattle.cc_meaning.specs.Monad.{ret, pick}
 use Rattle.cc_meaning.specs.Store.{Access, name_of, kind_by, kind_for, find_slot, set_slot, set_element, put_in_array, put_by, put_own, change, class_of_function}
-use Rattle.cc_meaning.specs.SlotRules.{rule_if, array_write_rule, element_rule, prototype_of_function, has_function, is_object, is_prototype_of, extended, function_in, begins_with, empty, fits_extended, fits_class, no_slots, without_slots, declares_well, code_rule, prototype_rule, object_write, write_rule}
+use Rattle.cc_meaning.specs.SlotRules.{rule_if, array_write_rule, element_rule, prototype_of_function, is_code_of, is_object, is_prototype_of, extended, function_in, is_prototype_of_class, fits_extended, fits_class, no_slots, without_slots, is_off_chains, declares_well, code_rule, prototype_rule, object_write, write_rule}
 use Rattle.cc_meaning.specs.Judge.{writes, least_broken}
 use Rattle.cc_meaning.specs.Acts.{changing, write_slot}
-use Rattle.cc_meaning.specs.Calls.{code_at, is_code_of, declares_on}
+use Rattle.cc_meaning.specs.Calls.{code_at, declares_on}
 use Rattle.cc_meaning.specs.Script.{checked}
 use Rattle.cc_meaning.specs.Alike.{In, here, there}
 use Rattle.cc_tied.specs.Tied.{ListT, nil_t, cons_t, OptT, none_t, some_t, ValT, prim_t, out_t, obj_t}
@@ -23,11 +23,12 @@ use Rattle.cc_tied.proofs.Lists.{tied_set, tied_push, tied_length}
 use Rattle.cc_tied.proofs.Sim.{Tie, World, Sim, fine, sim_bind}
 use Rattle.cc_tied.proofs.InjectWorld.{Tabs, Mates, Mate, mates_more, Vals, val_more, KindT, SlotT, Codes, ObjT}
 use Rattle.cc_tied.proofs.InjectTie.{Owned, DeclaresI, KeyI, with_set, TiedI, once, inject}
-use Rattle.cc_tied.proofs.InjectRules.{least_none, none_least, unless_none, none_unless, and_true, true_and, kind_by_tied, name_same, kind_for_tied, kind_for_index, slots_none, outside_none}
-use Rattle.cc_tied.proofs.InjectObjects.{ObjAt, obj_at, slot_found, elements_at, slots_at, chain_at, code_at_tied, prototype_tied, is_some_same}
+use Rattle.cc_tied.proofs.InjectRules.{least_none, none_least, unless_none, none_unless, and_true, true_and, kind_by_tied, name_same, kind_for_tied, kind_for_index, whole_key_none, slots_none, outside_none}
+use Rattle.cc_tied.proofs.InjectObjects.{ObjAt, obj_at, slot_found, elements_at, slots_at, chain_at, code_at_tied, prototype_tied, is_some_same, unwritten_same}
 use Rattle.cc_tied.proofs.InjectTypes.{of_all_elements_true}
 use Rattle.cc_tied.proofs.InjectActs.{judged_i, at_of, change_both}
 use Rattle.cc_tied.proofs.InjectStore.{field_none, fields_t}
+use Rattle.cc_tied.proofs.InjectAsked.{on_same}
 
 -- ---- the object after the write
 
@@ -68,19 +69,23 @@ module _ (F : Facts) (S : Tables) (w : Tabs) where
 
 -- ---- the prototype of a function with this number
 
+or_cases : (a b : Bool) → a || b ≡ true → (a ≡ true) ⊎ (b ≡ true)
+or_cases true b e = inl refl
+or_cases false b e = inr e
+
+or_later : (a : Bool) {b : Bool} → b ≡ true → a || b ≡ true
+or_later true e = refl
+or_later false e = e
+
 module _ (f p : ℕ) where
   pub record IsPrototype (os : List Obj) : Type 0 where
     pub place : ℕ
     pub object : Obj
     pub there : slice_get os place ≡ Some object
-    pub function : has_function object.code f ≡ true
+    pub function : is_code_of object.code f ≡ true
     pub prototype : is_object (find_slot object.slots name_prototype) p ≡ true
 
-  or_cases : (a b : Bool) → a || b ≡ true → (a ≡ true) ⊎ (b ≡ true)
-  or_cases true b e = inl refl
-  or_cases false b e = inr e
-
-  first_or_later : (o : Obj) (os : List Obj) → (has_function o.code f && is_object (find_slot o.slots name_prototype) p ≡ true) ⊎ IsPrototype os → IsPrototype (o ∷ os)
+  first_or_later : (o : Obj) (os : List Obj) → (is_code_of o.code f && is_object (find_slot o.slots name_prototype) p ≡ true) ⊎ IsPrototype os → IsPrototype (o ∷ os)
   first_or_later o os (inl e) = let k = and_true _ _ e in record { place = 0; object = o; there = refl; function = k.0; prototype = k.1 }
   first_or_later o os (inr h) = record { place = suc h.place; object = h.object; there = h.there; function = h.function; prototype = h.prototype }
 
@@ -89,19 +94,45 @@ module _ (f p : ℕ) where
   prototype_found [] e = absurd (cc)
   prototype_found (o ∷ os) e = first_or_later o os (found (or_cases _ _ e) (λ d. prototype_found os d))
     where
-      found : (has_function o.code f && is_object (find_slot o.slots name_prototype) p ≡ true) ⊎ (is_prototype_of os f p ≡ true) → (is_prototype_of os f p ≡ true → IsPrototype os) → (has_function o.code f && is_object (find_slot o.slots name_prototype) p ≡ true) ⊎ IsPrototype os
+      found : (is_code_of o.code f && is_object (find_slot o.slots name_prototype) p ≡ true) ⊎ (is_prototype_of os f p ≡ true) → (is_prototype_of os f p ≡ true → IsPrototype os) → (is_code_of o.code f && is_object (find_slot o.slots name_prototype) p ≡ true) ⊎ IsPrototype os
       found (inl d) k = inl d
       found (inr d) k = inr (k d)
 
-  or_later : (a : Bool) {b : Bool} → b ≡ true → a || b ≡ true
-  or_later true e = refl
-  or_later false e = e
-
-  pub prototype_there : (os : List Obj) (j : ℕ) (o : Obj) → slice_get os j ≡ Some o → has_function o.code f ≡ true → is_object (find_slot o.slots name_prototype) p ≡ true → is_prototype_of os f p ≡ true
+  pub prototype_there : (os : List Obj) (j : ℕ) (o : Obj) → slice_get os j ≡ Some o → is_code_of o.code f ≡ true → is_object (find_slot o.slots name_prototype) p ≡ true → is_prototype_of os f p ≡ true
   unfolding is_prototype_of
   prototype_there [] j o e h k = absurd (cc)
   prototype_there (x ∷ os) zero o e h k = let d : x ≡ o = cc in rw (d, h, k) refl
   prototype_there (x ∷ os) (suc j) o e h k = or_later _ (prototype_there os j o e h k)
+
+-- ---- an object with this one on its chain
+
+module _ (p : ℕ) where
+  abbrev Has : List ℕ → Bool
+  Has c = list_any (λ m. nat_eq m p) c
+
+  record OnChain (os : List Obj) : Type 0 where
+    pub place : ℕ
+    pub object : Obj
+    pub there : slice_get os place ≡ Some object
+    pub has : Has object.chain ≡ true
+
+  chain_found : (os : List Obj) → list_any (λ (o : Obj). Has o.chain) os ≡ true → OnChain os
+  chain_found [] e = absurd (cc)
+  chain_found (o ∷ os) e = found (or_cases _ _ e) (λ d. chain_found os d)
+    where
+      found : (Has o.chain ≡ true) ⊎ (list_any (λ (x : Obj). Has x.chain) os ≡ true) → (list_any (λ (x : Obj). Has x.chain) os ≡ true → OnChain os) → OnChain (o ∷ os)
+      found (inl d) k = record { place = 0; object = o; there = refl; has = d }
+      found (inr d) k = let h = k d in record { place = suc h.place; object = h.object; there = h.there; has = h.has }
+
+  chain_there : (os : List Obj) (j : ℕ) (o : Obj) → slice_get os j ≡ Some o → Has o.chain ≡ true → list_any (λ (x : Obj). Has x.chain) os ≡ true
+  chain_there [] j o e h = absurd (cc)
+  chain_there (x ∷ os) zero o e h = let d : x ≡ o = cc in rw (d, h) refl
+  chain_there (x ∷ os) (suc j) o e h = or_later _ (chain_there os j o e h)
+
+there_below : (os : List Obj) (n : ℕ) {o : Obj} → slice_get os n ≡ Some o → n < length os
+there_below [] n e = absurd (cc)
+there_below (x ∷ os) zero e = omega arith
+there_below (x ∷ os) (suc n) e = let h = there_below os n e in omega arith
 
 -- ---- what a write breaks
 
@@ -158,17 +189,17 @@ module _ (F : Facts) (S : Tables) (set' : List (Path × ℕ)) where
   is_slot ti (some_t out_t) o e = absurd (cc)
   is_slot ti (some_t (obj_t k)) o e = sym (once F S set' ti k o) ∙ e
 
-  function_of : (c : Option Code) (f : ℕ) → has_function c f ≡ true → is_some c ≡ true
-  unfolding has_function
+  function_of : (c : Option Code) (f : ℕ) → is_code_of c f ≡ true → is_some c ≡ true
+  unfolding is_code_of
   function_of None f e = absurd (cc)
   function_of (Some c) f e = refl
 
-  same_function : {w : Tabs} {c d : Option Code} → OptT (Codes F S w) c d → (f : ℕ) → has_function c f ≡ has_function d f
-  unfolding has_function
+  same_function : {w : Tabs} {c d : Option Code} → OptT (Codes F S w) c d → (f : ℕ) → is_code_of c f ≡ is_code_of d f
+  unfolding is_code_of
   same_function none_t f = refl
   same_function (some_t h) f = ap (λ z. nat_eq z f) h.function.same
 
-  prototype_is : (o : Obj) (f p : ℕ) → has_function o.code f ≡ true → is_object (find_slot o.slots name_prototype) p ≡ true → prototype_of_function (Some o) ≡ Some (obj p)
+  prototype_is : (o : Obj) (f p : ℕ) → is_code_of o.code f ≡ true → is_object (find_slot o.slots name_prototype) p ≡ true → prototype_of_function (Some o) ≡ Some (obj p)
   unfolding prototype_of_function
   prototype_is o f p h k = rw (function_of o.code f h) (slot_is _ p k)
 
@@ -176,10 +207,10 @@ module _ (F : Facts) (S : Tables) (set' : List (Path × ℕ)) where
   owner ps os m p (inl h) k = h
   owner ps os m p (inr h) k = absurd (h.1 k)
 
-  by_object : {w : Tabs} {s t : State} → Tied w s t → (f : ℕ) {p q : ℕ} → Mates w p q → (n : ℕ) {a b : Option Obj} → slice_get t.objs n ≡ b → ObjAt F S w a b → (x : Obj) → a ≡ Some x → has_function x.code f ≡ true → is_object (find_slot x.slots name_prototype) p ≡ true → is_prototype_of t.objs f q ≡ true
+  by_object : {w : Tabs} {s t : State} → Tied w s t → (f : ℕ) {p q : ℕ} → Mates w p q → (n : ℕ) {a b : Option Obj} → slice_get t.objs n ≡ b → ObjAt F S w a b → (x : Obj) → a ≡ Some x → is_code_of x.code f ≡ true → is_object (find_slot x.slots name_prototype) p ≡ true → is_prototype_of t.objs f q ≡ true
   by_object {w = w} {t = t} ti f {p = p} {q = q} o n d (obj_at {a = a} {b = b} h) x e j k =
       let u : x ≡ a = cc in
-      prototype_there f q t.objs n b d (sym (same_function h.code f) ∙ ap (λ z. has_function z.code f) (sym u) ∙ j) (is_slot ti (slot_found h.slots name_prototype) o (ap (λ z. is_object (find_slot z.slots name_prototype) p) (sym u) ∙ k))
+      prototype_there f q t.objs n b d (sym (same_function h.code f) ∙ ap (λ z. is_code_of z.code f) (sym u) ∙ j) (is_slot ti (slot_found h.slots name_prototype) o (ap (λ z. is_object (find_slot z.slots name_prototype) p) (sym u) ∙ k))
 
   prototype_of_tied : {w : Tabs} {s t : State} → Tied w s t → (f : ℕ) {p q : ℕ} → Mates w p q → is_prototype_of s.objs f p ≡ true → is_prototype_of t.objs f q ≡ true
   prototype_of_tied {w = w} {s = s} ti f {p = p} {q = q} o e =
@@ -187,21 +218,17 @@ module _ (F : Facts) (S : Tables) (set' : List (Path × ℕ)) where
       let m = owner w.objs s.objs h.place p (ti.owned h.place p (ap prototype_of_function h.there ∙ prototype_is h.object f p h.function h.prototype)) (record { label = o.0; right = q; mates = o.1 }) in
       by_object ti f o m.right refl (at_of F S set' ti h.place m.right (m.label, m.mates)) h.object h.there h.function h.prototype
 
-  begins_true : {w : Tabs} {s t : State} → Tied w s t → (o : Option ℕ) {c d : List ℕ} → ListT (Mates w) c d → begins_with s.objs o c ≡ true → begins_with t.objs o d ≡ true
-  unfolding begins_with
-  begins_true ti None h e = absurd (cc)
-  begins_true ti (Some f) nil_t e = absurd (cc)
-  begins_true ti (Some f) (cons_t o h) e = prototype_of_tied ti f o e
-
-  empty_same : {O : ℕ → ℕ → Type 0} {c d : List ℕ} → ListT O c d → empty c ≡ empty d
-  unfolding empty
-  empty_same nil_t = refl
-  empty_same (cons_t o h) = refl
+  class_true : {w : Tabs} {s t : State} → Tied w s t → (o : Option ℕ) {p q : ℕ} → Mates w p q → is_prototype_of_class s.objs o p ≡ true → is_prototype_of_class t.objs o q ≡ true
+  unfolding is_prototype_of_class
+  class_true ti None o e = absurd (cc)
+  class_true ti (Some f) o e = prototype_of_tied ti f o e
 
   extended_true : {w : Tabs} {s t : State} → Tied w s t → (o : Option ℕ) {c d : List ℕ} → ListT (Mates w) c d → fits_extended S s.objs o c ≡ true → fits_extended R t.objs o d ≡ true
   unfolding fits_extended
-  extended_true ti None h e = sym (empty_same h) ∙ e
-  extended_true ti (Some k) h e = begins_true ti (function_in (slice_get S.classes k)) h e
+  extended_true ti None nil_t e = refl
+  extended_true ti None (cons_t o h) e = absurd (cc)
+  extended_true ti (Some k) nil_t e = absurd (cc)
+  extended_true ti (Some k) (cons_t o h) e = let p = and_true _ _ e in true_and (class_true ti (function_in (slice_get S.classes k)) o p.0) (extended_true ti (extended (slice_get S.classes k)) h p.1)
 
   fits_true : {w : Tabs} {s t : State} → Tied w s t → (c : ℕ) {x y : Val} → Vals w x y → fits_class S s.objs c x ≡ true → fits_class R t.objs c y ≡ true
   unfolding fits_class
@@ -225,12 +252,31 @@ module _ (F : Facts) (S : Tables) (set' : List (Path × ℕ)) where
   not_true a true f e = let d = f refl in let k : not true ≡ true = subst (λ z. not z ≡ true) d e in absurd (cc)
   not_true a false f e = refl
 
+  -- an object of the right run is one of a pair, and its mate has as much on its chain
+  on_left : {w : Tabs} {s t : State} → Tied w s t → {p q : ℕ} → Mates w p q → (m : ℕ) {a b : Option Obj} → slice_get s.objs m ≡ a → ObjAt F S w a b → (x : Obj) → b ≡ Some x → list_any (λ z. nat_eq z q) x.chain ≡ true → list_any (λ (y : Obj). list_any (λ z. nat_eq z p) y.chain) s.objs ≡ true
+  on_left {w = w} {s = s} ti {p = p} {q = q} o m d (obj_at {a = a} {b = b} h) x e j =
+      let u : x ≡ b = cc in
+      chain_there p s.objs m a d (on_same F S set' ti h.chain o ∙ ap (λ z. list_any (λ y. nat_eq y q) z.chain) (sym u) ∙ j)
+
+  chain_back : {w : Tabs} {s t : State} → Tied w s t → {p q : ℕ} → Mates w p q → list_any (λ (y : Obj). list_any (λ z. nat_eq z q) y.chain) t.objs ≡ true → list_any (λ (y : Obj). list_any (λ z. nat_eq z p) y.chain) s.objs ≡ true
+  chain_back {w = w} {s = s} {t = t} ti {p = p} {q = q} o e =
+      let h = chain_found q t.objs e in
+      let m = ti.mated h.place (there_below t.objs h.place h.there) in
+      on_left ti o m.left refl (at_of F S set' ti m.left h.place (m.label, m.mates)) h.object h.there h.has
+
+  off_true : {w : Tabs} {s t : State} → Tied w s t → {x y : Option Val} → OptT (Vals w) x y → is_off_chains s.objs x ≡ true → is_off_chains t.objs y ≡ true
+  unfolding is_off_chains
+  off_true ti none_t e = refl
+  off_true ti (some_t prim_t) e = refl
+  off_true ti (some_t out_t) e = refl
+  off_true ti (some_t (obj_t o)) e = not_true _ _ (λ d. chain_back ti o d) e
+
   declares_true : {w : Tabs} {s t : State} → Tied w s t → {a b : Option Obj} → ObjAt F S w a b → (o : Option ℕ) {x y : Val} → Vals w x y → (d d' : Bool) → (d ≡ true → d' ≡ true) → declares_well S s a o x d ≡ true → declares_well R t b o y d' ≡ true
   unfolding declares_well
   declares_true ti at None v d d' k e = absurd (cc)
   declares_true {w = w} {s = s} {t = t} ti at (Some c) v d d' k e =
-      let p = and_true _ _ e in let q = and_true _ _ p.0 in let r = and_true _ _ q.0 in
-      true_and (true_and (true_and (k r.0) (not_true (list_any (λ z. nat_eq z c) s.constructed) (list_any (λ z. nat_eq z c) t.constructed) (ti.constructed c) r.1)) (sym (without_slots_same ti (prototype_tied F S w at)) ∙ q.1)) (fits_true ti c v p.1)
+      let p = and_true _ _ e in let q = and_true _ _ p.0 in let r = and_true _ _ q.0 in let u = and_true _ _ r.0 in
+      true_and (true_and (true_and (true_and (k u.0) (not_true (list_any (λ z. nat_eq z c) s.constructed) (list_any (λ z. nat_eq z c) t.constructed) (ti.constructed c) u.1)) (sym (without_slots_same ti (prototype_tied F S w at)) ∙ r.1)) (off_true ti (prototype_tied F S w at) q.1)) (fits_true ti c v p.1)
 
   class_same : (f : ℕ) → class_of_function S f ≡ class_of_function R f
   unfolding class_of_function
@@ -254,11 +300,13 @@ module _ (F : Facts) (S : Tables) (set' : List (Path × ℕ)) where
   unfolding object_write
   object_write_none {w = w} {s = s} {t = t} ti {m = m} {n = n} o {a = a} {b = b} k c v d d' j e =
       let at = at_of F S set' ti m n o in
-      let p = least_none _ _ e in let q = least_none _ _ p.1 in let r = least_none _ _ q.1 in let u = least_none _ _ r.1 in
-      none_least (array_none (elements_at F S w at) c (index_value c) p.0)
+      let whole = least_none _ _ e in let p = least_none _ _ whole.1 in let q = least_none _ _ p.1 in let r = least_none _ _ q.1 in let u = least_none _ _ r.1 in let z = least_none _ _ u.1 in
+      none_least (whole_key_none (elements_at F S w at) k whole.0)
+      (none_least (array_none (elements_at F S w at) c (index_value c) p.0)
       (none_least (element_none ti at (index_value c) v q.0)
       (none_least (field_none F S set' ti o k c c _ _ v u.0 r.0)
-      (none_least (slots_none S set' k c (slots_at F S w at) u.0) (prototype_none ti at c v d d' j u.1))))
+      (none_least (slots_none S set' k c (slots_at F S w at) u.0)
+      (none_least (sym (unwritten_same F S w s.objs t.objs (at_of F S set' ti) o c) ∙ z.0) (prototype_none ti at c v d d' j z.1))))))
 
   pub out_none : (s t : State) (n : ℕ) {a b : Access} → KeyI a b → (x y : Val) (d d' : Bool) → write_rule S s (out n) a x d ≡ None → write_rule R t (out n) b y d' ≡ None
   unfolding write_rule
@@ -293,11 +341,6 @@ module _ (F : Facts) (S : Tables) (set' : List (Path × ℕ)) where
       sim_bind T {R = Done} (judged_i F S set' i i' (writes (obj m) a x d) (writes (obj n) b y d') _ _ (λ s t ti e. write_none ti (obj_t o) q v d d' j e) (put_t o q h v)) (λ v2 l2 _ _ _.
       fields_t F S set' (mates_more l2.2.ext o) q (val_more l2.2.ext _ _ v))
 
-  is_code_same : {w : Tabs} {c d : Option Code} → OptT (Codes F S w) c d → (f : ℕ) → is_code_of c f ≡ is_code_of d f
-  unfolding is_code_of
-  is_code_same none_t f = refl
-  is_code_same (some_t h) f = ap (λ z. nat_eq z f) h.function.same
-
   -- one of the functions is that of the object
   declared_one : (t : State) (n : ℕ) {f : ℕ} {fs : List ℕ} → is_code_of (code_at t n) f ≡ true → In f fs → declares_on t fs (obj n) ≡ true
   unfolding declares_on
@@ -313,7 +356,7 @@ module _ (F : Facts) (S : Tables) (set' : List (Path × ℕ)) where
   unfolding declares_on code_at
   declared ti o [] d' k e = absurd (cc)
   declared {w = w} {s = s} {t = t} ti {m = m} {n = n} o (f ∷ fs) d' k e =
-      by_first (is_code_of (code_at s m) f) (λ c. declared_one t n (sym (is_code_same (code_at_tied F S w (at_of F S set' ti m n o)) f) ∙ c) (k f here)) (declared ti o fs d' (λ g i. k g (there i))) e
+      by_first (is_code_of (code_at s m) f) (λ c. declared_one t n (sym (same_function (code_at_tied F S w (at_of F S set' ti m n o)) f) ∙ c) (k f here)) (declared ti o fs d' (λ g i. k g (there i))) e
     where
       by_first : (b : Bool) {c : Bool} → (b ≡ true → declares_on t d' (obj n) ≡ true) → (c ≡ true → declares_on t d' (obj n) ≡ true) → b || c ≡ true → declares_on t d' (obj n) ≡ true
       by_first true one others e = one refl

@@ -12,12 +12,12 @@ use Rattle.cc_meaning.specs.Store.{Access, runtime}
 use Rattle.cc_meaning.specs.SlotRules.{rule_unless, remove_rule, probe_rule, walk_rule, write_rule}
 use Rattle.cc_meaning.specs.Rules.{Op, callee_rule, this_rule, operate_rule, binary_rule, unary_rule, outcome_rule, has_rule, is_key, unary_op, binary_op}
 use Rattle.cc_meaning.specs.Judge.{Act, operates, writes, calls, calls_inner, answers_with, least_broken}
-use Rattle.cc_meaning.specs.Acts.{judged, allowed, refused, is_fatal, remove, probe, walk, operate, operate_one, outcome_value, runtime_key, key_given, read_this, key_name}
+use Rattle.cc_meaning.specs.Acts.{judged, allowed, refused, is_fatal, remove, probe, walk, operate, operate_one, outcome_value, is_whole, runtime_key, key_given, read_this, key_name}
 use Rattle.cc_meaning.specs.Builtins.{or_undefined}
 use Rattle.cc_tied.specs.Tied.{none_t, some_t, prim_t, out_t, obj_t, RuntimeT, runtime_t}
 use Rattle.cc_tied.proofs.Kit.{Kit}
 use Rattle.cc_tied.proofs.Parts.{V, OptV, Done, Equal, val_later}
-use Rattle.cc_tied.proofs.Outcomes.{OutcomeT, gives_t, breaks_t, binary_tied, unary_tied, key_text_tied}
+use Rattle.cc_tied.proofs.Outcomes.{OutcomeT, gives_t, breaks_t, binary_tied, unary_tied, is_whole_tied, key_text_tied}
 
 module _ (K : Kit) where
   open K use {J, J', World, Later, now, SpotT, O, KeyT, Rel, rel_ret, rel_bind, rel_fault, rel_breach, rel_equal, rel_remove, rel_probe, rel_walk, rel_typeof, rel_instance_of}
@@ -137,11 +137,13 @@ module _ (K : Kit) where
   -- the key that a value between brackets is
   pub rel_runtime_key : {w : World} {i i' : Spot} → SpotT i i' → {a b : Val} → V K w a b → Rel (λ v. RuntimeT) w (runtime_key J i a) (runtime_key J' i' b)
   unfolding runtime_key key_given
-  rel_runtime_key {w = w} {i = i} {i' = i'} s {a = a} {b = b} h = subst (λ z. Rel (λ v. RuntimeT) w (key_given J i (key_text a)) (key_given J' i' z)) (key_text_tied (O w) h) (same (key_text a))
+  rel_runtime_key {w = w} {i = i} {i' = i'} s {a = a} {b = b} h =
+      subst (λ z. Rel (λ v. RuntimeT) w (key_given J i (is_whole a) (key_text a)) (key_given J' i' (is_whole b) z)) (key_text_tied (O w) h)
+      (subst (λ z. Rel (λ v. RuntimeT) w (key_given J i (is_whole a) (key_text a)) (key_given J' i' z (key_text a))) (is_whole_tied (O w) h) (same (key_text a) refl))
     where
-      same : (t : Option (List ℕ)) → Rel (λ v. RuntimeT) w (key_given J i t) (key_given J' i' t)
-      same None = rel_fault s 2
-      same (Some t) = rel_ret (runtime t) (runtime t) runtime_t
+      same : (t : Option (List ℕ)) → key_text a ≡ t → Rel (λ v. RuntimeT) w (key_given J i (is_whole a) t) (key_given J' i' (is_whole a) t)
+      same None e = rel_fault s 2
+      same (Some t) e = rel_ret (runtime t (is_whole a)) (runtime t (is_whole a)) (runtime_t a e)
 
   pub rel_read_this : {w : World} {i i' : Spot} → SpotT i i' → {a b : Option Val} → OptV K w a b → Rel (V K) w (read_this J i a) (read_this J' i' b)
   unfolding read_this judged allowed is_fatal least_broken this_rule or_undefined

@@ -1,14 +1,14 @@
 -- A rewriting that exchanges no variables, accesses, calls of them, assignments, functions and object literals
 -- keeps the paths of a program, and the prototypes that its statements declare.
 use Rattle.std.proofs.Common.{◌≡◌, ℕ, Bool, true, false, Option, Some, None, refl, sym, ap, subst, ◌∙◌}
-use Rattle.std.specs.Prelude.{◌&&◌, is_some}
+use Rattle.std.specs.Prelude.{◌&&◌}
 use Rattle.cc_ast.specs.Syntax.{Expr, var, fun, object, assign, member, call, Target, to_var, to_member, to_index, Exprs, no_exprs, more_exprs, Fields}
 use Rattle.cc_ast.specs.declared.operator.BinOp.{BinOp}
 use Rattle.cc_ast.specs.declared.tree.Ref.{Ref}
 use Rattle.cc_meaning.specs.Names.{name_create, name_prototype}
 use Rattle.cc_meaning.specs.State.{Path, Tables}
 use Rattle.cc_meaning.specs.Monad.{pick}
-use Rattle.cc_meaning.specs.Shapes.{longer, path_of, path_of_target, names_object, is_named, is_create, is_prototype, is_prototype_alone, creates}
+use Rattle.cc_meaning.specs.Shapes.{longer, path_of, path_of_target, names_object, is_named, is_create, prototype_path, prototype_path_alone, created_from}
 use Rattle.cc_tied.specs.Placed.{Place, a_value, an_assigned, a_callee, a_deleted, an_object, keeps, guard}
 use Rattle.cc_tied.specs.Rewrites.{put, put_call, put_on_value, re, re_target, re_all, re_fields}
 
@@ -106,9 +106,12 @@ module _ (built : Ref → Bool) (step : Expr → Expr) (step_call : ℕ → Expr
   both_and : {a b : Bool} → a ≡ true → b ≡ true → a && b ≡ true
   both_and {a = a} {b = b} h k = ap (λ z. z && b) h ∙ k
 
-  path_is : (o : Option Path) → is_some o ≡ true → (w : Path) × (o ≡ Some w)
-  path_is None h = absurd (cc)
-  path_is (Some w) h = (w, refl)
+  picked_path : (b : Bool) (o : Option Path) (w : Path) → pick b o None ≡ Some w → (b ≡ true) × (o ≡ Some w)
+  picked_path true o w h = (refl, h)
+  picked_path false o w h = absurd (cc)
+
+  picked_some : {b : Bool} {o : Option Path} {w : Path} → b ≡ true → o ≡ Some w → pick b o None ≡ Some w
+  picked_some {o = o} {w = w} h k = subst (λ z. pick z o None ≡ Some w) (sym h) k
 
   object_named : (T : Tables) (o : Option Path) → names_object T o ≡ true → (w : Path) × (o ≡ Some w)
   unfolding names_object
@@ -123,28 +126,27 @@ module _ (built : Ref → Bool) (step : Expr → Expr) (step_call : ℕ → Expr
       subst (λ z. is_create T z ≡ true) (sym (re_member t q i e p)) (both_and b.0 (ap (λ z. names_object T z) (path_kept t an_object e w.0 w.1 ∙ sym w.1) ∙ b.1))
   create_kept T t q e h = absurd (cc)
 
-  prototype_kept : (T : Tables) (t : Bool) (q : Place) (e : Expr) → is_prototype T e ≡ true → is_prototype T (R t q e) ≡ true
-  unfolding is_prototype
-  prototype_kept T t q (member i e p) h =
-      let b = and_both (is_named T p name_prototype) (is_some (path_of e)) h in
-      let w = path_is (path_of e) b.1 in
-      subst (λ z. is_prototype T z ≡ true) (sym (re_member t q i e p)) (both_and b.0 (ap is_some (path_kept t an_object e w.0 w.1)))
-  prototype_kept T t q e h = absurd (cc)
+  prototype_kept : (T : Tables) (t : Bool) (q : Place) (e : Expr) (w : Path) → prototype_path T e ≡ Some w → prototype_path T (R t q e) ≡ Some w
+  unfolding prototype_path
+  prototype_kept T t q (member i e p) w h =
+      let b = picked_path (is_named T p name_prototype) (path_of e) w h in
+      subst (λ z. prototype_path T z ≡ Some w) (sym (re_member t q i e p)) (picked_some b.0 (path_kept t an_object e w b.1))
+  prototype_kept T t q e w h = absurd (cc)
 
-  alone_kept : (T : Tables) (t : Bool) (es : Exprs) → is_prototype_alone T es ≡ true → is_prototype_alone T (re_all built step step_call t es) ≡ true
-  unfolding is_prototype_alone re_all
-  alone_kept T t no_exprs h = absurd (cc)
-  alone_kept T t (more_exprs e no_exprs) h = prototype_kept T t a_value e h
-  alone_kept T t (more_exprs e (more_exprs d es)) h = absurd (cc)
+  alone_kept : (T : Tables) (t : Bool) (es : Exprs) (w : Path) → prototype_path_alone T es ≡ Some w → prototype_path_alone T (re_all built step step_call t es) ≡ Some w
+  unfolding prototype_path_alone re_all
+  alone_kept T t no_exprs w h = absurd (cc)
+  alone_kept T t (more_exprs e no_exprs) w h = prototype_kept T t a_value e w h
+  alone_kept T t (more_exprs e (more_exprs d es)) w h = absurd (cc)
 
-  created : (T : Tables) (t : Bool) (q : Place) (i : ℕ) (f : Expr) (es : Exprs) → is_create T f ≡ true → is_prototype_alone T es ≡ true → creates T (R t q (call i f es)) ≡ true
-  unfolding creates is_create
-  created T t q i (member j e p) es h k = subst (λ z. creates T z ≡ true) (sym (re_call t q i j e p es)) (both_and (create_kept T t a_callee (member j e p) h) (alone_kept T t es k))
-  created T t q i f es h k = absurd (cc)
+  created : (T : Tables) (t : Bool) (q : Place) (i : ℕ) (f : Expr) (es : Exprs) (w : Path) → is_create T f ≡ true → prototype_path_alone T es ≡ Some w → created_from T (R t q (call i f es)) ≡ Some w
+  unfolding created_from is_create
+  created T t q i (member j e p) es w h k = subst (λ z. created_from T z ≡ Some w) (sym (re_call t q i j e p es)) (picked_some (create_kept T t a_callee (member j e p) h) (alone_kept T t es w k))
+  created T t q i f es w h k = absurd (cc)
 
-  pub creates_kept : (T : Tables) (t : Bool) (q : Place) (e : Expr) → creates T e ≡ true → creates T (R t q e) ≡ true
-  unfolding creates
-  creates_kept T t q (call i f es) h =
-      let b = and_both (is_create T f) (is_prototype_alone T es) h in
-      created T t q i f es b.0 b.1
-  creates_kept T t q e h = absurd (cc)
+  pub created_kept : (T : Tables) (t : Bool) (q : Place) (e : Expr) (w : Path) → created_from T e ≡ Some w → created_from T (R t q e) ≡ Some w
+  unfolding created_from
+  created_kept T t q (call i f es) w h =
+      let b = picked_path (is_create T f) (prototype_path_alone T es) w h in
+      created T t q i f es w b.0 b.1
+  created_kept T t q e w h = absurd (cc)

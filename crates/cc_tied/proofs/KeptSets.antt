@@ -1,19 +1,21 @@
 -- What a rewriting keeps of what globals and paths are set to, and of the prototypes that statements
 -- declare.
 use Rattle.std.proofs.Common.{◌≡◌, ◌⊎◌, inl, inr, ℕ, Bool, true, false, List, [], ◌∷◌, ◌++◌, Option, Some, None, refl, sym, ap, subst, ◌∙◌}
-use Rattle.std.specs.Prelude.{◌&&◌, nat_eq, is_some}
+use Rattle.std.specs.Prelude.{◌&&◌, ◌||◌, nat_eq, if◌then◌else◌}
+use Rattle.std.specs.List.{filter, list_any}
 use Rattle.cc_ast.specs.Syntax.{Expr, fun, object, assign, member, call, Target, to_var, to_member, to_index, Exprs, no_exprs, more_exprs, Fields, no_fields, more_fields, Declarator, Stmt, simple, vars, fun_decl, Stmts, no_stmts, more_stmts}
 use Rattle.cc_ast.specs.declared.tree.Key.{Key}
 use Rattle.cc_ast.specs.declared.tree.Ref.{Ref}
 use Rattle.cc_meaning.specs.Names.{name_create, name_prototype}
 use Rattle.cc_meaning.specs.State.{Path, Tables}
 use Rattle.cc_meaning.specs.Monad.{pick}
-use Rattle.cc_meaning.specs.Store.{name_of, global_kind, same_numbers, set_to}
+use Rattle.cc_meaning.specs.Store.{name_of, global_kind, same_numbers, set_to, is_number, class_of_function}
+use Rattle.cc_meaning.specs.SlotRules.{extended, function_in}
 use Rattle.cc_meaning.specs.Alike.{In, here, there}
-use Rattle.cc_meaning.specs.Shapes.{longer, path_of, path_of_ref, path_of_key, path_of_target, names_object, is_named, is_create, is_prototype, is_prototype_alone, creates, set_by, prototype_target, declared_in, declared_by, sets_by, sets_by_fields, sets_by_option, sets_by_vars, sets_by_value, sets_by_stmt, sets_by_stmts}
+use Rattle.cc_meaning.specs.Shapes.{longer, path_of, path_of_ref, path_of_key, path_of_target, names_object, is_named, is_create, prototype_path, prototype_path_alone, created_from, class_at, extended_function, extends_one, set_by, prototype_target, declared_in, declared_by, sets_by, sets_by_fields, sets_by_option, sets_by_vars, sets_by_value, sets_by_stmt, sets_by_stmts}
 use Rattle.cc_tied.specs.Placed.{Place, a_value, an_assigned, an_object}
 use Rattle.cc_tied.specs.Rewrites.{re, re_target, re_fields, re_value, re_option, re_declarator, re_declarators, re_stmt, re_stmts, whole}
-use Rattle.cc_tied.proofs.KeptPaths.{Stays, re_fun, re_object, re_assign, path_kept, target_kept, creates_kept}
+use Rattle.cc_tied.proofs.KeptPaths.{Stays, re_fun, re_object, re_assign, path_kept, target_kept, created_kept}
 
 -- ---- lists
 
@@ -37,6 +39,43 @@ pub within_both : {A : Type 0} (xs : List A) {ys us vs : List A} → Within xs u
 within_both [] {us = us} f g x i = in_right us (g x i)
 within_both (y ∷ xs) {vs = vs} f g x here = in_left vs (f x here)
 within_both (y ∷ xs) f g x (there i) = within_both xs (λ z j. f z (there j)) g x i
+
+-- ---- parts of lists
+
+any_into : {A : Type 0} (q : A → Bool) {x : A} (ys : List A) → q x ≡ true → In x ys → list_any q ys ≡ true
+any_into q [] e i = elim i [ ]
+any_into q (y ∷ ys) e here = ap (λ z. z || list_any q ys) e
+any_into q (y ∷ ys) e (there i) = later (q y) (any_into q ys e i)
+  where
+    later : (b : Bool) {c : Bool} → c ≡ true → b || c ≡ true
+    later true h = refl
+    later false h = h
+
+any_within : {A : Type 0} (p q : A → Bool) → ((x : A) → p x ≡ true → q x ≡ true) → (xs ys : List A) → Within xs ys → list_any p xs ≡ true → list_any q ys ≡ true
+any_within p q f [] ys w e = absurd (cc)
+any_within p q f (x ∷ xs) ys w e = by_first (p x) refl e (λ d. any_within p q f xs ys (λ z i. w z (there i)) d)
+  where
+    by_first : (b : Bool) → p x ≡ b → b || list_any p xs ≡ true → (list_any p xs ≡ true → list_any q ys ≡ true) → list_any q ys ≡ true
+    by_first true h e k = any_into q ys (f x h) (w x here)
+    by_first false h e k = k e
+
+kept_in : {A : Type 0} (b : Bool) (q : A → Bool) (y : A) (ys : List A) {x : A} → In x (filter q ys) → In x (if b then y ∷ filter q ys else filter q ys)
+kept_in true q y ys i = there i
+kept_in false q y ys i = i
+
+filter_into : {A : Type 0} (q : A → Bool) {x : A} (ys : List A) → q x ≡ true → In x ys → In x (filter q ys)
+filter_into q [] e i = elim i [ ]
+filter_into q {x = x} (y ∷ ys) e here = subst (λ z. In x (if z then x ∷ filter q ys else filter q ys)) (sym e) here
+filter_into q (y ∷ ys) e (there i) = kept_in (q y) q y ys (filter_into q ys e i)
+
+filtered : {A : Type 0} (b : Bool) (y : A) (ys : List A) {x : A} → In x (if b then y ∷ ys else ys) → ((b ≡ true) × (y ≡ x)) ⊎ In x ys
+filtered true y ys here = inl (refl, refl)
+filtered true y ys (there i) = inr i
+filtered false y ys i = inr i
+
+pub filter_within : {A : Type 0} (p q : A → Bool) → ((x : A) → p x ≡ true → q x ≡ true) → (xs ys : List A) → Within xs ys → Within (filter p xs) (filter q ys)
+filter_within p q f [] ys w x i = elim i [ ]
+filter_within p q f (y ∷ xs) ys w x i = elim (filtered (p y) y (filter p xs) i) [ inl d ↦ subst (λ z. In z (filter q ys)) d.1 (filter_into q ys (f y d.0) (w y here)) | inr j ↦ filter_within p q f xs ys (λ z k. w z (there k)) x j ]
 
 -- ---- which functions a path is set to
 
@@ -176,21 +215,41 @@ module _ (T : Tables) (set' : List (Path × ℕ)) where
   create_same (member i e p) = ap (λ z. z && names_object T' (path_of e)) (named_same p name_create) ∙ ap (λ z. is_named T p name_create && z) (object_same (path_of e))
   create_same e = refl
 
-  prototype_same : (e : Expr) → is_prototype T' e ≡ is_prototype T e
-  unfolding is_prototype
-  prototype_same (member i e p) = ap (λ z. z && is_some (path_of e)) (named_same p name_prototype)
+  prototype_same : (e : Expr) → prototype_path T' e ≡ prototype_path T e
+  unfolding prototype_path
+  prototype_same (member i e p) = ap (λ z. pick z (path_of e) None) (named_same p name_prototype)
   prototype_same e = refl
 
-  alone_same : (es : Exprs) → is_prototype_alone T' es ≡ is_prototype_alone T es
-  unfolding is_prototype_alone
+  alone_same : (es : Exprs) → prototype_path_alone T' es ≡ prototype_path_alone T es
+  unfolding prototype_path_alone
   alone_same no_exprs = refl
   alone_same (more_exprs e no_exprs) = prototype_same e
   alone_same (more_exprs e (more_exprs d es)) = refl
 
-  creates_same : (e : Expr) → creates T' e ≡ creates T e
-  unfolding creates
-  creates_same (call i f es) = ap (λ z. z && is_prototype_alone T' es) (create_same f) ∙ ap (λ z. is_create T f && z) (alone_same es)
-  creates_same e = refl
+  created_same : (e : Expr) → created_from T' e ≡ created_from T e
+  unfolding created_from
+  created_same (call i f es) = ap (λ z. pick z (prototype_path_alone T' es) None) (create_same f) ∙ ap (λ z. pick (is_create T f) z None) (alone_same es)
+  created_same e = refl
+
+  class_same : (f : ℕ) → class_of_function T' f ≡ class_of_function T f
+  unfolding class_of_function
+  class_same f = refl
+
+  at_same : (o : Option ℕ) → class_at T' o ≡ class_at T o
+  unfolding class_at
+  at_same None = refl
+  at_same (Some c) = refl
+
+  extended_same : (f : ℕ) → extended_function T' f ≡ extended_function T f
+  unfolding extended_function
+  extended_same f =
+      ap (λ z. function_in (class_at T' (extended (class_at T' z)))) (class_same f)
+      ∙ ap (λ z. function_in (class_at T' (extended z))) (at_same (class_of_function T f))
+      ∙ ap function_in (at_same (extended (class_at T (class_of_function T f))))
+
+  extends_within : (gs hs : List ℕ) → Within gs hs → (f : ℕ) → extends_one T gs f ≡ true → extends_one T' hs f ≡ true
+  unfolding extends_one
+  extends_within gs hs w f e = any_within _ _ (λ g d. ap (λ z. is_number z g) (extended_same f) ∙ d) gs hs w e
 
   module _ (more : Within T.set set') where
     set_by_within : (o : Option Path) → Within (set_by T o) (set_by T' o)
@@ -214,9 +273,13 @@ module _ (T : Tables) (set' : List (Path × ℕ)) where
     target_same (to_member i e p) f j = picked_within (is_named T p name_prototype) (is_named T' p name_prototype) (set_by T (path_of e)) (set_by T' (path_of e)) (λ h. named_same p name_prototype ∙ h) (set_by_within (path_of e)) f j
     target_same (to_index i e k) f j = j
 
+    -- where the prototype that is extended stays
+    declares_more : (e e' : Expr) (fs gs : List ℕ) → ((w : Path) → created_from T e ≡ Some w → created_from T e' ≡ Some w) → Within fs gs → Within (filter (extends_one T (set_by T (created_from T e))) fs) (filter (extends_one T' (set_by T' (created_from T' e'))) gs)
+    declares_more e e' fs gs k h f j = filter_within _ _ (λ g d. extends_within (set_by T (created_from T e)) (set_by T' (created_from T' e')) (by_kept (created_from T e) (created_from T' e') (λ w q. created_same e' ∙ k w q)) g d) fs gs h f j
+
     declared_same : (e : Expr) → Within (declared_in T e) (declared_in T' e)
     unfolding declared_in
-    declared_same (assign i None u e) f j = picked_within (creates T e) (creates T' e) (prototype_target T u) (prototype_target T' u) (λ h. creates_same e ∙ h) (target_same u) f j
+    declared_same (assign i None u e) f j = declares_more e e (prototype_target T u) (prototype_target T' u) (λ w h. h) (target_same u) f j
     declared_same e f j = elim j [ ]
 
     -- a statement that stays declares what it declared
@@ -239,7 +302,7 @@ module _ (T : Tables) (set' : List (Path × ℕ)) where
       unfolding declared_in
       declared_within (assign i None u e) f j =
           subst (λ z. In f (declared_in T' z)) (sym (re_assign built step step_call S false a_value i None u e))
-          (picked_within (creates T e) (creates T' (R' false an_assigned e)) (prototype_target T u) (prototype_target T' (re_target built step step_call u)) (λ h. creates_same _ ∙ creates_kept built step step_call S T false an_assigned e h) (target_within u) f j)
+          (declares_more e (R' false an_assigned e) (prototype_target T u) (prototype_target T' (re_target built step step_call u)) (λ w h. created_kept built step step_call S T false an_assigned e w h) (target_within u) f j)
       declared_within e f j = elim j [ ]
 
       -- a statement that is rewritten declares no less than before

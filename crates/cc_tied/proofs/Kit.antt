@@ -5,13 +5,13 @@ use Rattle.cc_ast.specs.declared.operator.BinOp.TheVariants.{Instance}
 use Rattle.cc_ast.specs.declared.operator.UnOp.TheVariants.{Typeof}
 use Rattle.cc_ast.specs.declared.tree.Ref.{Ref}
 use Rattle.cc_meaning.specs.Values.{Val, prim, obj, out, View, Event, Spot, at_turn}
-use Rattle.cc_meaning.specs.Operators.{strict_equal}
+use Rattle.cc_meaning.specs.Operators.{strict_equal, key_text}
 use Rattle.cc_meaning.specs.State.{keyed_kind, of_catch, Code, Env, Tables, State}
 use Rattle.cc_meaning.specs.Monad.{told, M, ret, skip, raise, stop, say, ◌>>=◌, Way, attempt, pay, with_budget, with_tables, Mode}
 use Rattle.cc_meaning.specs.Store.{Access, quoted, runtime, name_of, kind_by, Use}
 use Rattle.cc_meaning.specs.Judge.{reads, writes, calls, hosts}
-use Rattle.cc_meaning.specs.Acts.{judged, changing, make_object, make_array, make_instance, make_function, push_frame, read_var, write_var, read_slot, write_slot, remove, probe, walk, operate, operate_one, cast_to, show, next_reply, was_given, all_given, viewed}
-use Rattle.cc_meaning.specs.Calls.{Bodies, code_at, method_on, prim_member, declares_on, views, call_object, take_path, keep_path, use_built}
+use Rattle.cc_meaning.specs.Acts.{is_whole, judged, changing, make_object, make_array, make_instance, make_function, push_frame, read_var, write_var, read_slot, write_slot, remove, probe, walk, operate, operate_one, cast_to, show, next_reply, was_given, all_given, viewed}
+use Rattle.cc_meaning.specs.Calls.{Bodies, code_at, method_on, prim_member, declares_on, views, call_object, take_path, keep_path, use_built, reach_method}
 use Rattle.cc_meaning.specs.Meaning.{call_frame}
 use Rattle.cc_meaning.specs.Script.{top, note_end}
 use Rattle.cc_tied.specs.Tied.{ListT, OptT, ValT, WayT, Sited, CodeT, built_of, entering, leaving, loading}
@@ -81,9 +81,9 @@ pub record Kit : Type 1 where
   pub loaded_later : {v w : World} → Later v w → {c : ℕ} → LoadedT v c → LoadedT w c
   pub new_value : {w : World} {a b : Val} → NewT w a b → ValT (O w) a b
   pub runs_code : {w : World} {m n : ℕ} {a b : Code} → RunsT w m n a b → CodeT SpotT FunT (UpT w) a b
-  pub key_runtime : {w : World} (x : Val) (t : List ℕ) → KeyT w x (runtime t) (runtime t)
+  pub key_runtime : {w : World} (x v : Val) {t : List ℕ} → key_text v ≡ Some t → KeyT w x (runtime t (is_whole v)) (runtime t (is_whole v))
   pub key_quoted : {w : World} (x : Val) {t : List ℕ} → QuotedT t → KeyT w x (quoted t) (quoted t)
-  pub key_written : {w : World} (x : Val) {t : List ℕ} → WrittenT t → KeyT w x (runtime t) (quoted t)
+  pub key_written : {w : World} (x : Val) {t : List ℕ} → WrittenT t → KeyT w x (runtime t false) (quoted t)
   pub env_top : {w : World} {c : ℕ} {d d' : List ℕ} → LoadedT w c → DeclaresT d d' → EnvT (outer c) w (record top { declares = d }) (record top { declares = d' })
   pub env_this : {c : Ctx} {w : World} {g h : Env} → ThisT c → EnvT c w g h → OptT (ValT (O w)) g.this h.this
   pub env_declares : {c : Ctx} {w : World} {g h : Env} → EnvT c w g h → DeclaresT g.declares h.declares
@@ -125,6 +125,8 @@ pub record Kit : Type 1 where
   pub rel_method : {A B : Type 0} {R : World → A → B → Type 0} {w : World} {x y : Val} {a b : Access} (k : Option Use → M A) (k' : Option Use → M B) → ValT (O w) x y → KeyT w x a b → ((u : Option Use) → Rel R w (k u) (k' u)) → Rel R w (λ s. k (method_on s x (name_of s.tables a)) s) (λ s. k' (method_on s y (name_of s.tables b)) s)
   -- a read of a built-in method, whose value isn't wanted
   pub rel_method_read : {w : World} {x y : Val} {a b : Access} {i i' : Spot} → SpotT i i' → ValT (O w) x y → KeyT w x a b → Rel (λ v p q. Unit {0}) w (judged J i (reads x a) skip) (judged J' i' (reads y b) skip)
+  -- what is met on the way to a built-in method
+  pub rel_reach_method : {w : World} {x y : Val} {a b : Access} {i i' : Spot} → SpotT i i' → ValT (O w) x y → KeyT w x a b → Rel (λ v p q. Unit {0}) w (reach_method J i x a) (reach_method J' i' y b)
   -- a use of what is built in, which may call
   pub rel_use : {w : World} {vs vs' : List Val} {i i' : Spot} (B B' : Bodies) → SpotT i i' → (u : Use) → ListT (ValT (O w)) vs vs' → ((m n : ℕ) (x y : Val) (us us' : List Val) → O w m n → ValT (O w) x y → ListT (ValT (O w)) us us' → Rel (λ v. ValT (O v)) w (call_object J B i m (Some x) us) (call_object J' B' i' n (Some y) us')) → Rel (λ v. ValT (O v)) w (use_built J B i u vs) (use_built J' B' i' u vs')
   -- ---- values that are no objects of the program

@@ -30,6 +30,7 @@ pub mod Reflexive
 pub mod FoldExample
 pub mod EqualRuns
 pub mod Erase
+pub mod DecimalNames
 pub mod Fatal
 pub mod Lists
 pub mod AlikeFrames

@@ -10,6 +10,7 @@ use Rattle.cc_ast.specs.declared.operator.UnOp.{UnOp}
 use Rattle.cc_ast.specs.declared.operator.UnOp.TheVariants.{Minus, Plus, BitNot, Not, Void, Typeof}
 use Rattle.cc_meaning.specs.Values.{Val, prim}
 use Rattle.cc_meaning.specs.Operators.{Outcome, gives, breaks, is_exact, signs_differ, number, with_sign, divide_sizes, rest_of_sizes, from_bits32, whole_binary, on_wholes, answer_of, answer_not, add_prims, prim_binary, object_binary, unlike_objects, prim_with_object, binary_of, whole_unary, on_whole, prim_unary, object_unary, unary_of, strict_equal, key_text}
+use Rattle.cc_meaning.specs.Acts.{is_whole}
 use Rattle.cc_tied.specs.Tied.{ValT, prim_t, out_t, obj_t}
 
 -- one outcome, which isn't an object
@@ -159,6 +160,12 @@ module _ (O : ℕ → ℕ → Type 0) where
   unary_tied op (prim_t {p = p}) = prim_unary_made op p
   unary_tied op out_t = object_unary_made op
   unary_tied op (obj_t h) = object_unary_made op
+
+  pub is_whole_tied : {a b : Val} → ValT O a b → is_whole a ≡ is_whole b
+  unfolding is_whole
+  is_whole_tied (prim_t {p = p}) = refl
+  is_whole_tied out_t = refl
+  is_whole_tied (obj_t h) = refl
 
   pub key_text_tied : {a b : Val} → ValT O a b → key_text a ≡ key_text b
   unfolding key_text

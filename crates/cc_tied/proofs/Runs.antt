@@ -1,9 +1,9 @@
 -- Whole runs of two programs under one script, from tied starts.
-use Rattle.std.proofs.Common.{◌≡◌, ℕ, List, arith, ◌⊎◌, inl, inr}
+use Rattle.std.proofs.Common.{◌≡◌, ap, ℕ, List, arith, ◌⊎◌, inl, inr}
 use Rattle.cc_ast.specs.Syntax.{Program}
 use Rattle.cc_meaning.specs.Values.{Event}
 use Rattle.cc_meaning.specs.Monad.{End, Res}
-use Rattle.cc_meaning.specs.Script.{Script, IsFollowing, graph_of, Finish, finished, stopped, finish, start, raw, run}
+use Rattle.cc_meaning.specs.Script.{Script, IsFollowing, graph_of, Finish, finished, stopped, Run, finish, start, raw, run}
 use Rattle.cc_meaning.specs.Same.{IsBroken, is_broken}
 use Rattle.cc_tied.proofs.Kit.{Kit}
 use Rattle.cc_tied.proofs.Sim.{Tie, World, ResT, ok_t, threw_t, broken_t, short_t, ahead_t, over_t}
@@ -22,18 +22,21 @@ pub record IsExact (T : Tie) : Type 0 where
   pub one_end : {e e' : End} → T.EndT e e' → IsBroken (stopped e) ⊎ (e ≡ e')
 
 -- the left run breaks a rule, or both do the same
-abbrev pub BrokenOrSame : List Event × Finish → List Event × Finish → Type 0
-BrokenOrSame x y = IsBroken x.1 ⊎ (x ≡ y)
+abbrev pub BrokenOrSame : Run → Run → Type 0
+BrokenOrSame x y = IsBroken x.end ⊎ (x ≡ y)
 
-pub same_end : {u u' : List Event} {e e' : End} → u ≡ u' → IsBroken (stopped e) ⊎ (e ≡ e') → BrokenOrSame (u, stopped e) (u', stopped e')
+abbrev pub ran : List Event → Finish → Run
+ran u e = record { events = u; end = e }
+
+pub same_end : {u u' : List Event} {e e' : End} → u ≡ u' → IsBroken (stopped e) ⊎ (e ≡ e') → BrokenOrSame (ran u (stopped e)) (ran u' (stopped e'))
 same_end d (inl b) = inl b
-same_end d (inr e) = inr (cc)
+same_end d (inr e) = inr (λ i. ran (d i) (stopped (e i)))
 
 module _ (T : Tie) where
   pub broken_or_same : IsExact T → {R : World T → Unit {0} → Unit {0} → Type 0} {w : World T} {x y : Res (Unit {0})} → ResT T R w x y → BrokenOrSame (finish x) (finish y)
   unfolding finish
-  broken_or_same h (ok_t d v e st q t le le') = inr (cc)
-  broken_or_same h (threw_t d v e st q t le le') = inr (cc)
+  broken_or_same h (ok_t d v e st q t le le') = inr (ap (λ z. ran z finished) d)
+  broken_or_same h (threw_t d v e st q t le le') = inr (ap (λ z. ran z finished) d)
   broken_or_same h (broken_t x) = inl is_broken
   broken_or_same h (short_t u x d e q) = absurd (h.never_short q)
   broken_or_same h (ahead_t u x d e q) = absurd (h.never_ahead q)

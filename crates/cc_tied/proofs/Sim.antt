@@ -1,14 +1,14 @@
 -- Two runs from tied states.
-use Rattle.std.proofs.Common.{◌≡◌, ℕ, zero, suc, ◌+◌, ◌≤◌, Bool, List, [], ◌∷◌, ◌++◌, length, append_assoc, Option, Some, None, refl, sym, ap, subst, arith, ◌∙◌}
+use Rattle.std.proofs.Common.{◌≡◌, ℕ, zero, suc, ◌+◌, ◌≤◌, Bool, false, List, [], ◌∷◌, ◌++◌, length, append_assoc, Option, Some, None, refl, sym, ap, subst, arith, ◌∙◌}
 use Rattle.std.specs.Prelude.{slice_get, nat_eq, nat_lt}
 use Rattle.cc_ast.specs.Syntax.{Prim}
 use Rattle.cc_ast.specs.declared.tree.Ref.{Ref}
 use Rattle.cc_meaning.specs.Values.{Val, View, shown_prim, shown_out, handle, Event, Spot, at_turn}
-use Rattle.cc_meaning.specs.Operators.{strict_equal}
+use Rattle.cc_meaning.specs.Operators.{strict_equal, key_text}
 use Rattle.cc_meaning.specs.State.{Code, Env, Reply, State, Tables}
 use Rattle.cc_meaning.specs.Monad.{Said, told, passed, seen, marks, End, spent, waits, broken, Res, ok, threw, over, said, M, ret, raise, stop, after, ◌>>=◌, attempted, attempt, paid, pay_from, pay, say, with_budget, with_tables, Mode}
 use Rattle.cc_meaning.specs.Store.{Access, quoted, runtime}
-use Rattle.cc_meaning.specs.Acts.{next_reply_of, next_reply, was_given, all_given, object_at, viewed}
+use Rattle.cc_meaning.specs.Acts.{is_whole, next_reply_of, next_reply, was_given, all_given, object_at, viewed}
 use Rattle.cc_meaning.specs.Calls.{views}
 use Rattle.cc_meaning.specs.Script.{top}
 use Rattle.cc_tied.specs.Tied.{ListT, nil_t, cons_t, OptT, ValT, prim_t, out_t, obj_t, WayT, went_t, thrown_t, CodeT, built_of}
@@ -93,9 +93,9 @@ pub record Tie : Type 1 where
   pub loaded_later : {v w : W} → Ext v w → {c : ℕ} → LoadedT v c → LoadedT w c
   pub new_value : {w : W} {a b : Val} → NewT w a b → ValT (O w) a b
   pub runs_code : {w : W} {m n : ℕ} {a b : Code} → RunsT w m n a b → CodeT SpotT FunT (UpT w) a b
-  pub key_runtime : {w : W} (x : Val) (t : List ℕ) → KeyT w x (runtime t) (runtime t)
+  pub key_runtime : {w : W} (x v : Val) {t : List ℕ} → key_text v ≡ Some t → KeyT w x (runtime t (is_whole v)) (runtime t (is_whole v))
   pub key_quoted : {w : W} (x : Val) {t : List ℕ} → QuotedT t → KeyT w x (quoted t) (quoted t)
-  pub key_written : {w : W} (x : Val) {t : List ℕ} → WrittenT t → KeyT w x (runtime t) (quoted t)
+  pub key_written : {w : W} (x : Val) {t : List ℕ} → WrittenT t → KeyT w x (runtime t false) (quoted t)
   pub env_top : {w : W} {c : ℕ} {d d' : List ℕ} → LoadedT w c → DeclaresT d d' → EnvT (outer c) w (record top { declares = d }) (record top { declares = d' })
   pub env_this : {c : Ctx} {w : W} {g h : Env} → ThisT c → EnvT c w g h → OptT (ValT (O w)) g.this h.this
   pub env_declares : {c : Ctx} {w : W} {g h : Env} → EnvT c w g h → DeclaresT g.declares h.declares

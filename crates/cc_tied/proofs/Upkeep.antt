@@ -13,7 +13,7 @@ use Rattle.cc_meaning.specs.SlotRules.{rule_unless}
 use Rattle.cc_meaning.specs.Rules.{callable, callee_rule}
 use Rattle.cc_meaning.specs.Judge.{Act, reads, writes, calls, hosts, least_broken}
 use Rattle.cc_meaning.specs.Acts.{judged, allowed, refused, is_fatal, changing, make_object, make_array, make_instance, make_function, push_frame, read_var, write_var, read_slot, write_slot, remove, probe, walk, operate, operate_one, cast_to, show}
-use Rattle.cc_meaning.specs.Calls.{Bodies, code_in, code_at, method_on, prim_member, declares_on, call_object, take_path, keep_path, use_built}
+use Rattle.cc_meaning.specs.Calls.{Bodies, code_in, code_at, method_on, prim_member, declares_on, call_object, take_path, keep_path, use_built, reach_method}
 use Rattle.cc_meaning.specs.Meaning.{call_frame}
 use Rattle.cc_meaning.specs.Script.{note_end}
 use Rattle.cc_tied.specs.Tied.{ListT, OptT, none_t, some_t, ValT, WayT, went_t, thrown_t, Sited, CodeT, entering, leaving, loading}
@@ -40,6 +40,8 @@ pub record Upkeep (T : Tie) : Type 1 where
   -- the built-in method that is found is the same
   pub up_method : {w : T.W} {s t : State} {x y : Val} {a b : Access} → T.Tied w s t → ValT (T.O w) x y → T.KeyT w x a b → method_on s x (name_of s.tables a) ≡ method_on t y (name_of t.tables b)
   pub up_method_read : {w : World T} {x y : Val} {a b : Access} {i i' : Spot} → T.SpotT i i' → ValT (T.O w.w) x y → T.KeyT w.w x a b → Sim T (λ v p q. Unit {0}) w (judged T.J i (reads x a) skip) (judged T.J' i' (reads y b) skip)
+  -- what is met on the way to a built-in method
+  pub up_reach_method : {w : World T} {x y : Val} {a b : Access} {i i' : Spot} → T.SpotT i i' → ValT (T.O w.w) x y → T.KeyT w.w x a b → Sim T (λ v p q. Unit {0}) w (reach_method T.J i x a) (reach_method T.J' i' y b)
   -- a use of what is built in, which may call
   pub up_use : {w : World T} {vs vs' : List Val} {i i' : Spot} (B B' : Bodies) → T.SpotT i i' → (u : Use) → ListT (ValT (T.O w.w)) vs vs' → ((m n : ℕ) (x y : Val) (us us' : List Val) → T.O w.w m n → ValT (T.O w.w) x y → ListT (ValT (T.O w.w)) us us' → Sim T (λ v. ValT (T.O v.w)) w (call_object T.J B i m (Some x) us) (call_object T.J' B' i' n (Some y) us')) → Sim T (λ v. ValT (T.O v.w)) w (use_built T.J B i u vs) (use_built T.J' B' i' u vs')
   -- ---- values that are no objects of the program
@@ -195,7 +197,7 @@ module _ (T : Tie) (U : Upkeep T) where
     loaded_later = λ l h. T.loaded_later l.2 h;
     new_value = λ h. T.new_value h;
     runs_code = λ h. T.runs_code h;
-    key_runtime = λ x t. T.key_runtime x t;
+    key_runtime = λ x v e. T.key_runtime x v e;
     key_quoted = λ x h. T.key_quoted x h;
     key_written = λ x h. T.key_written x h;
     env_top = λ l h. T.env_top l h;
@@ -230,6 +232,7 @@ module _ (T : Tie) (U : Upkeep T) where
     rel_typeof = U.up_typeof;
     rel_method = sim_method;
     rel_method_read = U.up_method_read;
+    rel_reach_method = U.up_reach_method;
     rel_use = U.up_use;
     rel_prim_read = U.up_prim_read;
     rel_out_read = U.up_out_read;

@@ -5,12 +5,12 @@ use Rattle.cc_ast.specs.declared.tables.GlobalInfo.{GlobalInfo}
 use Rattle.cc_meaning.specs.Values.{Event, Spot}
 use Rattle.cc_meaning.specs.Monad.{spent, strayed, Mode}
 use Rattle.cc_meaning.specs.Meaning.{bodies}
-use Rattle.cc_meaning.specs.Script.{Script, IsFollowing, Finish, stopped, finish, turns_from, start, run, plain}
+use Rattle.cc_meaning.specs.Script.{Script, IsFollowing, Finish, stopped, Run, finish, turns_from, start, run, plain}
 use Rattle.cc_meaning.specs.Same.{Prefix, Same, Agrees}
 use Rattle.cc_meaning.specs.Alike.{In, Alike}
 
 -- a run in which calls go no deeper than d
-unfoldable pub run_to : (d : ℕ) → Mode → Program → Script → ℕ → List Event × Finish
+unfoldable pub run_to : (d : ℕ) → Mode → Program → Script → ℕ → Run
 unfolding finish turns_from bodies start
 run_to d J P sc n = finish (turns_from J P (bodies J P d) 0 sc.turns (start J P sc.replies n))
 
@@ -19,9 +19,9 @@ abbrev pub DepthIsEnough : Mode → Type 0
 DepthIsEnough J = (P : Program) (sc : Script) (n d : ℕ) → n ≤ d → run_to d J P sc n ≡ run J P sc n
 
 -- the second goes on where the first has nothing left to spend, and else does the same
-pub data IsExtendedBy : List Event × Finish → List Event × Finish → Type 0 where
-  goes_on : {u : List Event} {y : List Event × Finish} → Prefix u y.0 → IsExtendedBy (u, stopped spent) y
-  does_the_same : {x : List Event × Finish} → IsExtendedBy x x
+pub data IsExtendedBy : Run → Run → Type 0 where
+  goes_on : {u : List Event} {y : Run} → Prefix u y.events → IsExtendedBy (record { events = u; end = stopped spent }) y
+  does_the_same : {x : Run} → IsExtendedBy x x
 
 -- a larger budget only extends a run
 abbrev pub BudgetExtends : Mode → Type 0
@@ -46,7 +46,7 @@ pub data EndsAlike : Finish → Finish → Type 0 where
 
 -- alike programs have equal plain runs
 abbrev pub AlikeRuns : Type 0
-AlikeRuns = (P Q : Program) → Alike P Q → (sc : Script) → IsFollowing P sc → (n : ℕ) → ((run plain P sc n).0 ≡ (run plain Q sc n).0) × EndsAlike (run plain P sc n).1 (run plain Q sc n).1
+AlikeRuns = (P Q : Program) → Alike P Q → (sc : Script) → IsFollowing P sc → (n : ℕ) → ((run plain P sc n).events ≡ (run plain Q sc n).events) × EndsAlike (run plain P sc n).end (run plain Q sc n).end
 
 -- what agrees with a program agrees with what is alike
 abbrev pub AgreementReachesAlike : Type 0

@@ -3,12 +3,13 @@ use Rattle.std.specs.Prelude.{ℕ, ◌≡◌, Bool, true, List, [], ◌∷◌, O
 use Rattle.cc_ast.specs.Syntax.{Prim}
 use Rattle.cc_ast.specs.declared.tree.Ref.{Ref}
 use Rattle.cc_meaning.specs.Values.{Val, prim, obj, out, View, Spot, at_site}
+use Rattle.cc_meaning.specs.Operators.{key_text}
 use Rattle.cc_meaning.specs.State.{Code, Inner, Tables}
 use Rattle.cc_meaning.specs.Monad.{M, Way, went, thrown, with_tables, Mode}
 use Rattle.cc_meaning.specs.Store.{Access, runtime, Built, Global, extern, built_in, of_chunk, global_kind, Use}
 use Rattle.cc_meaning.specs.Typed.{params_in, result_in, function_doc}
 use Rattle.cc_meaning.specs.Judge.{enters, leaves, hosts}
-use Rattle.cc_meaning.specs.Acts.{judged, changing, receive, receive_each}
+use Rattle.cc_meaning.specs.Acts.{judged, changing, receive, receive_each, is_whole}
 use Rattle.cc_meaning.specs.Calls.{Reference, Reach, plain, access, built_global, built_member, Callee, called_value, called_use, Returned, member_use}
 use Rattle.cc_meaning.specs.Meaning.{Comp, normal, returns, breaks, continues, Place, variable_place, slot_place}
 use Rattle.cc_meaning.specs.Script.{Turn, load, call, get, set, dependency_failed, note_load}
@@ -76,9 +77,9 @@ pub data PlaceT (S : Spot → Spot → Type 0) (Reads Writes : Ref → Ref → T
   variable_t : {i j : ℕ} {r r' : Ref} → Sited S i j → Reads r r' → Writes r r' → PlaceT S Reads Writes R (variable_place i r) (variable_place j r')
   slot_t : {a b : Reference} → R a b → PlaceT S Reads Writes R (slot_place a) (slot_place b)
 
--- the same text of a value as key
+-- the key that one value is
 pub data RuntimeT : Access → Access → Type 0 where
-  runtime_t : {t : List ℕ} → RuntimeT (runtime t) (runtime t)
+  runtime_t : (v : Val) {t : List ℕ} → key_text v ≡ Some t → RuntimeT (runtime t (is_whole v)) (runtime t (is_whole v))
 
 -- ---- parts of the meaning, under names of their own
 

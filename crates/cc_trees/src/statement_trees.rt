@@ -5,13 +5,13 @@ ghost use Rattle.cc_grammar.specs.RawTree as raw;
 ghost use Rattle.cc_raw.specs.Bridge.{named, raw_expr, raw_for_target, raw_init, raw_stmt, raw_target};
 ghost use Rattle.cc_trees.specs.StatementParts as parts;
 
-use cc_ast::copy::table::CopyOf;
 use cc_ast::place::Place;
 use cc_ast::units::Units;
 use cc_raw::tree::{
-    Named, RawCase, RawCatch, RawDeclarator, RawExpr, RawForTarget, RawInit, RawStmt, RawTarget,
+    Named, RawCase, RawCatch, RawDeclaration, RawDeclarator, RawExpr, RawForHead, RawForTarget,
+    RawHandlers, RawInit, RawStmt, RawTarget,
 };
-use sqlite_items::Items;
+use sqlite_items::{Boxed, Items};
 use std::alloc::{AllocError, Global};
 
 /// A jump with an optional label.
@@ -21,12 +21,13 @@ pub enum Jump {
     Break,
 }
 
-// A list that grows has room for four, which is too much for the one of most bodies.
-fn only(alloc: Global, statement: RawStmt) -> Result<Items<RawStmt>, AllocError>
-    ensures { IfOk result (λ all. all ≡ statement ∷ []) }
+// A list of this alone. One that grows has room for four, which is too much for the one statement of
+// most bodies.
+fn only<T: Drop>(alloc: Global, item: T) -> Result<Items<T>, AllocError>
+    ensures { IfOk result (λ all. all ≡ item ∷ []) }
 {
     let mut all = Vec::with_capacity(alloc, 1)?;
-    all.push(statement)?;
+    all.push(item)?;
     Ok(Items::from_vec(all))
 }
 
@@ -46,7 +47,7 @@ pub fn joined(
 
 /// An expression statement.
 #[tactic(auto, using(cc_raw::specs::StmtTerms::raw_stmt_steps, crate::proofs::PartLemmas::part_steps))]
-pub fn simple(alloc: Global, place: Place, e: RawExpr) -> Result<Items<RawStmt>, AllocError>
+pub fn simple(alloc: Global, place: Place, e: Boxed<RawExpr>) -> Result<Items<RawStmt>, AllocError>
     ensures { IfOk result (λ ss. map raw_stmt ss ≡ raw.simple place (raw_expr e) ∷ []) }
 {
     only(alloc, RawStmt::Simple(place, e))
@@ -75,7 +76,8 @@ pub fn declaration(
 ) -> Result<Items<RawStmt>, AllocError>
     ensures { IfOk result (λ ss. map raw_stmt ss ≡ raw.fun_decl place (named name) (map named params) (parts.body body) ∷ []) }
 {
-    only(alloc, RawStmt::FunDecl(place, name, params, body))
+    let declaration = Boxed::new(alloc, RawDeclaration { name, params, body })?;
+    only(alloc, RawStmt::FunDecl(place, declaration))
 }
 
 /// An `if`.
@@ -83,7 +85,7 @@ pub fn declaration(
 pub fn choice(
     alloc: Global,
     place: Place,
-    test: RawExpr,
+    test: Boxed<RawExpr>,
     then: Items<RawStmt>,
     otherwise: Items<RawStmt>,
 ) -> Result<Items<RawStmt>, AllocError>
@@ -97,7 +99,7 @@ pub fn choice(
 pub fn while_loop(
     alloc: Global,
     place: Place,
-    test: RawExpr,
+    test: Boxed<RawExpr>,
     body: Items<RawStmt>,
 ) -> Result<Items<RawStmt>, AllocError>
     ensures { IfOk result (λ ss. map raw_stmt ss ≡ raw.while place (raw_expr test) (parts.body body) ∷ []) }
@@ -111,7 +113,7 @@ pub fn do_while(
     alloc: Global,
     place: Place,
     body: Items<RawStmt>,
-    test: RawExpr,
+    test: Boxed<RawExpr>,
 ) -> Result<Items<RawStmt>, AllocError>
     ensures { IfOk result (λ ss. map raw_stmt ss ≡ raw.do_while place (parts.body body) (raw_expr test) ∷ []) }
 {
@@ -124,13 +126,14 @@ pub fn for_loop(
     alloc: Global,
     place: Place,
     init: RawInit,
-    test: Option<RawExpr>,
-    step: Option<RawExpr>,
+    test: Option<Boxed<RawExpr>>,
+    step: Option<Boxed<RawExpr>>,
     body: Items<RawStmt>,
 ) -> Result<Items<RawStmt>, AllocError>
     ensures { IfOk result (λ ss. map raw_stmt ss ≡ raw.for place (raw_init init) (parts.optional test) (parts.optional step) (parts.body body) ∷ []) }
 {
-    only(alloc, RawStmt::For(place, init, test, step, body))
+    let head = Boxed::new(alloc, RawForHead { init, test, step })?;
+    only(alloc, RawStmt::For(place, head, body))
 }
 
 /// A `for-in`.
@@ -139,7 +142,7 @@ pub fn for_in(
     alloc: Global,
     place: Place,
     target: RawForTarget,
-    e: RawExpr,
+    e: Boxed<RawExpr>,
     body: Items<RawStmt>,
 ) -> Result<Items<RawStmt>, AllocError>
     ensures { IfOk result (λ ss. map raw_stmt ss ≡ raw.for_in place (raw_for_target target) (raw_expr e) (parts.body body) ∷ []) }
@@ -152,7 +155,7 @@ pub fn for_in(
 pub fn returned(
     alloc: Global,
     place: Place,
-    value: Option<RawExpr>,
+    value: Option<Boxed<RawExpr>>,
 ) -> Result<Items<RawStmt>, AllocError>
     ensures { IfOk result (λ ss. map raw_stmt ss ≡ raw.return place (parts.optional value) ∷ []) }
 {
@@ -161,7 +164,7 @@ pub fn returned(
 
 /// A `throw`.
 #[tactic(auto, using(cc_raw::specs::StmtTerms::raw_stmt_steps, crate::proofs::PartLemmas::part_steps))]
-pub fn throw(alloc: Global, place: Place, e: RawExpr) -> Result<Items<RawStmt>, AllocError>
+pub fn throw(alloc: Global, place: Place, e: Boxed<RawExpr>) -> Result<Items<RawStmt>, AllocError>
     ensures { IfOk result (λ ss. map raw_stmt ss ≡ raw.throw place (raw_expr e) ∷ []) }
 {
     only(alloc, RawStmt::Throw(place, e))
@@ -185,7 +188,7 @@ pub fn label(
 pub fn switch(
     alloc: Global,
     place: Place,
-    e: RawExpr,
+    e: Boxed<RawExpr>,
     clauses: Items<RawCase>,
 ) -> Result<Items<RawStmt>, AllocError>
     ensures { IfOk result (λ ss. map raw_stmt ss ≡ raw.switch place (raw_expr e) (raw.cases (parts.clauses clauses)) ∷ []) }
@@ -204,7 +207,8 @@ pub fn try_statement(
 ) -> Result<Items<RawStmt>, AllocError>
     ensures { IfOk result (λ ss. map raw_stmt ss ≡ raw.try place (parts.body body) (parts.catch catch) (parts.finally finally) ∷ []) }
 {
-    only(alloc, RawStmt::Try(place, body, catch, finally))
+    let handlers = Boxed::new(alloc, RawHandlers { catch, finally })?;
+    only(alloc, RawStmt::Try(place, body, handlers))
 }
 
 /// A `continue` or a `break`.
@@ -225,7 +229,7 @@ pub fn make_jump(
 
 /// A variable of a `var`.
 #[tactic(auto, using(cc_raw::specs::StmtTerms::raw_stmt_steps, crate::proofs::PartLemmas::part_steps))]
-pub fn declarator(variable: Named, value: Option<RawExpr>) -> RawDeclarator
+pub fn declarator(variable: Named, value: Option<Boxed<RawExpr>>) -> RawDeclarator
     ensures { parts.declarator result ≡ record { variable = named variable; value = parts.optional value } }
 {
     RawDeclarator { variable, value }
@@ -233,7 +237,7 @@ pub fn declarator(variable: Named, value: Option<RawExpr>) -> RawDeclarator
 
 /// A clause of a `switch`.
 #[tactic(auto, using(cc_raw::specs::StmtTerms::raw_stmt_steps, crate::proofs::PartLemmas::part_steps))]
-pub fn clause(test: Option<RawExpr>, body: Items<RawStmt>) -> RawCase
+pub fn clause(test: Option<Boxed<RawExpr>>, body: Items<RawStmt>) -> RawCase
     ensures { parts.clause result ≡ record { test = parts.optional test; body = map raw_stmt body } }
 {
     RawCase { test, body }
@@ -249,7 +253,7 @@ pub fn catch(variable: Named, body: Items<RawStmt>) -> RawCatch
 
 /// A `for` that begins with an expression.
 #[tactic(auto, using(cc_raw::specs::StmtTerms::raw_stmt_steps, crate::proofs::PartLemmas::part_steps))]
-pub fn init_value(e: RawExpr) -> RawInit
+pub fn init_value(e: Boxed<RawExpr>) -> RawInit
     ensures { raw_init result ≡ raw.init_value (raw_expr e) }
 {
     RawInit::Value(e)
@@ -273,7 +277,7 @@ pub fn no_init() -> RawInit
 
 /// A `for-in` that writes to a target.
 #[tactic(auto, using(cc_raw::specs::StmtTerms::raw_stmt_steps, crate::proofs::PartLemmas::part_steps))]
-pub fn in_target(target: RawTarget) -> RawForTarget
+pub fn in_target(target: Boxed<RawTarget>) -> RawForTarget
     ensures { raw_for_target result ≡ raw.in_target (raw_target target) }
 {
     RawForTarget::Target(target)
@@ -281,16 +285,8 @@ pub fn in_target(target: RawTarget) -> RawForTarget
 
 /// A `for-in` that declares a variable.
 #[tactic(auto, using(cc_raw::specs::StmtTerms::raw_stmt_steps, crate::proofs::PartLemmas::part_steps))]
-pub fn in_declared(declarator: RawDeclarator) -> RawForTarget
+pub fn in_declared(declarator: Boxed<RawDeclarator>) -> RawForTarget
     ensures { raw_for_target result ≡ raw.in_declared (parts.declarator declarator).variable (parts.declarator declarator).value }
 {
     RawForTarget::Declared(declarator)
-}
-
-/// A variable that an expression begins with.
-#[tactic(auto, using(cc_raw::specs::Terms::raw_steps))]
-pub fn variable(alloc: Global, place: Place, name: &Units) -> Result<RawExpr, AllocError>
-    ensures { IfOk result (λ e. raw_expr e ≡ raw.var place name.now) }
-{
-    Ok(RawExpr::Var(place, name.copy_of(alloc)?))
 }

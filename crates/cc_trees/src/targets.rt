@@ -1,10 +1,12 @@
 // What is written to.
 
-ghost use Rattle.std.specs.Prelude.{◌≡◌, IsTrue, Some, is_some};
+ghost use Rattle.std.specs.Prelude.{◌≡◌, IsTrue, IfOk, Some, is_some};
 ghost use Rattle.cc_grammar.specs.Signs as signs;
 ghost use Rattle.cc_raw.specs.Bridge.{raw_expr, raw_target};
 
 use cc_raw::tree::{RawExpr, RawTarget};
+use sqlite_items::Boxed;
+use std::alloc::{AllocError, Global};
 
 /// Whether an expression can be written to.
 #[tactic(auto, using(cc_raw::specs::Terms::raw_steps))]
@@ -32,17 +34,25 @@ pub fn is_variable(e: &RawExpr) -> bool
 
 /// The target that an expression is.
 #[tactic(auto, using(cc_raw::specs::Terms::raw_steps))]
-pub fn into_target(e: RawExpr) -> RawTarget
+pub fn into_target(e: Boxed<RawExpr>) -> RawTarget
     requires { IsTrue (is_some (signs.target_of (raw_expr e))) }
     ensures { signs.target_of (raw_expr e) ≡ Some (raw_target result) }
 {
-    match e {
+    match e.into_inner() {
         RawExpr::Var(place, name) => RawTarget::Variable(place, name),
         RawExpr::Member(place, e, name_place, name) => {
             RawTarget::Dotted(place, e, name_place, name)
         }
         RawExpr::Index(place, e, key) => RawTarget::Bracketed(place, e, key),
-        RawExpr::Cast(_, inner) => into_target(inner.into_inner()),
+        RawExpr::Cast(_, inner) => into_target(inner),
         _ => unreachable!(),
     }
+}
+
+/// The target that an expression is, in a box.
+pub fn boxed_target(alloc: Global, e: Boxed<RawExpr>) -> Result<Boxed<RawTarget>, AllocError>
+    requires { IsTrue (is_some (signs.target_of (raw_expr e))) }
+    ensures { IfOk result (λ target. signs.target_of (raw_expr e) ≡ Some (raw_target target)) }
+{
+    Boxed::new(alloc, into_target(e))
 }

@@ -2,33 +2,51 @@
 
 ghost use Rattle.std.specs.Prelude.{◌≡◌, map, IfOk, if◌then◌else◌};
 ghost use Rattle.std.specs.Option.{option_map};
+ghost use Rattle.cc_ast.specs.Syntax.{text};
 ghost use Rattle.cc_grammar.specs.Signs as signs;
 ghost use Rattle.cc_grammar.specs.RawTree as raw;
 ghost use Rattle.cc_raw.specs.Bridge.{named, raw_expr, raw_stmt, raw_target};
 ghost use Rattle.cc_cursor.specs.Meant as meant;
 ghost use Rattle.cc_cursor.specs.Shown as shown;
 
-use cc_ast::copy::table::CopyOf;
+use cc_ast::copy::CopyOf;
 use cc_ast::operator::{BinOp, UnOp};
 use cc_ast::place::Place;
 use cc_ast::units::Units;
 use cc_cursor::signs::{Infix, Leaf};
-use cc_raw::tree::{Named, RawExpr, RawField, RawStmt, RawTarget};
+use cc_raw::tree::{Named, RawExpr, RawField, RawFunction, RawStmt, RawTarget};
 use sqlite_items::{Boxed, Items};
 use std::alloc::{AllocError, Global};
 
+/// A variable.
+#[tactic(auto, using(cc_raw::specs::Terms::raw_steps))]
+pub fn variable(alloc: Global, place: Place, name: &Units) -> Result<Boxed<RawExpr>, AllocError>
+    ensures { IfOk result (λ e. raw_expr e ≡ raw.var place name.now) }
+{
+    let name = name.copy_of(alloc)?;
+    Boxed::new(alloc, RawExpr::Var(place, name))
+}
+
+#[tactic(auto, using(cc_raw::specs::Terms::raw_steps))]
+fn text_tree(alloc: Global, place: Place, units: &Units) -> Result<Boxed<RawExpr>, AllocError>
+    ensures { IfOk result (λ e. raw_expr e ≡ raw.lit place (text units.now)) }
+{
+    let units = units.copy_of(alloc)?;
+    Boxed::new(alloc, RawExpr::Text(place, units))
+}
+
 /// A primary expression of one token.
 #[tactic(auto, using(cc_raw::specs::Terms::raw_steps))]
-pub fn leaf_tree(alloc: Global, leaf: Leaf<'_>, place: Place) -> Result<RawExpr, AllocError>
+pub fn leaf_tree(alloc: Global, leaf: Leaf<'_>, place: Place) -> Result<Boxed<RawExpr>, AllocError>
     ensures { IfOk result (λ e. raw_expr e ≡ meant.leaf_tree leaf.entry place) }
 {
     match leaf {
-        Leaf::This => Ok(RawExpr::This(place)),
-        Leaf::Null => Ok(RawExpr::Null(place)),
-        Leaf::Truth(truth) => Ok(RawExpr::Truth(place, truth)),
-        Leaf::Whole(number) => Ok(RawExpr::Whole(place, number)),
-        Leaf::Text(text) => Ok(RawExpr::Text(place, text.copy_of(alloc)?)),
-        Leaf::Variable(name) => Ok(RawExpr::Var(place, name.copy_of(alloc)?)),
+        Leaf::This => Boxed::new(alloc, RawExpr::This(place)),
+        Leaf::Null => Boxed::new(alloc, RawExpr::Null(place)),
+        Leaf::Truth(truth) => Boxed::new(alloc, RawExpr::Truth(place, truth)),
+        Leaf::Whole(number) => Boxed::new(alloc, RawExpr::Whole(place, number)),
+        Leaf::Text(units) => text_tree(alloc, place, units),
+        Leaf::Variable(name) => variable(alloc, place, name),
     }
 }
 
@@ -38,12 +56,12 @@ pub fn parenthesised(
     alloc: Global,
     noted: bool,
     place: Place,
-    e: RawExpr,
-) -> Result<RawExpr, AllocError>
+    e: Boxed<RawExpr>,
+) -> Result<Boxed<RawExpr>, AllocError>
     ensures { IfOk result (λ r. raw_expr r ≡ (if noted then raw.cast place (raw_expr e) else raw_expr e)) }
 {
     if noted {
-        Ok(RawExpr::Cast(place, Boxed::new(alloc, e)?))
+        Boxed::new(alloc, RawExpr::Cast(place, e))
     } else {
         Ok(e)
     }
@@ -51,31 +69,41 @@ pub fn parenthesised(
 
 /// An array literal.
 #[tactic(auto, using(cc_raw::specs::Terms::raw_steps, crate::proofs::TreeLemmas::exprs_shown))]
-pub fn list(place: Place, items: Items<RawExpr>) -> RawExpr
-    ensures { raw_expr result ≡ raw.list place (raw.exprs (map raw_expr items)) }
+pub fn list(
+    alloc: Global,
+    place: Place,
+    items: Items<RawExpr>,
+) -> Result<Boxed<RawExpr>, AllocError>
+    ensures { IfOk result (λ r. raw_expr r ≡ raw.list place (raw.exprs (map raw_expr items))) }
 {
-    RawExpr::List(place, items)
+    Boxed::new(alloc, RawExpr::List(place, items))
 }
 
 /// An object literal.
 #[tactic(auto, using(cc_raw::specs::Terms::raw_steps, crate::proofs::TreeLemmas::fields_shown))]
-pub fn object(place: Place, fields: Items<RawField>) -> RawExpr
-    ensures { raw_expr result ≡ raw.object place (raw.fields (map shown.field fields)) }
+pub fn object(
+    alloc: Global,
+    place: Place,
+    fields: Items<RawField>,
+) -> Result<Boxed<RawExpr>, AllocError>
+    ensures { IfOk result (λ r. raw_expr r ≡ raw.object place (raw.fields (map shown.field fields))) }
 {
-    RawExpr::Object(place, fields)
+    Boxed::new(alloc, RawExpr::Object(place, fields))
 }
 
 /// A function expression.
 #[tactic(auto, using(cc_raw::specs::Terms::raw_steps, crate::proofs::TreeLemmas::stmts_shown))]
 pub fn function(
+    alloc: Global,
     place: Place,
     own: Option<Named>,
     params: Items<Named>,
     body: Items<RawStmt>,
-) -> RawExpr
-    ensures { raw_expr result ≡ raw.fun place (option_map named own) (map named params) (raw.stmts (map raw_stmt body)) }
+) -> Result<Boxed<RawExpr>, AllocError>
+    ensures { IfOk result (λ r. raw_expr r ≡ raw.fun place (option_map named own) (map named params) (raw.stmts (map raw_stmt body))) }
 {
-    RawExpr::Fun(place, own, params, body)
+    let function = Boxed::new(alloc, RawFunction { own, params, body })?;
+    Boxed::new(alloc, RawExpr::Fun(place, function))
 }
 
 /// A `new`.
@@ -83,12 +111,12 @@ pub fn function(
 pub fn new(
     alloc: Global,
     place: Place,
-    callee: RawExpr,
+    callee: Boxed<RawExpr>,
     arguments: Items<RawExpr>,
-) -> Result<RawExpr, AllocError>
+) -> Result<Boxed<RawExpr>, AllocError>
     ensures { IfOk result (λ r. raw_expr r ≡ raw.new place (raw_expr callee) (raw.exprs (map raw_expr arguments))) }
 {
-    Ok(RawExpr::New(place, Boxed::new(alloc, callee)?, arguments))
+    Boxed::new(alloc, RawExpr::New(place, callee, arguments))
 }
 
 /// A call.
@@ -96,12 +124,12 @@ pub fn new(
 pub fn call(
     alloc: Global,
     place: Place,
-    callee: RawExpr,
+    callee: Boxed<RawExpr>,
     arguments: Items<RawExpr>,
-) -> Result<RawExpr, AllocError>
+) -> Result<Boxed<RawExpr>, AllocError>
     ensures { IfOk result (λ r. raw_expr r ≡ raw.call place (raw_expr callee) (raw.exprs (map raw_expr arguments))) }
 {
-    Ok(RawExpr::Call(place, Boxed::new(alloc, callee)?, arguments))
+    Boxed::new(alloc, RawExpr::Call(place, callee, arguments))
 }
 
 /// An access with a dot.
@@ -109,22 +137,26 @@ pub fn call(
 pub fn member(
     alloc: Global,
     place: Place,
-    e: RawExpr,
+    e: Boxed<RawExpr>,
     name_place: Place,
     name: Units,
-) -> Result<RawExpr, AllocError>
+) -> Result<Boxed<RawExpr>, AllocError>
     ensures { IfOk result (λ r. raw_expr r ≡ raw.member place (raw_expr e) name_place name) }
 {
-    Ok(RawExpr::Member(place, Boxed::new(alloc, e)?, name_place, name))
+    Boxed::new(alloc, RawExpr::Member(place, e, name_place, name))
 }
 
 /// An access with brackets.
 #[tactic(auto, using(cc_raw::specs::Terms::raw_steps))]
-pub fn index(alloc: Global, place: Place, e: RawExpr, key: RawExpr) -> Result<RawExpr, AllocError>
+pub fn index(
+    alloc: Global,
+    place: Place,
+    e: Boxed<RawExpr>,
+    key: Boxed<RawExpr>,
+) -> Result<Boxed<RawExpr>, AllocError>
     ensures { IfOk result (λ r. raw_expr r ≡ raw.index place (raw_expr e) (raw_expr key)) }
 {
-    let e = Boxed::new(alloc, e)?;
-    Ok(RawExpr::Index(place, e, Boxed::new(alloc, key)?))
+    Boxed::new(alloc, RawExpr::Index(place, e, key))
 }
 
 /// A `++` where `up` is true, else a `--`; before its operand where `prefix` is true.
@@ -134,19 +166,24 @@ pub fn step(
     place: Place,
     up: bool,
     prefix: bool,
-    target: RawTarget,
-) -> Result<RawExpr, AllocError>
+    target: Boxed<RawTarget>,
+) -> Result<Boxed<RawExpr>, AllocError>
     ensures { IfOk result (λ r. raw_expr r ≡ raw.step place up prefix (raw_target target)) }
 {
-    Ok(RawExpr::Step(place, up, prefix, Boxed::new(alloc, target)?))
+    Boxed::new(alloc, RawExpr::Step(place, up, prefix, target))
 }
 
 /// A unary operator before its operand.
 #[tactic(auto, using(cc_raw::specs::Terms::raw_steps))]
-pub fn unary(alloc: Global, place: Place, operator: UnOp, e: RawExpr) -> Result<RawExpr, AllocError>
+pub fn unary(
+    alloc: Global,
+    place: Place,
+    operator: UnOp,
+    e: Boxed<RawExpr>,
+) -> Result<Boxed<RawExpr>, AllocError>
     ensures { IfOk result (λ r. raw_expr r ≡ raw.unary place operator (raw_expr e)) }
 {
-    Ok(RawExpr::Unary(place, operator, Boxed::new(alloc, e)?))
+    Boxed::new(alloc, RawExpr::Unary(place, operator, e))
 }
 
 /// A binary operator between its operands.
@@ -155,17 +192,15 @@ pub fn binary(
     alloc: Global,
     sign: Infix,
     place: Place,
-    left: RawExpr,
-    right: RawExpr,
-) -> Result<RawExpr, AllocError>
+    left: Boxed<RawExpr>,
+    right: Boxed<RawExpr>,
+) -> Result<Boxed<RawExpr>, AllocError>
     ensures { IfOk result (λ r. raw_expr r ≡ signs.infix_tree (meant.binary sign) place (raw_expr left) (raw_expr right)) }
 {
-    let left = Boxed::new(alloc, left)?;
-    let right = Boxed::new(alloc, right)?;
     match sign {
-        Infix::Or => Ok(RawExpr::Or(place, left, right)),
-        Infix::And => Ok(RawExpr::And(place, left, right)),
-        Infix::Operator(operator) => Ok(RawExpr::Binary(place, operator, left, right)),
+        Infix::Or => Boxed::new(alloc, RawExpr::Or(place, left, right)),
+        Infix::And => Boxed::new(alloc, RawExpr::And(place, left, right)),
+        Infix::Operator(o) => Boxed::new(alloc, RawExpr::Binary(place, o, left, right)),
     }
 }
 
@@ -174,15 +209,13 @@ pub fn binary(
 pub fn conditional(
     alloc: Global,
     place: Place,
-    test: RawExpr,
-    chosen: RawExpr,
-    otherwise: RawExpr,
-) -> Result<RawExpr, AllocError>
+    test: Boxed<RawExpr>,
+    chosen: Boxed<RawExpr>,
+    otherwise: Boxed<RawExpr>,
+) -> Result<Boxed<RawExpr>, AllocError>
     ensures { IfOk result (λ r. raw_expr r ≡ raw.cond place (raw_expr test) (raw_expr chosen) (raw_expr otherwise)) }
 {
-    let test = Boxed::new(alloc, test)?;
-    let chosen = Boxed::new(alloc, chosen)?;
-    Ok(RawExpr::Cond(place, test, chosen, Boxed::new(alloc, otherwise)?))
+    Boxed::new(alloc, RawExpr::Cond(place, test, chosen, otherwise))
 }
 
 /// An `=`, or a compound assignment.
@@ -191,13 +224,12 @@ pub fn assign(
     alloc: Global,
     place: Place,
     operator: Option<BinOp>,
-    target: RawTarget,
-    value: RawExpr,
-) -> Result<RawExpr, AllocError>
+    target: Boxed<RawTarget>,
+    value: Boxed<RawExpr>,
+) -> Result<Boxed<RawExpr>, AllocError>
     ensures { IfOk result (λ r. raw_expr r ≡ raw.assign place operator (raw_target target) (raw_expr value)) }
 {
-    let target = Boxed::new(alloc, target)?;
-    Ok(RawExpr::Assign(place, operator, target, Boxed::new(alloc, value)?))
+    Boxed::new(alloc, RawExpr::Assign(place, operator, target, value))
 }
 
 /// A comma between its operands.
@@ -205,11 +237,10 @@ pub fn assign(
 pub fn comma(
     alloc: Global,
     place: Place,
-    left: RawExpr,
-    right: RawExpr,
-) -> Result<RawExpr, AllocError>
+    left: Boxed<RawExpr>,
+    right: Boxed<RawExpr>,
+) -> Result<Boxed<RawExpr>, AllocError>
     ensures { IfOk result (λ r. raw_expr r ≡ raw.comma place (raw_expr left) (raw_expr right)) }
 {
-    let left = Boxed::new(alloc, left)?;
-    Ok(RawExpr::Comma(place, left, Boxed::new(alloc, right)?))
+    Boxed::new(alloc, RawExpr::Comma(place, left, right))
 }

@@ -7,29 +7,40 @@ ghost use Rattle.cc_clear.specs.Clear.{NoDocs};
 ghost use Rattle.cc_core.specs.State.{started};
 
 use cc_ast::operator::BinOp;
-use cc_ast::program::{Program, Scope};
+use cc_ast::program::{Heads, Program, Scope};
+use cc_ast::shared::Shared;
 use cc_ast::tree::{Expr, Ref, Stmt};
 use cc_clear::clear::Clear;
 use cc_core::alone::work_alone;
 use cc_core::shop::{CloseFault, Shop};
 use sqlite_items::{Boxed, Items};
 use std::alloc::{AllocError, Global};
-use std::time::Instant;
+use std::time::{Duration, Instant};
 use std::{env, io};
 
-// A function that returns a sum of a parameter and a number.
+// A sum of a parameter and a number.
+fn a_sum(alloc: Global) -> Result<Boxed<Expr>, AllocError> {
+    let left = Boxed::new(alloc, Expr::Var(0, Ref::Frame(0, 0)))?;
+    let right = Boxed::new(alloc, Expr::Whole(0, 1))?;
+    Boxed::new(alloc, Expr::Binary(0, BinOp::Add, left, right))
+}
+
+fn a_body(alloc: Global) -> Result<Shared<Items<Stmt>>, AllocError> {
+    let sum = a_sum(alloc)?;
+    let mut body = Items::new(alloc);
+    body.push(Stmt::Return(0, Some(sum)))?;
+    Shared::new(alloc, body)
+}
+
+// A function that returns the sum.
 fn a_scope(alloc: Global) -> Result<Scope, AllocError>
     ensures { IfOk result (λ made. made.doc ≡ 0) }
 {
-    let left = Boxed::new(alloc, Expr::Var(0, Ref::Frame(0, 0)))?;
-    let right = Boxed::new(alloc, Expr::Whole(0, 1))?;
-    let mut body = Items::new(alloc);
-    body.push(Stmt::Return(0, Some(Expr::Binary(0, BinOp::Add, left, right))))?;
     Ok(Scope {
         params: 1,
         names: 0,
         own: false,
-        body,
+        body: a_body(alloc)?,
         parent: None,
         doc: 0,
     })
@@ -46,20 +57,71 @@ fn scopes(alloc: Global, count: u32) -> Result<Items<Scope>, AllocError>
     Ok(made)
 }
 
+fn none<T: Drop>(alloc: Global) -> Result<Shared<Items<T>>, AllocError> {
+    Shared::new(alloc, Items::new(alloc))
+}
+
+fn no_heads(alloc: Global) -> Result<Heads, AllocError> {
+    let Ok(globals) = none(alloc) else {
+        return Err(AllocError);
+    };
+    let Ok(props) = none(alloc) else {
+        return Err(AllocError);
+    };
+    let Ok(classes) = none(alloc) else {
+        return Err(AllocError);
+    };
+    let Ok(docs) = none(alloc) else {
+        return Err(AllocError);
+    };
+    Ok(Heads {
+        globals,
+        props,
+        classes,
+        docs,
+    })
+}
+
+// The program of these scopes, with empty tables.
+fn with_scopes(alloc: Global, scopes: Items<Scope>) -> Result<Program, AllocError>
+    ensures { IfOk result (λ made. made.scopes ≡ scopes) }
+{
+    let Ok(chunks) = none(alloc) else {
+        return Err(AllocError);
+    };
+    let Ok(kept) = none(alloc) else {
+        return Err(AllocError);
+    };
+    let Ok(places) = none(alloc) else {
+        return Err(AllocError);
+    };
+    let Ok(heads) = no_heads(alloc) else {
+        return Err(AllocError);
+    };
+    let Heads {
+        globals,
+        props,
+        classes,
+        docs,
+    } = heads;
+    Ok(Program {
+        scopes,
+        chunks,
+        globals,
+        props,
+        kept,
+        classes,
+        places,
+        docs,
+    })
+}
+
 fn a_program(alloc: Global, count: u32) -> Result<Program, AllocError>
     ensures no_docs { IfOk result (λ made. NoDocs made.scopes) }
     ensures length { IfOk result (λ made. length made.scopes ≡ count) }
 {
-    Ok(Program {
-        scopes: scopes(alloc, count)?,
-        chunks: Items::new(alloc),
-        globals: Items::new(alloc),
-        props: Items::new(alloc),
-        kept: Items::new(alloc),
-        classes: Items::new(alloc),
-        places: Items::new(alloc),
-        docs: Items::new(alloc),
-    })
+    let scopes = scopes(alloc, count)?;
+    with_scopes(alloc, scopes)
 }
 
 fn a_shop(alloc: Global, count: u32) -> Result<Shop<Clear>, AllocError>
@@ -70,27 +132,45 @@ fn a_shop(alloc: Global, count: u32) -> Result<Shop<Clear>, AllocError>
 
 /// Does the first phase and closes it, a second time where the first found no memory, since that
 /// leaves all as it was; says whether a phase follows.
-fn phase(shop: Shop<Clear>) -> Result<bool, AllocError>
-    requires { (program : _) × (shop ≡ record { rules = record {}; state = started program }) }
+fn phase(shop: &mut Shop<Clear>) -> Result<bool, AllocError>
+    requires { (program : _) × (shop.old ≡ record { rules = record {}; state = started program }) }
 {
-    let mut shop = work_alone(shop)?;
+    work_alone(shop)?;
     Ok(match shop.close() {
         Err(CloseFault::Memory) => matches!(shop.close(), Ok(true)),
         closed => matches!(closed, Ok(true)),
     })
 }
 
-fn main(rt: HostRuntime) -> io::Result<()> {
-    let mut args = env::args(&rt)?;
+// The number that the first argument says.
+fn count_asked(rt: &HostRuntime) -> io::Result<Option<u32>> {
+    let mut args = env::args(rt)?;
     let _program = args.next();
-    let count = match args.next().map(|word| word.as_str().parse::<u32>()) {
-        Some(Ok(count)) => count,
-        _ => return println!(rt; "how many scopes?"),
+    let Some(word) = args.next() else {
+        return Ok(None);
     };
-    let shop = a_shop(rt.alloc(), count)?;
-    let start = Instant::now(&rt)?;
+    Ok(word.as_str().parse::<u32>().ok())
+}
+
+// The time that the first phase takes, and whether another follows.
+fn timed(rt: &HostRuntime, shop: &mut Shop<Clear>) -> io::Result<(Duration, bool)>
+    requires { (program : _) × (shop.old ≡ record { rules = record {}; state = started program }) }
+{
+    let start = Instant::now(rt)?;
     let follows = phase(shop)?;
-    let spent = start.elapsed(&rt)?;
+    Ok((start.elapsed(rt)?, follows))
+}
+
+fn timed_for(rt: &HostRuntime, count: u32) -> io::Result<(Duration, bool)> {
+    let mut shop = a_shop(rt.alloc(), count)?;
+    timed(rt, &mut shop)
+}
+
+fn main(rt: HostRuntime) -> io::Result<()> {
+    let Some(count) = count_asked(&rt)? else {
+        return println!(rt; "how many scopes?");
+    };
+    let (spent, follows) = timed_for(&rt, count)?;
     let micros = spent.as_micros();
     println!(rt; "{count} scopes, {micros} us, {follows}")
 }

@@ -15,7 +15,7 @@ fn place_of(e: &RawExpr) -> Place {
         | RawExpr::Text(place, _)
         | RawExpr::Var(place, _)
         | RawExpr::This(place)
-        | RawExpr::Fun(place, _, _, _)
+        | RawExpr::Fun(place, _)
         | RawExpr::List(place, _)
         | RawExpr::Object(place, _)
         | RawExpr::Unary(place, _, _)
@@ -46,7 +46,7 @@ fn push_statement(page: &mut Page, stmt: &RawStmt) {
         RawStmt::Simple(place, e)
         | RawStmt::While(place, e, _)
         | RawStmt::ForIn(place, _, e, _)
-        | RawStmt::Throw(place, e) => push_pair(page, *place, e),
+        | RawStmt::Throw(place, e) => push_pair(page, *place, e.get()),
         _ => page.put("another;"),
     }
 }

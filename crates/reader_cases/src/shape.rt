@@ -6,10 +6,10 @@ use crate::page::Page;
 use cc_ast::operator::BinOp;
 use cc_ast::units::Units;
 use cc_raw::tree::{
-    Named, RawCase, RawCatch, RawDeclarator, RawExpr, RawField, RawForTarget, RawInit, RawKey,
-    RawStmt, RawTarget,
+    Named, RawCase, RawCatch, RawDeclaration, RawDeclarator, RawExpr, RawField, RawForHead,
+    RawForTarget, RawFunction, RawHandlers, RawInit, RawKey, RawStmt, RawTarget,
 };
-use sqlite_items::Items;
+use sqlite_items::{Boxed, Items};
 
 fn push_quoted(page: &mut Page, text: &Units) {
     page.put("'");
@@ -120,13 +120,16 @@ fn push_expr(page: &mut Page, e: &RawExpr) {
             page.put("(list");
             push_items(page, items);
         }
-        RawExpr::Fun(_, name, params, body) => {
-            push_head(page, name, params);
-            push_body(page, body);
-            page.put(")");
-        }
+        RawExpr::Fun(_, function) => push_function(page, function.get()),
         _ => push_other(page, e),
     }
+}
+
+#[cycle(shape)]
+fn push_function(page: &mut Page, function: &RawFunction) {
+    push_head(page, &function.own, &function.params);
+    push_body(page, &function.body);
+    page.put(")");
 }
 
 // What is called, reached or written.
@@ -190,9 +193,9 @@ fn push_last(page: &mut Page, e: &RawExpr) {
 
 // An expression behind a word, or a `_` where there is none.
 #[cycle(shape)]
-fn push_option(page: &mut Page, word: &str, e: &Option<RawExpr>) {
+fn push_option(page: &mut Page, word: &str, e: &Option<Boxed<RawExpr>>) {
     match e {
-        Some(e) => push_next(page, word, e),
+        Some(e) => push_next(page, word, e.get()),
         None => {
             page.put(word);
             page.put(" _");
@@ -215,7 +218,7 @@ fn push_fields(page: &mut Page, fields: &Items<RawField>) {
         page.put(" ");
         push_key(page, &field.key);
         page.put(":");
-        push_expr(page, &field.value);
+        push_expr(page, field.value.get());
     }
     page.put(")");
 }
@@ -272,40 +275,49 @@ pub(crate) fn push_body(page: &mut Page, body: &Items<RawStmt>) {
 #[cycle(shape)]
 fn push_stmt(page: &mut Page, stmt: &RawStmt) {
     match stmt {
-        RawStmt::Simple(_, e) => push_expr(page, e),
+        RawStmt::Simple(_, e) => push_expr(page, e.get()),
         RawStmt::Vars(_, declarators) => push_variables(page, declarators),
         RawStmt::Return(_, e) => push_option(page, "return", e),
-        RawStmt::Throw(_, e) => push_next(page, "throw", e),
+        RawStmt::Throw(_, e) => push_next(page, "throw", e.get()),
         RawStmt::Break(_, label) => push_jump(page, "break ", label),
         RawStmt::Continue(_, label) => push_jump(page, "continue ", label),
-        RawStmt::FunDecl(_, name, params, body) => {
-            page.put("function ");
-            page.units(&name.name);
-            push_params(page, params);
-            push_body(page, body);
-        }
+        RawStmt::FunDecl(_, declaration) => push_declaration(page, declaration.get()),
         RawStmt::Label(_, label, body) => {
             page.units(label);
             page.put(": ");
             push_body(page, body);
         }
         RawStmt::If(_, test, then, otherwise) => {
-            push_next(page, "if", test);
+            push_next(page, "if", test.get());
             push_block(page, " ", then);
             push_block(page, " ", otherwise);
         }
         RawStmt::Switch(_, e, cases) => {
-            push_next(page, "switch", e);
+            push_next(page, "switch", e.get());
             push_cases(page, cases);
         }
-        RawStmt::Try(_, body, caught, finally) => {
+        RawStmt::Try(_, body, handlers) => {
             push_block(page, "try ", body);
-            push_catch(page, caught);
-            if let Some(body) = finally {
-                push_block(page, " finally ", body);
-            }
+            push_handlers(page, handlers.get());
         }
         _ => push_loop(page, stmt),
+    }
+}
+
+#[cycle(shape)]
+fn push_declaration(page: &mut Page, declaration: &RawDeclaration) {
+    page.put("function ");
+    page.units(&declaration.name.name);
+    push_params(page, &declaration.params);
+    push_body(page, &declaration.body);
+}
+
+// What stands behind the body of a `try`.
+#[cycle(shape)]
+fn push_handlers(page: &mut Page, handlers: &RawHandlers) {
+    push_catch(page, &handlers.catch);
+    if let Some(body) = &handlers.finally {
+        push_block(page, " finally ", body);
     }
 }
 
@@ -342,22 +354,20 @@ fn push_catch(page: &mut Page, caught: &Option<RawCatch>) {
 fn push_loop(page: &mut Page, stmt: &RawStmt) {
     match stmt {
         RawStmt::While(_, test, body) => {
-            push_next(page, "while", test);
+            push_next(page, "while", test.get());
             push_block(page, " ", body);
         }
         RawStmt::DoWhile(_, body, test) => {
             push_block(page, "do ", body);
-            push_next(page, "", test);
+            push_next(page, "", test.get());
         }
-        RawStmt::For(_, init, test, step, body) => {
-            push_init(page, init);
-            push_option(page, ";", test);
-            push_option(page, ";", step);
+        RawStmt::For(_, head, body) => {
+            push_for_head(page, head.get());
             push_block(page, " ", body);
         }
         RawStmt::ForIn(_, target, e, body) => {
             push_for_target(page, target);
-            push_next(page, " in", e);
+            push_next(page, " in", e.get());
             push_block(page, " ", body);
         }
         _ => {}
@@ -365,11 +375,18 @@ fn push_loop(page: &mut Page, stmt: &RawStmt) {
 }
 
 #[cycle(shape)]
+fn push_for_head(page: &mut Page, head: &RawForHead) {
+    push_init(page, &head.init);
+    push_option(page, ";", &head.test);
+    push_option(page, ";", &head.step);
+}
+
+#[cycle(shape)]
 fn push_init(page: &mut Page, init: &RawInit) {
     page.put("for ");
     match init {
         RawInit::Nothing => page.put("_"),
-        RawInit::Value(e) => push_expr(page, e),
+        RawInit::Value(e) => push_expr(page, e.get()),
         RawInit::Declarators(declarators) => push_variables(page, declarators),
     }
 }
@@ -378,7 +395,7 @@ fn push_init(page: &mut Page, init: &RawInit) {
 fn push_for_target(page: &mut Page, target: &RawForTarget) {
     page.put("for ");
     match target {
-        RawForTarget::Target(target) => push_target(page, target),
-        RawForTarget::Declared(declarator) => push_declarator(page, declarator),
+        RawForTarget::Target(target) => push_target(page, target.get()),
+        RawForTarget::Declared(declarator) => push_declarator(page, declarator.get()),
     }
 }

@@ -1,16 +1,18 @@
 // Reading whole files of the form.
 
-ghost use Rattle.std.specs.Prelude.{◌≡◌, ℕ, List, IfOk, MatchOption};
+ghost use Rattle.std.specs.Prelude.{◌≡◌, ℕ, List, [], Some, None, cond, IfOk, MatchOption};
 ghost use Rattle.cc_driver.specs.declared.form.Statement.{Statement};
 ghost use Rattle.cc_driver.specs.Form.{IsExterns, IsSource};
 ghost use Rattle.cc_driver.specs.FormReading.{Finds};
-ghost use Rattle.cc_driver.specs.FormChecks.{externs_found, names_test, source_found};
+ghost use Rattle.cc_driver.specs.FormChecks.{externs_found, names_test, source_found, names_in, all_declared, uses_known, bind};
+ghost use Rattle.std.specs.List.{list_all};
 
 use crate::form::Statement;
 use crate::form::check::{all_declared, each_once, use_known};
 use crate::form::cursor::{Cursor, MOST_BYTES};
 use crate::form::reader::{functions, statements};
 use crate::form::unread::Unread;
+use crate::names::NameTable;
 use cc_ast::units::Units;
 use sqlite_items::Items;
 use std::alloc::{AllocError, Global};
@@ -37,12 +39,25 @@ fn test_names(
     ensures { Finds (names_test externs.now statements.now) result }
 {
     let externs = each_once(alloc, externs)?;
-    let declared = all_declared(alloc, &externs, statements)?;
-    if use_known(&externs, &declared, statements.as_slice()) {
-        Ok(())
-    } else {
-        Err(Unread::Form)
-    }
+    test_uses(alloc, &externs, statements)
+}
+
+#[tactic(auto, unfolding(crate::specs::FormChecks::names_test))]
+fn test_uses(
+    alloc: Global,
+    externs: &NameTable<'_>,
+    statements: &Items<Statement>,
+) -> Result<(), Unread>
+    ensures { Finds (bind (all_declared (names_in externs.now) [] statements.now) (λ names. cond (list_all (uses_known (names_in externs.now) names) statements.now) (Some tt) None)) result }
+{
+    let declared = all_declared(alloc, externs, statements)?;
+    ok_where(use_known(externs, &declared, statements.as_slice()))
+}
+
+fn ok_where(known: bool) -> Result<(), Unread>
+    ensures { Finds (cond known (Some tt) None) result }
+{
+    if known { Ok(()) } else { Err(Unread::Form) }
 }
 
 #[tactic(auto, unfolding(crate::specs::FormChecks::source_found))]

@@ -1,9 +1,9 @@
 // Reading the parts of the form at a cursor. A function that answers an error leaves the cursor
 // anywhere.
 
-ghost use Rattle.std.specs.Prelude.{◌≡◌, ◌+◌, ◌<◌, [], ◌∷◌, ◌++◌, length, suc};
+ghost use Rattle.std.specs.Prelude.{◌≡◌, ◌+◌, ◌<◌, [], ◌∷◌, ◌++◌, Some, codes, drop, length, suc};
 ghost use Rattle.cc_driver.specs.FormReading as reading;
-ghost use Rattle.cc_driver.specs.FormReading.{Reads, Finds};
+ghost use Rattle.cc_driver.specs.FormReading.{Reads, ReadsBytes, Adds, Finds, and_then, expect, expect_word};
 
 use crate::form::cursor::Cursor;
 use crate::form::name::{
@@ -13,14 +13,14 @@ use crate::form::unread::Unread;
 use crate::form::{Added, Operand, Statement, Value};
 use cc_ast::units::Units;
 use sqlite_items::Items;
-use std::alloc::Global;
+use std::alloc::{AllocError, Global};
 
 // The most operands that follow the first one of a chain.
 const MOST_MORE: usize = 256;
 
 #[tactic(auto, unfolding(crate::specs::FormReading::read_name))]
-fn name(alloc: Global, cursor: &mut Cursor<'_>) -> Result<Units, Unread>
-    ensures { Reads (reading.read_name cursor.old.at cursor.old.rest.now) result cursor.new.at cursor.new.rest.now }
+fn name<'a>(cursor: &mut Cursor<'a>) -> Result<&'a [u8], Unread>
+    ensures { ReadsBytes (reading.read_name cursor.old.at cursor.old.rest.now) result cursor.new.at cursor.new.rest.now }
 {
     let rest = cursor.rest();
     let length = name_length(rest);
@@ -29,7 +29,7 @@ fn name(alloc: Global, cursor: &mut Cursor<'_>) -> Result<Units, Unread>
         return Err(Unread::Form);
     }
     cursor.advance(length);
-    Ok(units_of(alloc, name)?)
+    Ok(name)
 }
 
 // The rest of a text behind its opening quote, which stands at `at`.
@@ -74,9 +74,16 @@ fn operand(alloc: Global, cursor: &mut Cursor<'_>) -> Result<Operand, Unread>
     } else if is_digit(first) {
         number(cursor)
     } else {
-        let name = name(alloc, cursor)?;
-        Ok(Operand::Named(at, name))
+        named(alloc, cursor, at)
     }
+}
+
+// A name, which stands at `at`.
+fn named(alloc: Global, cursor: &mut Cursor<'_>, at: u32) -> Result<Operand, Unread>
+    ensures { Reads (and_then (reading.read_name cursor.old.at cursor.old.rest.now) (λ n end rest. Some (Operand.Named at n, end, rest))) result cursor.new.at cursor.new.rest.now }
+{
+    let name = name(cursor)?;
+    Ok(Operand::Named(at, units_of(alloc, name)?))
 }
 
 // The operands from here on that each follow a `+`, as many as `most` at most.
@@ -89,12 +96,23 @@ fn more(alloc: Global, cursor: &mut Cursor<'_>, most: usize) -> Result<Items<Add
         if cursor.look() != b'+' {
             return Ok(found);
         }
-        let plus = cursor.at();
-        cursor.advance(1);
-        let operand = operand(alloc, cursor)?;
-        found.push(Added { plus, operand })?;
+        push_added(alloc, cursor, &mut found)?;
     }
     Ok(found)
+}
+
+fn push_added(
+    alloc: Global,
+    cursor: &mut Cursor<'_>,
+    found: &mut Items<Added>,
+) -> Result<(), Unread>
+    requires { 0 < length cursor.old.rest.now }
+    ensures { Adds found.old (and_then (reading.read_operand (cursor.old.at + 1) (drop 1 cursor.old.rest.now)) (λ o end rest. Some (record { plus = cursor.old.at; operand = o }, end, rest))) result found.new cursor.new.at cursor.new.rest.now }
+{
+    let plus = cursor.at();
+    cursor.advance(1);
+    let operand = operand(alloc, cursor)?;
+    Ok(found.push(Added { plus, operand })?)
 }
 
 #[tactic(auto, unfolding(crate::specs::FormReading::read_value))]
@@ -113,16 +131,32 @@ fn values(alloc: Global, cursor: &mut Cursor<'_>) -> Result<Items<Value>, Unread
 {
     let mut found = Items::new(alloc);
     for _turn in 0..cursor.left() {
-        let value = value(alloc, cursor)?;
-        found.push(value)?;
-        if cursor.look() == b',' {
-            cursor.advance(1);
-        } else {
-            cursor.byte(b')')?;
-            return Ok(found);
+        push_value(alloc, cursor, &mut found)?;
+        if cursor.look() != b',' {
+            return closed(cursor, found);
         }
+        cursor.advance(1);
     }
     Err(Unread::Form)
+}
+
+fn push_value(
+    alloc: Global,
+    cursor: &mut Cursor<'_>,
+    found: &mut Items<Value>,
+) -> Result<(), Unread>
+    ensures { Adds found.old (reading.read_value cursor.old.at cursor.old.rest.now) result found.new cursor.new.at cursor.new.rest.now }
+{
+    let value = value(alloc, cursor)?;
+    Ok(found.push(value)?)
+}
+
+// The values, where a parenthesis comes next.
+fn closed(cursor: &mut Cursor<'_>, found: Items<Value>) -> Result<Items<Value>, Unread>
+    ensures { Reads (and_then (expect 41 cursor.old.at cursor.old.rest.now) (λ u end rest. Some (found, end, rest))) result cursor.new.at cursor.new.rest.now }
+{
+    cursor.byte(b')')?;
+    Ok(found)
 }
 
 // The arguments of a call, with the parenthesis behind them.
@@ -144,11 +178,45 @@ fn declaration(alloc: Global, cursor: &mut Cursor<'_>, at: u32) -> Result<Statem
     requires { cursor.old.at ≡ at + 4 }
     ensures { Reads (reading.read_declaration at cursor.old.rest.now) result cursor.new.at cursor.new.rest.now }
 {
-    let name = name(alloc, cursor)?;
+    let name = name(cursor)?;
+    declared(alloc, cursor, at, name)
+}
+
+// The rest of a declaration behind its name.
+fn declared(
+    alloc: Global,
+    cursor: &mut Cursor<'_>,
+    at: u32,
+    name: &[u8],
+) -> Result<Statement, Unread>
+    ensures { Reads (and_then (expect 61 cursor.old.at cursor.old.rest.now) (λ u b zs. and_then (reading.read_value b zs) (λ v c ws. and_then (expect 59 c ws) (λ u end rest. Some (Statement.Declares at name.now v, end, rest))))) result cursor.new.at cursor.new.rest.now }
+{
     cursor.byte(b'=')?;
     let value = value(alloc, cursor)?;
+    declares(alloc, cursor, at, name, value)
+}
+
+fn declares(
+    alloc: Global,
+    cursor: &mut Cursor<'_>,
+    at: u32,
+    name: &[u8],
+    value: Value,
+) -> Result<Statement, Unread>
+    ensures { Reads (and_then (expect 59 cursor.old.at cursor.old.rest.now) (λ u end rest. Some (Statement.Declares at name.now value, end, rest))) result cursor.new.at cursor.new.rest.now }
+{
+    let Ok(name) = units_of(alloc, name) else {
+        return Err(Unread::Memory(AllocError));
+    };
+    ended(cursor, Statement::Declares(at, name, value))
+}
+
+// The statement, where a semicolon comes next.
+fn ended(cursor: &mut Cursor<'_>, statement: Statement) -> Result<Statement, Unread>
+    ensures { Reads (and_then (expect 59 cursor.old.at cursor.old.rest.now) (λ u end rest. Some (statement, end, rest))) result cursor.new.at cursor.new.rest.now }
+{
     cursor.byte(b';')?;
-    Ok(Statement::Declares(at, name, value))
+    Ok(statement)
 }
 
 #[tactic(auto, unfolding(crate::specs::FormReading::read_call))]
@@ -156,11 +224,20 @@ fn call(alloc: Global, cursor: &mut Cursor<'_>) -> Result<Statement, Unread>
     ensures { Reads (reading.read_call cursor.old.at cursor.old.rest.now) result cursor.new.at cursor.new.rest.now }
 {
     let at = cursor.at();
-    let name = name(alloc, cursor)?;
+    let name = name(cursor)?;
+    called(alloc, cursor, at, name)
+}
+
+// The rest of a call behind its name, which stands at `at`.
+fn called(alloc: Global, cursor: &mut Cursor<'_>, at: u32, name: &[u8]) -> Result<Statement, Unread>
+    ensures { Reads (and_then (expect 40 cursor.old.at cursor.old.rest.now) (λ u b zs. and_then (reading.read_arguments b zs) (λ vs c ws. and_then (expect 59 c ws) (λ u end rest. Some (Statement.Calls at name.now vs, end, rest))))) result cursor.new.at cursor.new.rest.now }
+{
     cursor.byte(b'(')?;
     let arguments = arguments(alloc, cursor)?;
-    cursor.byte(b';')?;
-    Ok(Statement::Calls(at, name, arguments))
+    let Ok(name) = units_of(alloc, name) else {
+        return Err(Unread::Memory(AllocError));
+    };
+    ended(cursor, Statement::Calls(at, name, arguments))
 }
 
 #[tactic(auto, unfolding(crate::specs::FormReading::read_statement))]
@@ -186,19 +263,50 @@ pub(crate) fn statements(alloc: Global, cursor: &mut Cursor<'_>) -> Result<Items
         if cursor.left() == 0 {
             return Ok(found);
         }
-        found.push(statement(alloc, cursor)?)?;
+        push_statement(alloc, cursor, &mut found)?;
     }
     Err(Unread::Form)
 }
 
+fn push_statement(
+    alloc: Global,
+    cursor: &mut Cursor<'_>,
+    found: &mut Items<Statement>,
+) -> Result<(), Unread>
+    ensures { Adds found.old (reading.read_statement cursor.old.at cursor.old.rest.now) result found.new cursor.new.at cursor.new.rest.now }
+{
+    let statement = statement(alloc, cursor)?;
+    Ok(found.push(statement)?)
+}
+
+// The name of a function.
 #[tactic(auto, unfolding(crate::specs::FormReading::read_function))]
-fn function(alloc: Global, cursor: &mut Cursor<'_>) -> Result<Units, Unread>
-    ensures { Reads (reading.read_function cursor.old.at cursor.old.rest.now) result cursor.new.at cursor.new.rest.now }
+fn function<'a>(cursor: &mut Cursor<'a>) -> Result<&'a [u8], Unread>
+    ensures { ReadsBytes (reading.read_function cursor.old.at cursor.old.rest.now) result cursor.new.at cursor.new.rest.now }
 {
     cursor.word(b"function ")?;
-    let function = name(alloc, cursor)?;
+    let name = name(cursor)?;
+    with_parameter(cursor, name)
+}
+
+fn push_function(
+    alloc: Global,
+    cursor: &mut Cursor<'_>,
+    found: &mut Items<Units>,
+) -> Result<(), Unread>
+    ensures { Adds found.old (reading.read_function cursor.old.at cursor.old.rest.now) result found.new cursor.new.at cursor.new.rest.now }
+{
+    let name = function(cursor)?;
+    let name = units_of(alloc, name)?;
+    Ok(found.push(name)?)
+}
+
+// The name of a function, where its parameter and its body come next.
+fn with_parameter<'a>(cursor: &mut Cursor<'a>, function: &'a [u8]) -> Result<&'a [u8], Unread>
+    ensures { ReadsBytes (and_then (expect 40 cursor.old.at cursor.old.rest.now) (λ u c ws. and_then (reading.read_name c ws) (λ p d vs. and_then (expect_word (codes "){}") d vs) (λ u end rest. Some (function.now, end, rest))))) result cursor.new.at cursor.new.rest.now }
+{
     cursor.byte(b'(')?;
-    let _parameter = name(alloc, cursor)?;
+    let _parameter = name(cursor)?;
     cursor.word(b"){}")?;
     Ok(function)
 }
@@ -213,7 +321,7 @@ pub(crate) fn functions(alloc: Global, cursor: &mut Cursor<'_>) -> Result<Items<
         if cursor.left() == 0 {
             return Ok(found);
         }
-        found.push(function(alloc, cursor)?)?;
+        push_function(alloc, cursor, &mut found)?;
     }
     Err(Unread::Form)
 }

@@ -5,7 +5,7 @@ ghost use Rattle.cc_driver.specs.NamingSteps.{has_name, global_of, kept_name, as
 
 use crate::naming::number::numbered;
 use crate::naming::rank::Rank;
-use cc_ast::copy::table::CopyOf;
+use cc_ast::copy::CopyOf;
 use cc_ast::tables::GlobalInfo;
 use cc_ast::units::Units;
 use indexmap::IndexSet;
@@ -22,19 +22,23 @@ pub struct Given {
 /// The names in order, one for each of the ranks, but for those that are passed over.
 pub fn give_names(
     alloc: Global,
-    mut passed: IndexSet<Vec<u16>>,
+    passed: &mut IndexSet<Vec<u16>>,
     ranks: &[Rank],
 ) -> Result<Items<Given>, AllocError>
     ensures globals { IfOk result (λ given. map given_to given ≡ map global_of ranks.now) }
-    ensures names { IfOk result (λ given. Fresh (has_name passed.keys) 0 (map given_name given)) }
+    ensures names { IfOk result (λ given. Fresh (has_name passed.old.keys) 0 (map given_name given)) }
 {
     let mut given = Items::new(alloc);
     let _room = passed.len();
     let mut k = 0u64;
     'giving: while given.len() < ranks.len() {
         let global = ranks[given.len()].global;
-        let name = numbered(alloc, k)?;
-        give(&mut passed, &mut given, global, name)?;
+        let Ok(name) = numbered(alloc, k) else {
+            return Err(AllocError);
+        };
+        let Ok(()) = give(passed, &mut given, global, name) else {
+            return Err(AllocError);
+        };
         k += 1;
     }
     Ok(given)

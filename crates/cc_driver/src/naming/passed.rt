@@ -70,8 +70,12 @@ pub fn passed_names(alloc: Global, globals: &[GlobalInfo]) -> Result<IndexSet<Ve
         ≡ is_in name (reserved_words ++ strict_words ++ special_names ++ other_names globals.now)) }
 {
     let mut passed = IndexSet::new(alloc);
-    add_words(alloc, &mut passed, &WORDS)?;
-    add_names(alloc, &mut passed, globals)?;
+    let Ok(()) = add_words(alloc, &mut passed, &WORDS) else {
+        return Err(AllocError);
+    };
+    let Ok(()) = add_names(alloc, &mut passed, globals) else {
+        return Err(AllocError);
+    };
     Ok(passed)
 }
 

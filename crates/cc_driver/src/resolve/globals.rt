@@ -10,22 +10,20 @@ ghost use Rattle.cc_driver.specs.Source.{global_of_no_chunk, global_of_main};
 ghost use Rattle.cc_driver.specs.Reach.{names_of};
 
 use crate::form::Statement;
-use crate::form::name::units_of;
 use crate::names::{NameTable, enter_name};
 use crate::resolve::copy_units;
+use crate::resolve::kept::names_of;
 use cc_ast::tables::GlobalInfo;
 use cc_ast::units::Units;
 use sqlite_items::Items;
 use std::alloc::{AllocError, Global};
 
+static BUILT_INS: [&[u8]; 3] = [b"Object", b"Math", b"String"];
+
 fn built_ins(alloc: Global) -> Result<Items<Units>, AllocError>
     ensures { IfOk result (λ names. names ≡ built_in_names) }
 {
-    let mut names = Items::new(alloc);
-    names.push(units_of(alloc, b"Object")?)?;
-    names.push(units_of(alloc, b"Math")?)?;
-    names.push(units_of(alloc, b"String")?)?;
-    Ok(names)
+    names_of(alloc, &BUILT_INS)
 }
 
 fn outside(alloc: Global, names: &[Units]) -> Result<Items<GlobalInfo>, AllocError>
@@ -82,10 +80,28 @@ pub(crate) fn globals_of(
     ensures { IfOk result (λ globals. globals ≡ map global_of_no_chunk (externs.now ++ built_in_names) ++ map global_of_main (declared statements.now)) }
 {
     let mut globals = outside(alloc, externs.as_slice())?;
-    let names = built_ins(alloc)?;
-    globals.append(outside(alloc, names.as_slice())?)?;
-    globals.append(inside(alloc, statements.as_slice())?)?;
+    add_built_ins(alloc, &mut globals)?;
+    add_inside(alloc, &mut globals, statements.as_slice())?;
     Ok(globals)
+}
+
+fn add_built_ins(alloc: Global, globals: &mut Items<GlobalInfo>) -> Result<(), AllocError>
+    ensures { OnOk result (globals.new ≡ globals.old ++ map global_of_no_chunk built_in_names) }
+{
+    let names = built_ins(alloc)?;
+    let more = outside(alloc, names.as_slice())?;
+    globals.append(more)
+}
+
+fn add_inside(
+    alloc: Global,
+    globals: &mut Items<GlobalInfo>,
+    statements: &[Statement],
+) -> Result<(), AllocError>
+    ensures { OnOk result (globals.new ≡ globals.old ++ map global_of_main (declared statements.now)) }
+{
+    let more = inside(alloc, statements)?;
+    globals.append(more)
 }
 
 /// A table of the globals' names, by their numbers.
@@ -98,7 +114,9 @@ pub(crate) fn global_table<'a>(
 {
     let mut table = NameTable::new(alloc);
     for global in globals.as_slice() {
-        enter_name(&mut table, &global.name)?;
+        let Ok(_) = enter_name(&mut table, &global.name) else {
+            return Err(AllocError);
+        };
     }
     Ok(table)
 }

@@ -67,7 +67,7 @@ static KEPT: [&[u8]; 54] = [
     b"prototype",
 ];
 
-fn names_of(alloc: Global, texts: &[&[u8]]) -> Result<Items<Units>, AllocError>
+pub(crate) fn names_of(alloc: Global, texts: &[&[u8]]) -> Result<Items<Units>, AllocError>
     ensures { IfOk result (λ names. names ≡ map (λ text. text.now) texts.now) }
 {
     let mut names = Items::new(alloc);

@@ -1,5 +1,5 @@
 // Pieces that are put at the end, and their bytes.
-ghost use Rattle.std.specs.Prelude.{◌≡◌, [], ◌∷◌, ◌++◌, List, ℕ, IfOk, OnOk, All, Some, None};
+ghost use Rattle.std.specs.Prelude.{◌≡◌, [], ◌∷◌, ◌++◌, List, ℕ, IfOk, OnOk, All, Some, None, if◌then◌else◌};
 ghost use Rattle.std.specs.List.{list_all};
 ghost use Rattle.std.specs.Str.{IsAscii};
 ghost use Rattle.cc_driver.specs.declared.spelling.Piece.TheVariants.{Bytes};
@@ -28,15 +28,28 @@ pub fn quote(alloc: Global, text: &Units) -> Result<Option<Items<u8>>, AllocErro
     ensures { IfOk result (λ bytes. bytes ≡ quoted text.now) }
 {
     let mut bytes = Items::new(alloc);
+    if push_quoted(&mut bytes, text)? {
+        Ok(Some(bytes))
+    } else {
+        Ok(None)
+    }
+}
+
+/// Puts a text in double quotes where nothing stands yet, or answers false where it has a unit that
+/// is not plain.
+fn push_quoted(bytes: &mut Items<u8>, text: &Units) -> Result<bool, AllocError>
+    requires { bytes.old ≡ [] }
+    ensures { IfOk result (λ fits. (if fits then Some bytes.new else None) ≡ quoted text.now) }
+{
     bytes.push(b'"')?;
     for unit in text.list.as_slice() {
         if !is_plain(*unit) {
-            return Ok(None);
+            return Ok(false);
         }
         bytes.push(*unit as u8)?;
     }
     bytes.push(b'"')?;
-    Ok(Some(bytes))
+    Ok(true)
 }
 
 /// The decimal of a number, or `None` where it is below 0 or above 2^53-1.

@@ -1,8 +1,9 @@
 // Statements and lists of them.
-ghost use Rattle.std.specs.Prelude.{◌≡◌, IfOk, Some, None, map, if◌then◌else◌};
+ghost use Rattle.std.specs.Prelude.{◌≡◌, ◌++◌, ◌∷◌, [], codes, IfOk, OnOk, Some, None, map, if◌then◌else◌};
 ghost use Rattle.cc_ast.specs.Bridge.{term, terms};
 ghost use Rattle.cc_ast.specs.StmtBridge.{declarator, term_stmt, term_stmts};
 ghost use Rattle.cc_ast.specs.Syntax as S;
+ghost use Rattle.cc_driver.specs.declared.spelling.Piece.TheVariants as piece;
 ghost use Rattle.cc_driver.specs.Shapes.{spell_call, spell_declaration};
 ghost use Rattle.cc_driver.specs.Spelling.{join, spell_declarator, spell_statement, spell_statements};
 
@@ -43,7 +44,7 @@ fn push_statement(
         ≡ join (Some pieces.old) (spell_statement (term_stmt statement.now))) }
 {
     match statement {
-        Stmt::Simple(_, e) => push_simple(alloc, pieces, e),
+        Stmt::Simple(_, e) => push_simple(alloc, pieces, e.get()),
         Stmt::Var(_, declarators) => push_var(alloc, pieces, declarators.as_slice()),
         Stmt::Fun(_, _, _) => Ok(false),
         Stmt::If(_, _, _, _) => Ok(false),
@@ -92,13 +93,19 @@ fn push_call(
     ensures { IfOk result (λ fits. (if fits then Some pieces.new else None)
         ≡ join (Some pieces.old) (spell_call callee (terms arguments.now))) }
 {
-    pieces.push(Piece::Global(callee))?;
-    push_bytes(alloc, pieces, b"(")?;
+    push_called(alloc, pieces, callee)?;
     if !push_values(alloc, pieces, arguments.as_slice())? {
         return Ok(false);
     }
     push_bytes(alloc, pieces, b");")?;
     Ok(true)
+}
+
+fn push_called(alloc: Global, pieces: &mut Items<Piece>, callee: u32) -> Result<(), AllocError>
+    ensures { OnOk result (pieces.new ≡ pieces.old ++ piece.Global callee ∷ piece.Bytes (codes "(") ∷ []) }
+{
+    pieces.push(Piece::Global(callee))?;
+    push_bytes(alloc, pieces, b"(")
 }
 
 /// The `var` statement of these declarators: of one.
@@ -128,7 +135,7 @@ fn push_declarator(
 {
     match declared.variable {
         Ref::Global(g) => match &declared.value {
-            Some(value) => push_declaration(alloc, pieces, g, value),
+            Some(value) => push_declaration(alloc, pieces, g, value.get()),
             None => Ok(false),
         },
         Ref::Frame(_, _) => Ok(false),
@@ -145,12 +152,18 @@ fn push_declaration(
     ensures { IfOk result (λ fits. (if fits then Some pieces.new else None)
         ≡ join (Some pieces.old) (spell_declaration variable (term value.now))) }
 {
-    push_bytes(alloc, pieces, b"var ")?;
-    pieces.push(Piece::Global(variable))?;
-    push_bytes(alloc, pieces, b"=")?;
+    push_declared(alloc, pieces, variable)?;
     if !push_value(alloc, pieces, value)? {
         return Ok(false);
     }
     push_bytes(alloc, pieces, b";")?;
     Ok(true)
+}
+
+fn push_declared(alloc: Global, pieces: &mut Items<Piece>, variable: u32) -> Result<(), AllocError>
+    ensures { OnOk result (pieces.new ≡ pieces.old ++ piece.Bytes (codes "var ") ∷ piece.Global variable ∷ piece.Bytes (codes "=") ∷ []) }
+{
+    push_bytes(alloc, pieces, b"var ")?;
+    pieces.push(Piece::Global(variable))?;
+    push_bytes(alloc, pieces, b"=")
 }

@@ -10,13 +10,14 @@ ghost use Rattle.cc_fold.specs.Literals.{literal_of, lit_of};
 
 use crate::literal::Literal;
 use crate::price::{price, unmarked};
-use cc_ast::copy::table::CopyOf;
+use cc_ast::copy::CopyOf;
 use cc_ast::tree::Expr;
 use cc_value::value::Value;
+use sqlite_items::Boxed;
 use std::alloc::{AllocError, Global};
 
 /// The greatest whole number that stays apart from its neighbours (ECMA-262 5.1, 8.5).
-const GREATEST_WHOLE: u64 = 9_007_199_254_740_991;
+pub const GREATEST_WHOLE: u64 = 9_007_199_254_740_991;
 
 /// The literal that the expression is, where it is one.
 #[tactic(auto, unfolding(crate::specs::Fold::literal))]
@@ -68,16 +69,26 @@ fn whole(price: u64, z: i64) -> Option<Literal>
 
 /// The literal of a value that is no object.
 #[tactic(auto, using(cc_ast::specs::Terms::steps))]
-pub fn literal_expr(site: u32, value: Value) -> Option<Expr>
-    ensures { option_map term result ≡ lit_of site (value_of value) }
+pub fn literal_expr(
+    alloc: Global,
+    site: u32,
+    value: Value,
+) -> Result<Option<Boxed<Expr>>, AllocError>
+    ensures { IfOk result (λ e. option_map term e ≡ lit_of site (value_of value)) }
 {
     match value {
-        Value::Undefined => Some(Expr::Undefined(site)),
-        Value::Null => Some(Expr::Null(site)),
-        Value::Truth(b) => Some(Expr::Truth(site, b)),
-        Value::Whole(z) => Some(Expr::Whole(site, z)),
-        Value::Text(units) => Some(Expr::Text(site, units)),
-        Value::Object(_) => None,
-        Value::Outside(_) => None,
+        Value::Undefined => present(alloc, Expr::Undefined(site)),
+        Value::Null => present(alloc, Expr::Null(site)),
+        Value::Truth(b) => present(alloc, Expr::Truth(site, b)),
+        Value::Whole(z) => present(alloc, Expr::Whole(site, z)),
+        Value::Text(units) => present(alloc, Expr::Text(site, units)),
+        Value::Object(_) => Ok(None),
+        Value::Outside(_) => Ok(None),
     }
+}
+
+fn present(alloc: Global, e: Expr) -> Result<Option<Boxed<Expr>>, AllocError>
+    ensures { IfOk result (λ b. b ≡ Some e) }
+{
+    Ok(Some(Boxed::new(alloc, e)?))
 }

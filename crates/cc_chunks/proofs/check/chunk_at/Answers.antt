@@ -1,4 +1,4 @@
-use Rattle.std.proofs.Common.{◌≤◌, sym, ap, refl, subst, ◌∙◌, List, ℕ, true≢false}
+use Rattle.std.proofs.Common.{◌≤◌, Some, map, sym, ap, refl, subst, ◌∙◌, List, ℕ, true≢false}
 use Rattle.std.specs.List.{Any}
 use Rattle.cc_chunks.specs.Faults.{IsFaultAt}
 use Rattle.cc_chunks.specs.Numbers.{number_in}
@@ -36,5 +36,7 @@ returns-clause-chunk c =
     let known : LookedUp c.args.specs.now c.args.at c.index-specs-at.result (number_in c.args.numbers.now) c.number_of.result =
     record { within = c.requires.within; read = c.index-specs-at.is; numbers = c.requires.numbers; own = c.number_of.ensures ∙ ap (number_in c.args.numbers.now) c.as_str.ensures.value } in
     let single = sym c.ne.ensures ∙ c.if-ne.false in
-    chunk-by known single c.in_ok-deps.deps c.in_ok-deps.ensures.known c.in_ok-text.text.bytes.items c.in_ok-text.ensures.cases
-    (λ late. true≢false (sym (c.any_from.ensures.1 (subst (λ (ds : List ℕ). Any (λ d. c.args.at ≤ d) ds) (sym c.as_slice.ensures) late)) ∙ c.if-any_from.false))
+    let chunk = c.in-Ok.chunk in
+    let known_deps = ap (map (λ d. Some d)) c.in-Ok.ensures.deps ∙ c.in_ok-deps.ensures.known in
+    chunk-by known single chunk.deps known_deps chunk.name c.in-Ok.ensures.name
+    (λ late. true≢false (sym (c.any_from.ensures.1 (subst (λ (ds : List ℕ). Any (λ d. c.args.at ≤ d) ds) (c.in-Ok.ensures.deps ∙ sym c.as_slice.ensures) late)) ∙ c.if-any_from.false))

@@ -27,6 +27,6 @@ returns-else-fields_fit c =
     let T = tables_of c.args.program.now in
     let d = c.args.class.now in
     let all : List (ℕ × ℕ) → Bool = λ xs. of_all_types T c.args.heap.now.objs (types_of_fields T c.args.name.now xs) (value_of c.args.value.now) in
-    let here = c.as_slice-else-fields_fit.ensures ∙ ap (λ (p : Program). p.classes) c.program.view_is in
+    let here = c.as_slice-else-fields_fit.ensures ∙ c.get.ensures ∙ ap (λ (p : Program). p.classes) c.program.view_is in
     ap not (c.reaches.ensures ∙ ap (λ (cs : List Class). subtype cs c.args.of c.args.at) here)
     ∙ class-else T c.args.heap.now.objs (value_of c.args.value.now) d.external (subtype T.classes c.args.of c.args.at) (types_of_fields T c.args.name.now d.fields) c.if-class.false (ap all (sym c.as_slice.ensures) ∙ sym c.fields_fit.ensures ∙ c.if-fields_fit.false)

@@ -12,7 +12,7 @@ returns-in-Some c =
     let T = tables_of c.args.program.now in
     let os = c.args.heap.now.objs in
     let v = value_of c.args.value.now in
-    let here = c.as_slice.ensures ∙ ap (λ (p : Program). p.classes) c.program.view_is in
+    let here = c.as_slice.ensures ∙ c.get.ensures ∙ ap (λ (p : Program). p.classes) c.program.view_is in
     c.classes_fit.ensures ∙ ap (λ (cs : List Class). of_all_types T os (fields_from T 0 cs c.in-Some.class c.args.name.now) v) here ∙ ap (λ (d : Option ℕ). of_all_types T os (fields_of_class T d c.args.name.now) v) c.in-Some.ensures
 
 pub returns-in-None : goal.returns-in-None

@@ -1,7 +1,6 @@
-use Rattle.std.proofs.Common.{◌≡◌, ◌∙◌, sym, ap}
+use Rattle.std.proofs.Common.{◌∙◌, sym, ap}
 use Rattle.cc_meaning.specs.Judge.{least_broken}
 use Rattle.cc_meaning.specs.Shapes.{tables_of}
-use Rattle.cc_meaning.specs.State.{State}
 use Rattle.cc_conform.specs.Bridge.{act_of, with_store}
 use Rattle.cc_conform.proofs.judge.act_rule.Goals as goal
 

@@ -22,5 +22,6 @@ returns c = λ s.
     let found = ap (λ (v : Option Val). unwrap_or v (prim undefined)) c.read_slot-found.ensures ∙ sym (value_found-parts (look_up os o n)) in
     let by_type = c.found_rule-by_type.ensures s ∙ (λ i. field_rule T S o a (named i) (broken i) (found i)) in
     let by_name = c.least-by_name.ensures ∙ (λ i. least (c.function_rule.ensures i) (c.missing_rule.ensures i)) in
-    let others = c.least.ensures ∙ (λ i. least (broken i) (by_name i)) in
-    c.least-2.ensures ∙ (λ i. least (by_type i) (others i))
+    let third = c.least.ensures ∙ (λ i. least (broken i) (by_name i)) in
+    let second = c.least-2.ensures ∙ (λ i. least (by_type i) (third i)) in
+    c.least-3.ensures ∙ (λ i. least (c.whole_key_rule-by_key.ensures i) (second i))

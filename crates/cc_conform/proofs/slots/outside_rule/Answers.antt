@@ -14,4 +14,4 @@ pub returns-in-Quoted : goal.returns-in-Quoted
 returns-in-Quoted c = sym (outside-Quoted (tables_of c.args.program.now) c.in-Quoted.field-0 c.args.name.now) ∙ ap (λ (k : key.Access). slot_rule (tables_of c.args.program.now) (access_of k) c.args.name.now keyed_kind []) (sym c.in-Quoted.is)
 
 pub returns-in-Runtime : goal.returns-in-Runtime
-returns-in-Runtime c = sym (outside-Runtime (tables_of c.args.program.now) c.in-Runtime.field-0 c.args.name.now) ∙ ap (λ (k : key.Access). slot_rule (tables_of c.args.program.now) (access_of k) c.args.name.now keyed_kind []) (sym c.in-Runtime.is)
+returns-in-Runtime c = sym (outside-Runtime (tables_of c.args.program.now) c.in-Runtime.text c.args.name.now c.in-Runtime.whole) ∙ ap (λ (k : key.Access). slot_rule (tables_of c.args.program.now) (access_of k) c.args.name.now keyed_kind []) (sym c.in-Runtime.is)

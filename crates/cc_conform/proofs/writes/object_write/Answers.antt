@@ -22,7 +22,9 @@ returns c = λ s.
     let by_element = c.element_rule-by_element.ensures ∙ (λ i. element_rule T os o (index i) v) in
     let by_type = c.field_rule-by_type.ensures s ∙ (λ i. field_rule T S c.args.object a n (broken i) v) in
     let by_class = c.prototype_rule-by_class.ensures s in
-    let by_slots = c.least-by_slots.ensures ∙ (λ i. least (broken i) (by_class i)) in
-    let third = c.least.ensures ∙ (λ i. least (by_type i) (by_slots i)) in
-    let second = c.least-2.ensures ∙ (λ i. least (by_element i) (third i)) in
-    c.least-3.ensures ∙ (λ i. least (by_length i) (second i))
+    let by_names = c.least.ensures ∙ (λ i. least (c.unwritten_rule-by_name.ensures i) (by_class i)) in
+    let by_slots = c.least-by_slots.ensures ∙ (λ i. least (broken i) (by_names i)) in
+    let third = c.least-2.ensures ∙ (λ i. least (by_type i) (by_slots i)) in
+    let by_value = c.least-by_value.ensures ∙ (λ i. least (by_element i) (third i)) in
+    let second = c.least-3.ensures ∙ (λ i. least (by_length i) (by_value i)) in
+    c.least-4.ensures ∙ (λ i. least (c.whole_key_rule-by_key.ensures i) (second i))

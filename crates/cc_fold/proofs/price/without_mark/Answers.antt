@@ -8,5 +8,6 @@ use Rattle.cc_fold.proofs.price.without_mark.Goals as goal
 
 pub returns-in_default : goal.returns-in_default
 returns-in_default c =
-    let h = other_unmarked c.args.e c.in_default.not-Tick in
-    IfOk-weaker c.new.result (λ (b : Expr). b ≡ c.args.e) (λ (b : Expr). term b ≡ unmarked (term c.args.e)) (λ b q. ap term q ∙ sym h) c.new.ensures
+    let e = c.into_inner.result in
+    let h = other_unmarked e c.in_default.not-Tick in
+    IfOk-weaker c.new.result (λ (b : Expr). b ≡ e) (λ (b : Expr). term b ≡ unmarked (term c.args.e)) (λ b q. ap term q ∙ sym h ∙ ap (λ (z : Expr). unmarked (term z)) c.into_inner.ensures) c.new.ensures

@@ -7,7 +7,7 @@ use Rattle.cc_core.proofs.shop.Shop.give_back.Goals as goal
 
 pub give_back-requires : goal.give_back-requires
 give_back-requires g c =
-    let h : c.args.claim.slot < length (slots_of c.self.inside.reading.scopes c.self.inside.slots) = rw (← c.self.view_is) at c.requires.slot in
+    let h : c.args.claim.slot < length (slots_of c.self.inside.laid.reading.scopes c.self.inside.laid.slots) = rw (← c.self.view_is) at c.requires.slot in
     subst (λ (n : ℕ). c.args.claim.slot < n) (length_slots_of _ _) h
 
 pub invariant_of-self : goal.invariant_of-self

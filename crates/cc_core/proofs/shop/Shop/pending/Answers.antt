@@ -12,4 +12,4 @@ pending-requires g c =
 
 pub returns : goal.returns
 returns g c =
-    rw (← c.self.view_is) (c.pending.ensures c.self.inside.reading.scopes)
+    rw (← c.self.view_is) (c.pending.ensures c.self.inside.laid.reading.scopes)

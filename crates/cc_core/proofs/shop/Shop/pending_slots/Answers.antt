@@ -12,4 +12,4 @@ pending_slots-requires g c =
 
 pub returns : goal.returns
 returns g c =
-    rw (← c.self.view_is) (c.pending_slots.ensures c.self.inside.reading.scopes)
+    rw (← c.self.view_is) (c.pending_slots.ensures c.self.inside.laid.reading.scopes)

@@ -13,7 +13,7 @@ repeat-requires-clause-few g c =
 pub repeat-requires-clause-room : goal.repeat-requires-clause-room
 repeat-requires-clause-room g c =
     let room = c.requires.room in
-    room_inside c.self.inside.reading.scopes c.self.inside.slots (rw (← c.self.view_is) at room)
+    room_inside c.self.inside.laid.reading.scopes c.self.inside.laid.slots (rw (← c.self.view_is) at room)
 
 pub invariant_of-self-2 : goal.invariant_of-self-2
 invariant_of-self-2 g c =

@@ -13,4 +13,6 @@ pub loop-turn-preserved : goal.loop-turn-preserved
 unfolding read_statements
 loop-turn-preserved c =
     let e = one_more (λ n. read_statements n c.loop-turn.found c.loop-turn.cursor.at c.loop-turn.cursor.rest.now) _ c.loop-turn._turn c.loop-turn-test.true c.loop-turn.invariant in
+    let read = c.in_ok-push_statement.ensures.1 in
+    let added = c.in_ok-push_statement.ensures.2 in
     first_of (search rules, grind (arith, common_steps))

@@ -15,7 +15,7 @@ loop-global-preserved c =
     let at : g ≡ get_or gs i g = c.global-item.is ∙ ap (λ t. get_or t i g) same in
     let fresh : is_in g.name (names_of (take i gs)) ≡ false = ap (λ x. is_in x.name (names_of (take i gs))) at ∙ next_is_new gs i g lt c.requires in
     let new : is_in g.name (names_in c.loop-global.table) ≡ false = ap (is_in g.name) c.loop-global.invariant ∙ fresh in
-    c.in_ok-enter_name.ensures.names
+    c.in-Ok.ensures.names
     ∙ ap (λ b. cond b (names_in c.loop-global.table) (names_in c.loop-global.table ++ g.name ∷ [])) new
     ∙ ap (λ names. names ++ g.name ∷ []) c.loop-global.invariant
     ∙ ap (λ x. names_of (take i gs) ++ x.name ∷ []) at
