@@ -24,7 +24,7 @@ constructor n f e = record { name = n; function = f; external = false; interface
 abbrev three : List Class → List Stmt → Program
 three classes ss =
     record (one_chunk (codes "alert" ∷ []) (codes "H" ∷ codes "G" ∷ codes "F" ∷ codes "x" ∷ []) (kept_prop (codes "prototype") ∷ kept_prop (codes "create") ∷ [])
-      (fn 0 0 (fun_decl 0 (Ref.Global 4) 1 ∷ fun_decl 0 (Ref.Global 5) 2 ∷ fun_decl 0 (Ref.Global 6) 3 ∷ ss) ∷ fn 0 0 [] ∷ fn 0 0 [] ∷ fn 0 0 [] ∷ [])) { classes = classes }
+    (fn 0 0 (fun_decl 0 (Ref.Global 4) 1 ∷ fun_decl 0 (Ref.Global 5) 2 ∷ fun_decl 0 (Ref.Global 6) 3 ∷ ss) ∷ fn 0 0 [] ∷ fn 0 0 [] ∷ fn 0 0 [] ∷ [])) { classes = classes }
 
 abbrev in_a_row : List Class
 in_a_row = constructor (codes "H") (Some 1) None ∷ constructor (codes "G") (Some 2) (Some 0) ∷ constructor (codes "F") (Some 3) (Some 1) ∷ []

@@ -19,5 +19,5 @@ returns-then-look-ne44 c =
     let read = c.in_ok-push_value.ensures.1 in
     let added = c.in_ok-push_value.ensures.2 in
     let ends : read_values (length c.args.cursor.now.rest.now) [] c.args.cursor.now.at c.args.cursor.now.rest.now
-        ≡ and_then (expect 41 c.push_value.new.cursor.at c.push_value.new.cursor.rest.now) (λ u end rest. Some (c.push_value.new.found, end, rest)) = grind (arith, common_steps) in
+    ≡ and_then (expect 41 c.push_value.new.cursor.at c.push_value.new.cursor.rest.now) (λ u end rest. Some (c.push_value.new.found, end, rest)) = grind (arith, common_steps) in
     rw ends c.closed.ensures
