@@ -2,6 +2,7 @@ mod Shown
 mod OperatorRows
 mod BuiltinRows
 pub mod SameLaws
+mod ClassLaws
 mod Opened
 mod Trees
 mod RowsWorked

@@ -11,7 +11,7 @@ use Rattle.cc_meaning.specs.State.{Path}
 use Rattle.cc_meaning.specs.Monad.{pick}
 use Rattle.cc_meaning.specs.Names.{always_kept}
 use Rattle.cc_meaning.specs.Alike.{In, here, there}
-use Rattle.cc_meaning.specs.FlatPaths.{Use, called, constructed, deleted, other, by_value, by_function, elsewhere, mentions_of, settings, uses, IsHolder, IsCollapsible, a_literal}
+use Rattle.cc_meaning.specs.FlatPaths.{Use, called, constructed, deleted, other, by_value, by_function, elsewhere, mentions_of, settings, uses, IsHolder, IsFree, IsCollapsible, a_literal}
 use Rattle.cc_meaning.specs.FlatPaths as flat
 use Rattle.cc_meaning.specs.Shapes as shapes
 use Rattle.cc_meaning.specs.Store as store
@@ -98,6 +98,13 @@ ns_holds = record {
   methods = λ p h. absurd (not_in_none called (subst (λ us. In called us) (called_elsewhere p) h));
 }
 
+a_free : IsFree nested (4, 0 ∷ []) 0
+unfolding shut
+a_free = record {
+  unkept = λ p e. subst (λ (q : PropInfo). IsFalse q.kept) (same_entry e) refl;
+  stays = λ h. not_in_none deleted (subst (λ us. In deleted us) a_unused h);
+}
+
 a_collapses : IsCollapsible nested (4, 0 ∷ []) 0
 unfolding shut
 a_collapses = record {
@@ -105,7 +112,6 @@ a_collapses = record {
   name = 0;
   is = refl;
   holds = ns_holds;
-  unkept = λ p e. subst (λ (q : PropInfo). IsFalse q.kept) (same_entry e) refl;
-  stays = λ h. not_in_none deleted (subst (λ us. In deleted us) a_unused h);
+  free = a_free;
   marked = λ d e. subst (λ (q : SiteDoc). IsFalse q.nocollapse) (same_entry e) refl;
 }

@@ -10,9 +10,7 @@ use Rattle.cc_ast.specs.declared.tables.FlatPath.{FlatPath}
 use Rattle.cc_ast.specs.declared.tables.SiteDoc.{SiteDoc}
 use Rattle.cc_ast.specs.declared.tables.TypeSet.{TypeSet}
 use Rattle.cc_meaning.specs.Operators.{is_in}
-use Rattle.cc_meaning.specs.State.{Path}
 use Rattle.cc_meaning.specs.Shapes.{tables_of}
-use Rattle.cc_meaning.specs.Store.{class_of_function}
 use Rattle.cc_meaning.specs.Names.{builtin_globals}
 use Rattle.cc_meaning.specs.Alike.{In, here, there}
 use Rattle.cc_meaning.specs.Parts as Pa
@@ -103,10 +101,6 @@ below f g (further a b c h k) = let p = below a b h in let q = below b c k in om
 no_loop : (f : ℕ) → Encloses small f f → ⊥
 no_loop f h = let p = below f f h in omega arith
 
-set_once : (i j : ℕ) (w v : Path) (f c : ℕ) → slice_get (tables_of small).set i ≡ Some (w, f) → slice_get (tables_of small).set j ≡ Some (v, f) → class_of_function (tables_of small) f ≡ Some c → i ≡ j
-unfolding shut
-set_once i j w v f c e d h = cc
-
 ordered : IsOrdered small
 unfolding shut
 ordered = record { externs = codes "alert" ∷ []; names = refl; distinct = one_place (codes "alert"); inner = inner_globals }
@@ -186,7 +180,7 @@ well = record {
   prop_names = no_place (List ℕ);
   kept = λ n h. h;
   classes = λ a c e. cc;
-  set_once = set_once;
+  one_class = λ a b f c d e. cc;
   docs = each_doc;
   globals = ordered;
   each_global = each_global;

@@ -304,13 +304,30 @@ pub record IsHolder (P : Program) (h : Path) : Type 0 where
   pub holds : Holds P setting (uses h (mentions_of P))
   pub methods : (p : ℕ) → In called (uses (extended h p) (mentions_of P)) → IsFlat P (extended h p)
 
--- a property of a holder that may become a variable: it isn't kept, not deleted, and not marked
--- `@nocollapse`
+-- a property at a path that isn't kept and that no `delete` reaches
+pub record IsFree (P : Program) (w : Path) (name : ℕ) : Type 0 where
+  pub unkept : (p : PropInfo) → slice_get P.props name ≡ Some p → IsFalse p.kept
+  pub stays : In deleted (uses w (mentions_of P)) → ⊥
+
+-- a property of a holder that may become a variable: it is free, and not marked `@nocollapse`
 pub record IsCollapsible (P : Program) (w : Path) (doc : ℕ) : Type 0 where
   pub holder : Path
   pub name : ℕ
   pub is : w ≡ extended holder name
   pub holds : IsHolder P holder
-  pub unkept : (p : PropInfo) → slice_get P.props name ≡ Some p → IsFalse p.kept
-  pub stays : In deleted (uses w (mentions_of P)) → ⊥
+  pub free : IsFree P w name
   pub marked : (d : SiteDoc) → slice_get P.docs doc ≡ Some d → IsFalse d.nocollapse
+
+-- ---- what may become a variable, whether or not a list has it
+
+-- a global or path that is set once and used as a holder is, and each of whose names that is called is free
+pub record IsHolding (P : Program) (h : Path) : Type 0 where
+  pub setting : Setting
+  pub once : settings h (mentions_of P) ≡ setting ∷ []
+  pub holds : Holds P setting (uses h (mentions_of P))
+  pub methods : (p : ℕ) → In called (uses (extended h p) (mentions_of P)) → IsFree P (extended h p) p
+
+-- a global of the chunks, or a free property of a holder that may itself become one
+pub data MayBeVariable (P : Program) : Path → Type 0 where
+  a_global : (n c : ℕ) → global_kind (tables_of P) n ≡ of_chunk c → MayBeVariable P (n, [])
+  a_property : (h : Path) (p : ℕ) → MayBeVariable P h → IsHolding P h → IsFree P (extended h p) p → MayBeVariable P (extended h p)

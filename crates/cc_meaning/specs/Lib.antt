@@ -21,3 +21,4 @@ pub mod Alike
 pub mod Parts
 pub mod FlatPaths
 pub mod WellMade
+pub mod Spelled

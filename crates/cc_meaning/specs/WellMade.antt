@@ -18,7 +18,7 @@ use Rattle.cc_meaning.specs.Monad.{pick}
 use Rattle.cc_meaning.specs.Store.{of_chunk, global_kind, without_chunk, class_of_function}
 use Rattle.cc_meaning.specs.Shapes.{tables_of, body_of, set_by}
 use Rattle.cc_meaning.specs.Alike.{In}
-use Rattle.cc_meaning.specs.FlatPaths.{IsCollapsible}
+use Rattle.cc_meaning.specs.FlatPaths.{Setting, mentions_of, settings, IsCollapsible, MayBeVariable}
 use Rattle.cc_meaning.specs.Parts.{Part, has_site, uses_prop, uses_doc, mentions, declares, makes, sets_method, stmts_parts, expr_well, target_well}
 
 -- ---- statements of the language
@@ -262,14 +262,28 @@ pub record IsDoc (P : Program) (d : SiteDoc) : Type 0 where
   pub classes : (t : TypeSet) (a : ℕ) → In t (types_in d) → In a (classes_in t) → a < length P.classes
   pub vars : (n : ℕ) → In n d.vars → n < length P.docs
 
+-- The one place of a class's function: a global, or a path that may become a variable, that is set to
+-- this function, and to nothing else in all trees.
+pub record HasPlace (P : Program) (f : ℕ) : Type 0 where
+  pub place : Path
+  pub variable : MayBeVariable P place
+  pub set : In (place, f) (tables_of P).set
+  pub once : (s : Setting) × (settings place (mentions_of P) ≡ s ∷ [])
+  pub alone : (w : Path) → In (w, f) (tables_of P).set → w ≡ place
+
 pub record IsClass (P : Program) (a : ℕ) (c : Class) : Type 0 where
   pub function : (f : ℕ) → c.function ≡ Some f → f < length P.scopes
-  -- where its function stands in the trees, a global or a path is set to it
-  pub set : (f : ℕ) → c.function ≡ Some f → In f (all_functions (tables_of P) P.scopes) → (w : Path) × In (w, f) (tables_of P).set
+  -- where its function stands in the trees
+  pub placed : (f : ℕ) → c.function ≡ Some f → In f (all_functions (tables_of P) P.scopes) → HasPlace P f
   pub in_range : (b : ℕ) → In b (parents P.classes a) → b < length P.classes
   pub acyclic : (b : ℕ) → In b (parents P.classes a) → Ancestor P.classes b a → ⊥
   pub methods : (p f : ℕ) → In (p, f) c.methods → (p < length P.props) × (f < length P.scopes)
   pub fields : (p d : ℕ) → In (p, d) c.fields → (p < length P.props) × (d < length P.docs)
+
+-- the function is the class's own, or one of its methods
+pub data IsCode (c : Class) (f : ℕ) : Type 0 where
+  its_function : c.function ≡ Some f → IsCode c f
+  its_method : (p : ℕ) → In (p, f) c.methods → IsCode c f
 
 -- names that no variable has
 unfoldable pub refused_names : List (List ℕ)
@@ -327,7 +341,7 @@ pub record WellMade (P : Program) : Type 0 where
   pub prop_names : IsDistinct (map (λ p. p.name) P.props)
   pub kept : (n : List ℕ) → In n always_kept → In n P.kept
   pub classes : (a : ℕ) (c : Class) → slice_get P.classes a ≡ Some c → IsClass P a c
-  pub set_once : (i j : ℕ) (w v : Path) (f c : ℕ) → slice_get (tables_of P).set i ≡ Some (w, f) → slice_get (tables_of P).set j ≡ Some (v, f) → class_of_function (tables_of P) f ≡ Some c → i ≡ j
+  pub one_class : (a b f : ℕ) (c d : Class) → slice_get P.classes a ≡ Some c → slice_get P.classes b ≡ Some d → IsCode c f → IsCode d f → a ≡ b
   pub docs : (n : ℕ) (d : SiteDoc) → slice_get P.docs n ≡ Some d → IsDoc P d
   pub globals : IsOrdered P
   pub each_global : (n : ℕ) (g : GlobalInfo) → slice_get P.globals n ≡ Some g → IsGlobal P g
