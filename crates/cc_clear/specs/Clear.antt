@@ -125,11 +125,3 @@ clears_nothing base none = record {
   same = λ mix. subst (λ (xs : List Scope). Same base (with_scopes base xs)) (sym (nothing_cleared mix base.scopes none)) (reflexive base);
   well = λ well mix. subst (λ (xs : List Scope). WellMade (with_scopes base xs)) (sym (nothing_cleared mix base.scopes none)) well;
 }
-
--- a scope with nothing in it
-abbrev pub empty_scope : Scope
-empty_scope = record { params = 0; names = 0; own = false; body = term_stmts []; parent = None; doc = 0 }
-
--- a program of two such scopes
-abbrev pub two_scopes : Program
-two_scopes = record { scopes = empty_scope ∷ empty_scope ∷ []; chunks = []; globals = []; props = []; kept = []; classes = []; places = []; docs = [] }

@@ -1,5 +1,5 @@
 -- Programs with their flat paths.
-use Rattle.std.specs.Prelude.{◌≡◌, refl, ℕ, Bool, true, false, ◌&&◌, nat_eq, List, [], ◌∷◌, ◌++◌, slice_get, Option, Some, None, IsTrue, IsFalse, codes}
+use Rattle.std.specs.Prelude.{◌≡◌, refl, ℕ, Bool, true, false, ◌&&◌, nat_eq, List, [], ◌∷◌, ◌++◌, Some, None, IsFalse, codes}
 use Rattle.std.proofs.Common.{subst, sym}
 use Rattle.cc_ast.specs.Syntax.{fun, object, unary, assign, call, member, cast, to_var, Stmt, Program}
 use Rattle.cc_ast.specs.declared.operator.UnOp.TheVariants.{Delete}
@@ -7,16 +7,15 @@ use Rattle.cc_ast.specs.declared.tree.Ref.{Ref}
 use Rattle.cc_ast.specs.declared.tables.FlatPath.{FlatPath}
 use Rattle.cc_ast.specs.declared.tables.PropInfo.{PropInfo}
 use Rattle.cc_ast.specs.declared.tables.SiteDoc.{SiteDoc}
-use Rattle.cc_meaning.specs.State.{Path}
 use Rattle.cc_meaning.specs.Monad.{pick}
 use Rattle.cc_meaning.specs.Names.{always_kept}
-use Rattle.cc_meaning.specs.Alike.{In, here, there}
+use Rattle.cc_meaning.specs.Alike.{In}
 use Rattle.cc_meaning.specs.FlatPaths.{Use, called, constructed, deleted, other, by_value, by_function, elsewhere, mentions_of, settings, uses, IsHolder, IsFree, IsCollapsible, a_literal}
 use Rattle.cc_meaning.specs.FlatPaths as flat
 use Rattle.cc_meaning.specs.Shapes as shapes
 use Rattle.cc_meaning.specs.Store as store
 use Rattle.cc_meaning.proofs.Opened.{opened}
-use Rattle.cc_meaning.proofs.Trees.{num, txt, glo, exprs, fields, do_expr, var_glo, let_glo, set_dot, alert, fn, no_doc, chunk_of, global_in, built_ins, prop, stmts}
+use Rattle.cc_meaning.proofs.Trees.{num, glo, exprs, fields, do_expr, var_glo, set_dot, alert, fn, no_doc, chunk_of, global_in, built_ins, prop}
 
 unfoldable shut : ℕ
 unfolding flat.pure flat.below flat.use_of flat.setting_of flat.operand_use flat.right_use flat.in_expr flat.in_option flat.sets_at flat.in_initial flat.in_declarator flat.in_declarators flat.in_init flat.in_each flat.in_statement flat.function_setting flat.in_stmt flat.in_scopes flat.mentions_of flat.same_path flat.settings flat.uses flat.dotted_keys shapes.longer shapes.path_of_ref shapes.path_of shapes.path_of_target shapes.path_of_key store.same_numbers opened

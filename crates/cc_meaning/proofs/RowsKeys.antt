@@ -1,6 +1,6 @@
 -- Keys of arrays, names that aren't found, and built-in methods that a value between brackets names.
-use Rattle.std.specs.Prelude.{◌≡◌, refl, ℕ, pos, negsuc, [], ◌∷◌, List, Some, None, codes}
-use Rattle.cc_ast.specs.Syntax.{whole, Expr, lit, list, object, member, index, call, to_member, Stmt, if, Program}
+use Rattle.std.specs.Prelude.{◌≡◌, refl, ℕ, negsuc, [], ◌∷◌, List, codes}
+use Rattle.cc_ast.specs.Syntax.{whole, Expr, lit, list, object, member, index, call, Stmt, if, Program}
 use Rattle.cc_ast.specs.declared.tables.PropInfo.{PropInfo}
 use Rattle.cc_meaning.specs.Values.{at_site}
 use Rattle.cc_meaning.specs.Monad.{broken}

@@ -1,6 +1,6 @@
 -- Uses of what is built in (ECMA-262 5.1, 15), as far as they need no store: an array is here the
 -- list of its elements. Rule 2 asks for the arguments of the built-in table, rule 1 for a number.
-use Rattle.std.specs.Prelude.{ℕ, suc, ◌-◌, min, max, ℤ, pos, negsuc, Bool, true, false, nat_eq, nat_lt, if◌then◌else◌, List, [], ◌∷◌, ◌++◌, length, take, drop, slice_get, slice_set, slice_range, Option, Some, None, codes, unsigned_abs, ◌&&◌}
+use Rattle.std.specs.Prelude.{ℕ, suc, ◌-◌, min, max, ℤ, pos, negsuc, Bool, true, false, nat_eq, if◌then◌else◌, List, [], ◌∷◌, ◌++◌, length, take, drop, slice_get, slice_range, Option, Some, None, codes, unsigned_abs, ◌&&◌}
 use Rattle.std.specs.Int.{int_max, int_min, int_rem_euclid}
 use Rattle.cc_ast.specs.Syntax.{Prim, undefined, null, truth, whole, text}
 use Rattle.cc_meaning.specs.Values.{Val, prim}
@@ -50,11 +50,6 @@ text_methods = (name_charAt, text_char_at) ∷ (name_charCodeAt, text_char_code_
 unfoldable pub text_method : List ℕ → Option TextUse
 unfolding method_of text_methods
 text_method n = method_of text_methods n
-
--- `t.length` (15.5.5.1)
-unfoldable pub text_length : List ℕ → Outcome
-unfolding number
-text_length t = number (pos (length t))
 
 abbrev pub gives_text : List ℕ → Outcome
 gives_text t = gives (prim (text t))

@@ -1,5 +1,5 @@
 -- References, calls, and what goes to the outside (ECMA-262 5.1, 8.7, 11.2 and 13.2).
-use Rattle.std.specs.Prelude.{ℕ, pos, Bool, true, false, nat_eq, List, [], ◌∷◌, ◌++◌, ◌||◌, length, slice_get, Option, Some, None, is_some}
+use Rattle.std.specs.Prelude.{ℕ, pos, Bool, true, false, List, [], ◌∷◌, ◌++◌, ◌||◌, length, slice_get, Option, Some, None, is_some}
 use Rattle.cc_ast.specs.Syntax.{Prim, undefined, truth, whole, text}
 use Rattle.cc_ast.specs.declared.operator.UnOp.{UnOp}
 use Rattle.cc_ast.specs.declared.operator.UnOp.TheVariants.{Delete}

@@ -1,6 +1,6 @@
 -- Paths that may become variables: which globals and paths hold them, and how they are used
 -- (Closure Compiler, "Understanding the restrictions imposed by the Closure Compiler", flattening).
-use Rattle.std.specs.Prelude.{◌≡◌, ℕ, suc, ◌+◌, Bool, true, false, not, ◌&&◌, nat_eq, List, [], ◌∷◌, ◌++◌, slice_get, Option, Some, None, is_some, IsTrue, IsFalse}
+use Rattle.std.specs.Prelude.{◌≡◌, ℕ, suc, ◌+◌, Bool, true, false, ◌&&◌, nat_eq, List, [], ◌∷◌, ◌++◌, slice_get, Option, Some, None, is_some, IsTrue, IsFalse}
 use Rattle.cc_ast.specs.Syntax.{Expr, lit, var, this, fun, list, object, unary, binary, and, or, cond, assign, step, member, index, call, new, comma, cast, tick, Target, to_var, to_member, to_index, Exprs, no_exprs, more_exprs, Fields, no_fields, more_fields, Declarator, ForInit, no_init, init_value, init_vars, ForTarget, in_target, in_declared, Stmt, simple, vars, fun_decl, if, while, do_while, for, for_in, return, throw, break, continue, label, switch, try, pay_stmt, Stmts, no_stmts, more_stmts, MaybeStmts, absent, present, Cases, no_cases, more_cases, Scope, Program}
 use Rattle.cc_ast.specs.declared.operator.BinOp.{BinOp}
 use Rattle.cc_ast.specs.declared.operator.BinOp.TheVariants.{Instance, Has}
@@ -12,12 +12,12 @@ use Rattle.cc_ast.specs.declared.tables.ChunkInfo.{ChunkInfo}
 use Rattle.cc_ast.specs.declared.tables.PropInfo.{PropInfo}
 use Rattle.cc_ast.specs.declared.tables.Class.{Class}
 use Rattle.cc_ast.specs.declared.tables.SiteDoc.{SiteDoc}
-use Rattle.cc_meaning.specs.State.{Path, Tables}
+use Rattle.cc_meaning.specs.State.{Path}
 use Rattle.cc_meaning.specs.Monad.{pick}
 use Rattle.cc_meaning.specs.Store.{of_chunk, global_kind, same_numbers, flat_of, class_of_function}
 use Rattle.cc_meaning.specs.Shapes.{longer, path_of_ref, path_of, path_of_target, path_of_key, tables_of, body_of}
 use Rattle.cc_meaning.specs.Alike.{In}
-use Rattle.cc_meaning.specs.Parts.{Part, mentions, makes, stmts_parts}
+use Rattle.cc_meaning.specs.Parts.{mentions, makes, stmts_parts}
 
 -- ---- pure expressions: whose value may be left out where nobody asks for it
 

@@ -133,9 +133,6 @@ name_call = codes "call"
 unfoldable pub array_names : List (List ℕ)
 array_names = name_length ∷ name_push ∷ name_unshift ∷ name_pop ∷ name_shift ∷ name_slice ∷ name_concat ∷ name_join ∷ name_indexOf ∷ []
 
-unfoldable pub text_names : List (List ℕ)
-text_names = name_length ∷ name_charAt ∷ name_charCodeAt ∷ name_indexOf ∷ name_lastIndexOf ∷ name_slice ∷ name_substring ∷ []
-
 -- each name of the built-in table once
 unfoldable pub builtin_names : List (List ℕ)
 unfolding builtin_globals array_names

@@ -2,7 +2,7 @@
 -- a dot or as a key without quotes is an identifier or a reserved word (ECMA-262 5.1, 11.1.5, 11.2.1 and
 -- 12.12). Which texts these are, the lexical grammar says; here they are any two sets.
 use Rattle.std.specs.Prelude.{◌≡◌, ℕ, List, [], ◌∷◌, ◌++◌, slice_get, Option, Some, None}
-use Rattle.cc_ast.specs.Syntax.{Expr, Stmt, simple, vars, fun_decl, if, while, do_while, for, for_in, return, throw, break, continue, label, switch, try, pay_stmt, Stmts, no_stmts, more_stmts, MaybeStmts, absent, present, Cases, no_cases, more_cases, Scope, Program}
+use Rattle.cc_ast.specs.Syntax.{Stmt, simple, vars, fun_decl, if, while, do_while, for, for_in, return, throw, break, continue, label, switch, try, pay_stmt, Stmts, no_stmts, more_stmts, MaybeStmts, absent, present, Cases, no_cases, more_cases, Scope, Program}
 use Rattle.cc_ast.specs.declared.tables.PropInfo.{PropInfo}
 use Rattle.cc_meaning.specs.Alike.{In}
 use Rattle.cc_meaning.specs.Parts.{uses_prop}

@@ -1,16 +1,12 @@
--- The value, view and event of the meaning for which one of src/ stands, and what an answer says.
+-- The value of the meaning for which one of src/ stands, and what an answer says.
 use Rattle.std.specs.Prelude.{◌≡◌, ℕ, Bool, false, List, map, ◌++◌, ◌≤◌, unsigned_abs, nat_eq, ⊤, Option, Some, None, IsSome, Result, Ok, Err}
 use Rattle.cc_ast.specs.Syntax.{undefined, null, truth, whole, text}
-use Rattle.cc_meaning.specs.Values.{Val, prim, obj, out, View, shown_prim, shown_out, handle, Event, called, constructed, got, put, ended, threw}
+use Rattle.cc_meaning.specs.Values.{Val, prim, obj, out}
 use Rattle.cc_meaning.specs.Operators.{Outcome, gives, breaks, greatest_whole, prim_text, prim_less, equal_prims, equal_object, is_nothing, on_wholes, on_whole, type_text}
 use Rattle.cc_ast.specs.declared.operator.UnOp.{UnOp}
 use Rattle.cc_ast.specs.declared.operator.BinOp.{BinOp}
 use Rattle.cc_value.specs.declared.value.Value.{Value}
 use Rattle.cc_value.specs.declared.value.Value.TheVariants as V
-use Rattle.cc_value.specs.declared.value.View as Seen
-use Rattle.cc_value.specs.declared.value.View.TheVariants as S
-use Rattle.cc_value.specs.declared.value.Event as Told
-use Rattle.cc_value.specs.declared.value.Event.TheVariants as E
 use Rattle.cc_value.specs.declared.value.OpFault.{OpFault}
 use Rattle.cc_value.specs.declared.value.OpFault.TheVariants.{Rule1, Rule2, Memory}
 
@@ -22,23 +18,6 @@ value_of (V.Whole z) = prim (whole z)
 value_of (V.Text t) = prim (text t)
 value_of (V.Object n) = obj n
 value_of (V.Outside n) = out n
-
-abbrev pub view_of : Seen.View → View
-view_of S.Undefined = shown_prim undefined
-view_of S.Null = shown_prim null
-view_of (S.Truth b) = shown_prim (truth b)
-view_of (S.Whole z) = shown_prim (whole z)
-view_of (S.Text t) = shown_prim (text t)
-view_of (S.Handle n) = handle n
-view_of (S.Outside n) = shown_out n
-
-abbrev pub event_of : Told.Event → Event
-event_of (E.Call target this args) = called (view_of target) (view_of this) (map view_of args)
-event_of (E.New target args) = constructed (view_of target) (map view_of args)
-event_of (E.Get target name) = got (view_of target) name
-event_of (E.Set target name value) = put (view_of target) name (view_of value)
-event_of (E.Ended value) = ended (view_of value)
-event_of (E.Threw value) = threw (view_of value)
 
 -- a number is within 2^53-1, as each is that the meaning makes
 abbrev pub IsMade : Value → Type 0
