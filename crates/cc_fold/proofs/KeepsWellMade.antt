@@ -18,6 +18,7 @@ use Rattle.cc_fold.proofs.RewrittenParts.{stmts_fewer}
 use Rattle.cc_fold.proofs.RewrittenDeclarations.{declares_kept}
 use Rattle.cc_fold.proofs.RewrittenTrees.{stmts_kept}
 use Rattle.cc_fold.proofs.FoldDrops.{fold_drops}
+use Rattle.cc_fold.proofs.LessMentions.{less_as}
 use Rattle.cc_fold.proofs.FollowingScopes.{Follows, follows_itself}
 use Rattle.cc_fold.proofs.WellMadeKept.{well_after}
 
