@@ -19,7 +19,7 @@ use Rattle.cc_fold.proofs.RewrittenDeclarations.{declares_kept}
 use Rattle.cc_fold.proofs.RewrittenTrees.{stmts_kept}
 use Rattle.cc_fold.proofs.FoldDrops.{fold_drops}
 use Rattle.cc_fold.proofs.FoldMentions.{fold_pure}
-use Rattle.cc_fold.proofs.RewrittenSettings.{statement_mentioned}
+use Rattle.cc_fold.proofs.RewrittenUses.{stmts_mentioned, all_labels}
 use Rattle.cc_fold.proofs.FollowingScopes.{Follows, follows_itself}
 use Rattle.cc_fold.proofs.WellMadeKept.{well_after}
 
