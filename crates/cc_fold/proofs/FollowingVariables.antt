@@ -15,7 +15,8 @@ use Rattle.cc_fold.proofs.LessMentions.{MayBecome, to_call, Comes, from_same, fr
 use Rattle.cc_fold.proofs.Mentioned.{firm, Like, like_literal, like_itself, Kept, Clear, Mentioned}
 use Rattle.cc_fold.proofs.SetMentions.{IsSet}
 use Rattle.cc_fold.proofs.FollowingScopes.{Follows, Before as ScopeBefore, before, all_mentioned}
-use Rattle.cc_fold.proofs.FollowingPlaces.{Q, part_before}
+use Rattle.cc_fold.proofs.FollowingParts.{part_before}
+use Rattle.cc_fold.proofs.FollowingPlaces.{Q}
 
 -- ---- what holds
 
@@ -104,8 +105,8 @@ module _ (P : Program) (W : WellMade P) (ts : List Scope) (F : ListT (Follows (t
   own_before : {f g c u : ℕ} → OwnNameOf R f g c u → OwnNameOf P f g c u
   unfolding parts_of
   own_before {f = f} (own_here c t e o) = let b = before (tables_of P) F f t e in own_here c b.scope b.stands (sym b.follows.own ∙ o)
-  own_before (own_outer g h c d u t b e o i n) = let s = before (tables_of P) F g t e in own_outer g h c d u s.scope b s.stands (sym s.follows.own ∙ o) (part_before P W ts F h _ i) (own_before n)
-  own_before (own_further g h c d u t b e o i n) = let s = before (tables_of P) F g t e in own_further g h c d u s.scope b s.stands (sym s.follows.own ∙ o) (part_before P W ts F h _ i) (own_before n)
+  own_before (own_outer g h c d u t b e o i n) = let s = before (tables_of P) F g t e in own_outer g h c d u s.scope b s.stands (sym s.follows.own ∙ o) (part_before P ts F h _ i) (own_before n)
+  own_before (own_further g h c d u t b e o i n) = let s = before (tables_of P) F g t e in own_further g h c d u s.scope b s.stands (sym s.follows.own ∙ o) (part_before P ts F h _ i) (own_before n)
 
   constructor_after : {f : ℕ} → IsConstructor P f → IsConstructor R f
   unfolding class_of_function tables_of parts_of
@@ -115,7 +116,7 @@ module _ (P : Program) (W : WellMade P) (ts : List Scope) (F : ListT (Follows (t
     is = k.is;
     stands = k.stands;
     constructs = k.constructs;
-    nameless = λ g c u o i. k.nameless g c u (own_before o) (part_before P W ts F g _ i);
+    nameless = λ g c u o i. k.nameless g c u (own_before o) (part_before P ts F g _ i);
   }
 
   no_more : {vs : List Use} → ((u : Use) → In u vs → In u []) → vs ≡ []

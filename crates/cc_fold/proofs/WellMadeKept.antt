@@ -18,7 +18,8 @@ use Rattle.cc_tied.proofs.Lists.{tied_length}
 use Rattle.cc_tied.proofs.InjectFacts.{part_of}
 use Rattle.cc_fold.proofs.OtherTables.{stmts_alike}
 use Rattle.cc_fold.proofs.FollowingScopes.{Follows, before}
-use Rattle.cc_fold.proofs.FollowingPlaces.{Q, part_before, reached_before, sound_after, placed_after, made_after}
+use Rattle.cc_fold.proofs.FollowingParts.{part_before}
+use Rattle.cc_fold.proofs.FollowingPlaces.{Q, reached_before, sound_after, placed_after, made_after}
 use Rattle.cc_fold.proofs.FollowingClasses.{functions_once, method_after, class_placed}
 
 in_list : {A : Type 0} (xs : List A) (n : ℕ) (x : A) → slice_get xs n ≡ Some x → In x xs
@@ -65,7 +66,7 @@ module _ (P : Program) (W : WellMade P) (none : HasNoPaths P) (ts : List Scope) 
       let s = W.scopes f b.scope b.stands in
       record {
         statements = statements_after f t (b.follows.well (opened P f) s.statements);
-        parts = λ x i. part_after f (part_of P W f x (part_before P W ts F f x i));
+        parts = λ x i. part_after f (part_of P W f x (part_before P ts F f x i));
         doc = subst (λ z. z < length P.docs) (sym b.follows.doc) s.doc;
         chunk_own = λ h. b.follows.own ∙ s.chunk_own h;
         chunk_parent = λ h. b.follows.parent ∙ s.chunk_parent h;
@@ -111,7 +112,7 @@ module _ (P : Program) (W : WellMade P) (none : HasNoPaths P) (ts : List Scope) 
   doc_after n d e = let k = W.docs n d e in record { classes = k.classes; vars = k.vars }
 
   meant_after : (f c n : ℕ) → Reached R f → In (mentions c (Ref.Global n)) (parts_of R f) → IsMeant R n
-  meant_after f c n r i = record { meant = (W.meant f c n (reached_before P W ts F r) (part_before P W ts F f _ i)).meant }
+  meant_after f c n r i = record { meant = (W.meant f c n (reached_before P W ts F r) (part_before P ts F f _ i)).meant }
 
   pub well_after : WellMade R
   unfolding tables_of
