@@ -10,13 +10,16 @@ use Rattle.cc_meaning.specs.Monad.{pick}
 use Rattle.cc_meaning.specs.Store.{same_numbers, set_to, is_number, class_from, class_of_function}
 use Rattle.cc_meaning.specs.Alike.{In, here, there, ListT}
 use Rattle.cc_meaning.specs.Shapes.{head_of, tables_of, set_by, sets_by_chunks}
-use Rattle.cc_meaning.specs.WellMade.{all_functions, IsDistinct, HasMethod, WellMade}
+use Rattle.cc_meaning.specs.FlatPaths.{mentions_of}
+use Rattle.cc_meaning.specs.WellMade.{all_functions, IsDistinct, HasMethod, HasPlace, WellMade}
 use Rattle.cc_tied.proofs.KeptSets.{Within}
 use Rattle.cc_fold.proofs.Sublists.{Sublist, sub_in, sub_distinct}
 use Rattle.cc_fold.proofs.OtherTables.{functions_same}
-use Rattle.cc_fold.proofs.SetFunctions.{functions_of, chunks_sub, set_once, one_path}
+use Rattle.cc_fold.proofs.SetFunctions.{functions_of, chunks_sub, one_path}
 use Rattle.cc_fold.proofs.FollowingScopes.{Follows, sets_within, functions_sub}
 use Rattle.cc_fold.proofs.FollowingPlaces.{Q}
+use Rattle.cc_fold.proofs.SetMentions.{set_mentioned}
+use Rattle.cc_fold.proofs.FollowingVariables.{variable_after, once_after}
 
 -- ---- the class of a function
 
@@ -108,10 +111,6 @@ module _ (P : Program) (W : WellMade P) (ts : List Scope) (F : ListT (Follows (t
   pub functions_once : IsDistinct (all_functions (tables_of R) ts)
   functions_once = sub_distinct (subst (λ z. Sublist z (all_functions (tables_of P) P.scopes)) (sym functions_are) (functions_sub (tables_of P) F)) W.functions_once
 
-  pub sets_once : (i j : ℕ) (w v : Path) (f : ℕ) → slice_get (tables_of R).set i ≡ Some (w, f) → slice_get (tables_of R).set j ≡ Some (v, f) → i ≡ j
-  unfolding tables_of
-  sets_once = set_once (tables_of R) P.chunks ts functions_once
-
   path_once : (w v : Path) (f : ℕ) → In (w, f) (tables_of R).set → In (v, f) (tables_of R).set → w ≡ v
   unfolding tables_of
   path_once = one_path (tables_of R) P.chunks ts functions_once
@@ -124,13 +123,24 @@ module _ (P : Program) (W : WellMade P) (ts : List Scope) (F : ListT (Follows (t
   set_before : (w : Path) (f a : ℕ) (c : Class) → slice_get P.classes a ≡ Some c → c.function ≡ Some f → In f (set_to (tables_of R).set w) → In f (set_to (tables_of P).set w)
   set_before w f a c e h i =
       let s = set_at (tables_of R).set w f i in
-      let o = (W.classes a c e).set f h (function_before f (stands_in s.path f s.stands)) in
-      let d : s.path ≡ o.0 = path_once s.path o.0 f s.stands (sets_more _ o.1) in
-      set_into (tables_of P).set w (subst (λ z. nat_eq z.0 w.0 && same_numbers z.1 w.1 ≡ true) d s.same) o.1
+      let o = (W.classes a c e).placed f h (function_before f (stands_in s.path f s.stands)) in
+      let d : s.path ≡ o.place = path_once s.path o.place f s.stands (sets_more _ o.set) in
+      set_into (tables_of P).set w (subst (λ z. nat_eq z.0 w.0 && same_numbers z.1 w.1 ≡ true) d s.same) o.set
 
   pub method_after : (w : Path) (p g : ℕ) → HasMethod P w p g → HasMethod R w p g
   unfolding set_by class_of_function tables_of
   method_after w p g h = record { method = λ f c k i e s. h.method f c k (set_before w f c k s (class_function (tables_of P) f c k e s) i) e s }
 
-  pub class_set : (a : ℕ) (c : Class) → slice_get P.classes a ≡ Some c → (f : ℕ) → c.function ≡ Some f → In f (all_functions (tables_of R) ts) → (w : Path) × In (w, f) (tables_of R).set
-  class_set a c e f h i = let o = (W.classes a c e).set f h (function_before f i) in (o.0, sets_more _ o.1)
+  -- where a class's function still stands, its place is as it was
+  pub class_placed : (a : ℕ) (c : Class) → slice_get P.classes a ≡ Some c → (f : ℕ) → c.function ≡ Some f → In f (all_functions (tables_of R) ts) → HasPlace R f
+  unfolding tables_of mentions_of
+  class_placed a c e f h i =
+      let o = (W.classes a c e).placed f h (function_before f i) in
+      let stands = sets_more _ o.set in
+      record {
+        place = o.place;
+        variable = variable_after P W ts F o.variable;
+        set = stands;
+        once = once_after P W ts F o.place o.variable o.once (set_mentioned P.chunks ts stands);
+        alone = λ w j. path_once w o.place f j stands;
+      }

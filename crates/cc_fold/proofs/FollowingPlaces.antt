@@ -10,33 +10,25 @@ use Rattle.cc_meaning.specs.Shapes.{head_of, tables_of, body_in, body_of, sets_b
 use Rattle.cc_meaning.specs.Parts.{Part, declares, makes, stmts_parts}
 use Rattle.cc_meaning.specs.WellMade.{is_chunk, parts_of, Reached, chunk_reached, function_reached, IsOwn, is_param, is_declared, Holds, of_catch, of_frame, of_own, of_outer, of_outer_own, IsDeclared, IsSound, sound_place, sound_global, sound_outer, IsPlaced, placed_global, placed_local, IsMade, IsPart, a_function, WellMade}
 use Rattle.cc_tied.proofs.InjectFacts.{part_of, parent_is}
-use Rattle.cc_fold.proofs.OtherTables.{stmts_same}
-use Rattle.cc_fold.proofs.FollowingScopes.{Follows, After, after, fewer_at, declared_at}
+use Rattle.cc_fold.proofs.FollowingScopes.{Follows, After, after}
+use Rattle.cc_fold.proofs.FollowingParts.{part_before, declared_after}
 
 module _ (P : Program) (W : WellMade P) (ts : List Scope) (F : ListT (Follows (tables_of P)) P.scopes ts) where
   abbrev pub Q : Program
   Q = record P { scopes = ts }
 
-  -- ---- parts
+  part_here : (f : ℕ) (x : Part) → In x (parts_of Q f) → In x (parts_of P f)
+  part_here f x i = part_before P ts F f x i
 
-  pub parts_are : (f : ℕ) → parts_of Q f ≡ stmts_parts (tables_of P) 0 (body_in (slice_get ts f))
-  unfolding parts_of body_of tables_of
-  parts_are f = stmts_same (tables_of P) (map head_of ts) (sets_by_chunks P.chunks ts) 0 (body_in (slice_get ts f))
-
-  pub part_before : (f : ℕ) (x : Part) → In x (parts_of Q f) → In x (parts_of P f)
-  unfolding parts_of body_of
-  part_before f x i = (fewer_at (tables_of P) F f).within x (subst (λ z. In x z) (parts_are f) i)
-
-  pub declared_after : (f c : ℕ) (r : Ref) → In (declares c r) (parts_of P f) → In (declares c r) (parts_of Q f)
-  unfolding parts_of body_of
-  declared_after f c r i = subst (λ z. In (declares c r) z) (sym (parts_are f)) (declared_at (tables_of P) F f c r i)
+  declared_here : (f c : ℕ) (r : Ref) → In (declares c r) (parts_of P f) → In (declares c r) (parts_of Q f)
+  declared_here f c r i = declared_after P ts F f c r i
 
   -- ---- what is reached
 
   pub reached_before : {f : ℕ} → Reached Q f → Reached P f
   unfolding is_chunk
   reached_before (chunk_reached c h) = chunk_reached c h
-  reached_before (function_reached f g c d r i) = function_reached f g c d (reached_before r) (part_before f _ i)
+  reached_before (function_reached f g c d r i) = function_reached f g c d (reached_before r) (part_here f _ i)
 
   -- where a function is made by which it is reached
   record Maker (f : ℕ) : Type 0 where
@@ -83,7 +75,7 @@ module _ (P : Program) (W : WellMade P) (ts : List Scope) (F : ListT (Follows (t
   made_at : (f g d : ℕ) (b : Bool) → IsFalse (is_chunk P f) → In (makes d f b) (parts_of P g) → Reached Q f → IsMadeAt f g d
   made_at f g d b k i r =
       let m = maker_of k r in
-      let o = one_place f m.maker m.catches g d m.declared b (part_before m.maker _ m.made) i in
+      let o = one_place f m.maker m.catches g d m.declared b (part_here m.maker _ m.made) i in
       record {
         declared = m.declared;
         reached = subst (Reached Q) o.maker m.reached;
@@ -94,7 +86,7 @@ module _ (P : Program) (W : WellMade P) (ts : List Scope) (F : ListT (Follows (t
 
   own_after : (f : ℕ) (s : Scope) (t : After (tables_of P) ts f s) {n : ℕ} → IsOwn P s f n → IsOwn Q t.scope f n
   own_after f s t (is_param n l) = is_param n (subst (λ z. n < z) (sym t.follows.params) l)
-  own_after f s t (is_declared n c l i) = is_declared n c (subst (λ z. n < z) (ap (λ z. z + s.names) (sym t.follows.params) ∙ ap (λ z. t.scope.params + z) (sym t.follows.names)) l) (declared_after f c (Ref.Frame c n) i)
+  own_after f s t (is_declared n c l i) = is_declared n c (subst (λ z. n < z) (ap (λ z. z + s.names) (sym t.follows.params) ∙ ap (λ z. t.scope.params + z) (sym t.follows.names)) l) (declared_here f c (Ref.Frame c n) i)
 
   -- no chunk has an own name
   own_function : (f : ℕ) (s : Scope) → slice_get P.scopes f ≡ Some s → IsTrue s.own → IsFalse (is_chunk P f)
@@ -119,7 +111,7 @@ module _ (P : Program) (W : WellMade P) (ts : List Scope) (F : ListT (Follows (t
       of_outer_own f g c d u n t.scope m.declared t.stands (t.follows.own ∙ o) m.made (holds_after h m.reached)
 
   declaration_after : (n c : ℕ) → IsDeclared P n c → IsDeclared Q n c
-  declaration_after n c h = record { here = (h.here.0, declared_after c h.here.0 (Ref.Global n) h.here.1); least = λ d k l i. h.least d k l (part_before d _ i) }
+  declaration_after n c h = record { here = (h.here.0, declared_here c h.here.0 (Ref.Global n) h.here.1); least = λ d k l i. h.least d k l (part_here d _ i) }
 
   pub sound_after : {f c : ℕ} {r : Ref} → IsSound P f c r → Reached Q f → IsSound Q f c r
   unfolding global_kind tables_of

@@ -1,5 +1,5 @@
 -- Scopes that follow others: with the same heads and declarations, and otherwise with fewer parts.
-use Rattle.std.proofs.Common.{◌≡◌, ℕ, true, List, [], ◌∷◌, Option, Some, refl, subst}
+use Rattle.std.proofs.Common.{◌≡◌, ℕ, Bool, true, false, List, [], ◌∷◌, Option, Some, refl, subst}
 use Rattle.std.specs.Prelude.{slice_get}
 use Rattle.cc_ast.specs.Syntax.{Scope}
 use Rattle.cc_ast.specs.declared.tree.Ref.{Ref}
@@ -8,11 +8,14 @@ use Rattle.cc_meaning.specs.State.{Tables}
 use Rattle.cc_meaning.specs.Alike.{In, ListT, nil_t, cons_t, OptT, none_t, some_t}
 use Rattle.cc_meaning.specs.Shapes.{body_in, sets_by_stmts, sets_by_chunks}
 use Rattle.cc_meaning.specs.Parts.{declares, stmts_parts}
+use Rattle.cc_meaning.specs.FlatPaths.{in_stmts, in_scopes}
+use Rattle.cc_meaning.specs.Spelled.{stmts_labels}
 use Rattle.cc_meaning.specs.WellMade.{Open, stmts_well, all_functions}
 use Rattle.cc_tied.proofs.KeptSets.{Within, within_both}
 use Rattle.cc_tied.proofs.Lists.{tied_get}
 use Rattle.cc_fold.proofs.Sublists.{Sublist, sub_none, sub_both}
 use Rattle.cc_fold.proofs.FewerParts.{Fewer, fewer_same}
+use Rattle.cc_fold.proofs.Mentioned.{Mentioned, mentioned_same, mentioned_both}
 
 module _ (T : Tables) where
   -- the second follows the first
@@ -26,9 +29,11 @@ module _ (T : Tables) where
     pub declared : (c : ℕ) (r : Ref) → In (declares c r) (stmts_parts T 0 s.body) → In (declares c r) (stmts_parts T 0 t.body)
     pub well : (o : Open) → stmts_well T o [] s.body ≡ true → stmts_well T o [] t.body ≡ true
     pub sets : Within (sets_by_stmts s.body) (sets_by_stmts t.body)
+    pub mentions : (own : Bool) → Mentioned (in_stmts own s.body) (in_stmts own t.body)
+    pub labels : stmts_labels t.body ≡ stmts_labels s.body
 
   pub follows_itself : (s : Scope) → Follows s s
-  follows_itself s = record { params = refl; names = refl; own = refl; parent = refl; doc = refl; parts = fewer_same (stmts_parts T 0 s.body); declared = λ c r i. i; well = λ o h. h; sets = λ x i. i }
+  follows_itself s = record { params = refl; names = refl; own = refl; parent = refl; doc = refl; parts = fewer_same (stmts_parts T 0 s.body); declared = λ c r i. i; well = λ o h. h; sets = λ x i. i; mentions = λ own. mentioned_same (in_stmts own s.body); labels = refl }
 
   -- ---- one scope of a list
 
@@ -84,3 +89,10 @@ module _ (T : Tables) where
   unfolding all_functions
   functions_sub nil_t = sub_none
   functions_sub (cons_t k l) = sub_both k.parts.functions (functions_sub l)
+
+  pub all_mentioned : (cs : List ChunkInfo) {ss ts : List Scope} → ListT Follows ss ts → Mentioned (in_scopes cs ss) (in_scopes cs ts)
+  unfolding in_scopes
+  all_mentioned [] nil_t = mentioned_same []
+  all_mentioned [] (cons_t k l) = mentioned_both (k.mentions false) (all_mentioned [] l)
+  all_mentioned (c ∷ cs) nil_t = mentioned_same []
+  all_mentioned (c ∷ cs) (cons_t k l) = mentioned_both (k.mentions true) (all_mentioned cs l)

@@ -1,53 +1,10 @@
 -- Whichever scopes of a well made program without flat paths are folded, it stays well made.
-use Rattle.std.proofs.Common.{ℕ, Bool, List, [], refl, sym, subst}
-use Rattle.cc_ast.specs.Syntax.{Expr, Exprs, Stmts, more_stmts, Scope, Program}
-use Rattle.cc_ast.specs.declared.tree.Ref.{Ref}
-use Rattle.cc_meaning.specs.State.{Tables}
-use Rattle.cc_meaning.specs.Alike.{ListT, nil_t, cons_t}
-use Rattle.cc_meaning.specs.Shapes.{tables_of}
+use Rattle.std.proofs.Common.{sym, subst}
 use Rattle.cc_meaning.specs.WellMade.{WellMade}
-use Rattle.cc_tied.specs.Rewrites.{re_stmts, whole, whole_in}
 use Rattle.cc_tied.specs.Promises.{HasNoPaths}
-use Rattle.cc_tied.specs.Mixed.{MixedScopes, no_scopes, as_it_was, with_other}
-use Rattle.cc_tied.proofs.KeptSets.{whole_sets, stmts_within}
-use Rattle.cc_fold.specs.Built.{built_globals, built_in}
-use Rattle.cc_fold.specs.Fold.{fold, same_call, same_declarator, same_name, same_stmt}
 use Rattle.cc_fold.specs.Law.{FoldingKeepsWellMade}
-use Rattle.cc_fold.proofs.DroppingSteps.{Drops}
-use Rattle.cc_fold.proofs.RewrittenParts.{stmts_fewer}
-use Rattle.cc_fold.proofs.RewrittenDeclarations.{declares_kept}
-use Rattle.cc_fold.proofs.RewrittenTrees.{stmts_kept}
-use Rattle.cc_fold.proofs.FoldDrops.{fold_drops}
-use Rattle.cc_fold.proofs.FollowingScopes.{Follows, follows_itself}
+use Rattle.cc_fold.proofs.FoldedScopes.{folded_follow}
 use Rattle.cc_fold.proofs.WellMadeKept.{well_after}
 
-module _ (T : Tables) (built : Ref → Bool) (step : Expr → Expr) (step_call : ℕ → Expr → Exprs → Expr) (D : Drops T step step_call) where
-  abbrev pub rewritten : (scope : ℕ) → Stmts → Stmts
-  rewritten f ss = re_stmts built step step_call whole whole_in more_stmts ss
-
-  -- a scope with its statements rewritten follows it
-  follows_rewritten : (f : ℕ) (s : Scope) → Follows T s (record s { body = rewritten f s.body })
-  follows_rewritten f s = record {
-    params = refl;
-    names = refl;
-    own = refl;
-    parent = refl;
-    doc = refl;
-    parts = stmts_fewer T built step step_call D 0 s.body;
-    declared = declares_kept T built step step_call 0 s.body;
-    well = λ o h. stmts_kept T built step step_call D o [] s.body h;
-    sets = stmts_within built step step_call D.stays whole whole_in more_stmts whole_sets s.body;
-  }
-
-  pub all_follow : {k : ℕ} {ss ts : List Scope} → MixedScopes rewritten k ss ts → ListT (Follows T) ss ts
-  all_follow no_scopes = nil_t
-  all_follow (as_it_was {s = s} m) = cons_t (follows_itself T s) (all_follow m)
-  all_follow (with_other {k = k} {s = s} e m) = cons_t (subst (Follows T s) (sym e) (follows_rewritten k s)) (all_follow m)
-
--- whichever scopes are rewritten by a step that drops parts
-pub well_by_scopes : (P : Program) → WellMade P → HasNoPaths P → (built : Ref → Bool) (step : Expr → Expr) (step_call : ℕ → Expr → Exprs → Expr) (D : Drops (tables_of P) step step_call) (ts : List Scope) → MixedScopes (rewritten (tables_of P) built step step_call D) 0 P.scopes ts → WellMade (record P { scopes = ts }) × HasNoPaths (record P { scopes = ts })
-well_by_scopes P W none built step step_call D ts m = (well_after P W none ts (all_follow (tables_of P) built step step_call D m), record { none = none.none })
-
 pub folding_keeps_well_made : FoldingKeepsWellMade
-unfolding same_declarator same_name same_stmt
-folding_keeps_well_made P Q W none m = subst (λ z. WellMade z × HasNoPaths z) (sym m.others) (well_by_scopes P W none (built_in (built_globals P)) fold same_call (fold_drops (tables_of P)) Q.scopes m.scopes)
+folding_keeps_well_made P Q W none m = subst (λ z. WellMade z × HasNoPaths z) (sym m.others) (well_after P W none Q.scopes (folded_follow P Q.scopes m.scopes), record { none = none.none })

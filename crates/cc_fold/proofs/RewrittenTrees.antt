@@ -18,7 +18,7 @@ use Rattle.cc_tied.specs.Rewrites.{put, re, re_target, re_all, re_fields, re_val
 use Rattle.cc_tied.proofs.KeptPaths.{re_var, re_member, path_kept}
 use Rattle.cc_fold.proofs.DroppingSteps.{re_any_call, Drops, put_either, re_index, re_cast, re_tick, deleted_no_variable}
 
-both : {a b a' b' : Bool} → (a ≡ true → a' ≡ true) → (b ≡ true → b' ≡ true) → a && b ≡ true → a' && b' ≡ true
+pub both : {a b a' b' : Bool} → (a ≡ true → a' ≡ true) → (b ≡ true → b' ≡ true) → a && b ≡ true → a' && b' ≡ true
 both {a = a} {b = b} {a' = a'} {b' = b'} f g h = let p = and_parts a b h in and_from a' b' (f p.0) (g p.1)
 
 either : {a b a' b' : Bool} → (a ≡ true → a' ≡ true) → (b ≡ true → b' ≡ true) → a || b ≡ true → a' || b' ≡ true

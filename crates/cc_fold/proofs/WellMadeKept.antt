@@ -9,7 +9,6 @@ use Rattle.cc_ast.specs.declared.tables.SiteDoc.{SiteDoc}
 use Rattle.cc_ast.specs.declared.tree.Ref.{Ref}
 use Rattle.cc_ast.specs.declared.tables.FlatPath.{FlatPath}
 use Rattle.cc_meaning.specs.State.{Tables}
-use Rattle.cc_meaning.specs.Store.{class_of_function}
 use Rattle.cc_meaning.specs.Alike.{In, here, there, ListT}
 use Rattle.cc_meaning.specs.Shapes.{head_of, tables_of, sets_by_chunks}
 use Rattle.cc_meaning.specs.Parts.{Part, mentions, stmts_parts}
@@ -19,8 +18,9 @@ use Rattle.cc_tied.proofs.Lists.{tied_length}
 use Rattle.cc_tied.proofs.InjectFacts.{part_of}
 use Rattle.cc_fold.proofs.OtherTables.{stmts_alike}
 use Rattle.cc_fold.proofs.FollowingScopes.{Follows, before}
-use Rattle.cc_fold.proofs.FollowingPlaces.{Q, part_before, reached_before, sound_after, placed_after, made_after}
-use Rattle.cc_fold.proofs.FollowingClasses.{functions_once, sets_once, method_after, class_set}
+use Rattle.cc_fold.proofs.FollowingParts.{part_before}
+use Rattle.cc_fold.proofs.FollowingPlaces.{Q, reached_before, sound_after, placed_after, made_after}
+use Rattle.cc_fold.proofs.FollowingClasses.{functions_once, method_after, class_placed}
 
 in_list : {A : Type 0} (xs : List A) (n : ℕ) (x : A) → slice_get xs n ≡ Some x → In x xs
 in_list [] n x e = absurd (cc)
@@ -66,7 +66,7 @@ module _ (P : Program) (W : WellMade P) (none : HasNoPaths P) (ts : List Scope) 
       let s = W.scopes f b.scope b.stands in
       record {
         statements = statements_after f t (b.follows.well (opened P f) s.statements);
-        parts = λ x i. part_after f (part_of P W f x (part_before P W ts F f x i));
+        parts = λ x i. part_after f (part_of P W f x (part_before P ts F f x i));
         doc = subst (λ z. z < length P.docs) (sym b.follows.doc) s.doc;
         chunk_own = λ h. b.follows.own ∙ s.chunk_own h;
         chunk_parent = λ h. b.follows.parent ∙ s.chunk_parent h;
@@ -83,7 +83,7 @@ module _ (P : Program) (W : WellMade P) (none : HasNoPaths P) (ts : List Scope) 
       let k = W.classes a c e in
       record {
         function = λ f h. subst (λ z. f < z) same_length (k.function f h);
-        set = class_set P W ts F a c e;
+        placed = class_placed P W ts F a c e;
         in_range = k.in_range;
         acyclic = k.acyclic;
         methods = λ p f i. let m = k.methods p f i in (m.0, subst (λ z. f < z) same_length m.1);
@@ -112,10 +112,10 @@ module _ (P : Program) (W : WellMade P) (none : HasNoPaths P) (ts : List Scope) 
   doc_after n d e = let k = W.docs n d e in record { classes = k.classes; vars = k.vars }
 
   meant_after : (f c n : ℕ) → Reached R f → In (mentions c (Ref.Global n)) (parts_of R f) → IsMeant R n
-  meant_after f c n r i = record { meant = (W.meant f c n (reached_before P W ts F r) (part_before P W ts F f _ i)).meant }
+  meant_after f c n r i = record { meant = (W.meant f c n (reached_before P W ts F r) (part_before P ts F f _ i)).meant }
 
   pub well_after : WellMade R
-  unfolding class_of_function tables_of
+  unfolding tables_of
   well_after = record {
     chunks = subst (λ z. length P.chunks ≤ z) same_length W.chunks;
     dependencies = W.dependencies;
@@ -126,7 +126,7 @@ module _ (P : Program) (W : WellMade P) (none : HasNoPaths P) (ts : List Scope) 
     prop_names = W.prop_names;
     kept = W.kept;
     classes = class_after;
-    set_once = λ i j w v f c e d h. sets_once P W ts F i j w v f e d;
+    one_class = W.one_class;
     docs = doc_after;
     globals = ordered_after;
     each_global = global_after;

@@ -200,7 +200,7 @@ module _ (file : List ℕ) (externs : List (List ℕ)) (size : ℕ) (ss : List S
     prop_names = no_places (List ℕ);
     kept = λ n h. h;
     classes = λ a c e. absurd (no_some e);
-    set_once = λ i j w v f c e d h. absurd (no_class f c h);
+    one_class = λ a b f c d e. absurd (no_some e);
     globals = ordered;
     each_global = λ n g e. global_is g (shape_of (externs ++ built_in_names) (declared ss) n g e);
     paths = λ n g e. paths_are n g (shape_of (externs ++ built_in_names) (declared ss) n g e);
