@@ -16,6 +16,7 @@ mod made;
 mod marked;
 mod names;
 mod operators;
+mod share;
 mod shown;
 mod statements;
 mod tables;
@@ -37,7 +38,9 @@ fn answer_all(
         if !answer(machine, line) {
             status = 2;
         }
-        rt.print(machine.out.as_str())?;
+        if let Err(fault) = rt.print(machine.out.as_str()) {
+            return Err(fault);
+        }
     }
     Ok(status)
 }
