@@ -1,6 +1,6 @@
 -- What folding makes of a node is the node or an operand of it, so it mentions no more; and what is pure
 -- stays pure, since no price mark is.
-use Rattle.std.proofs.Common.{◌≡◌, ℕ, ◌+◌, Bool, true, false, List, [], ◌∷◌, ◌++◌, Option, Some, None, unwrap_or, refl, sym, ap, subst, ◌∙◌}
+use Rattle.std.proofs.Common.{◌≡◌, ℕ, ◌+◌, Bool, true, false, ◌++◌, Option, Some, None, unwrap_or, refl, sym, ap, subst, ◌∙◌}
 use Rattle.std.specs.Prelude.{nat_eq, if◌then◌else◌, ◌&&◌}
 use Rattle.std.proofs.lemmas.Bool.{and_parts}
 use Rattle.cc_ast.specs.Syntax.{Prim, Expr, lit, unary, binary, and, or, cond, tick}
@@ -11,7 +11,7 @@ use Rattle.cc_ast.specs.declared.operator.UnOp.TheVariants.{Void, Delete}
 use Rattle.cc_meaning.specs.Values.{prim}
 use Rattle.cc_meaning.specs.Operators.{Outcome, truthy, unary_of, binary_of}
 use Rattle.cc_meaning.specs.Parts.{exact_prim}
-use Rattle.cc_meaning.specs.FlatPaths.{Use, other, Mention, below, in_expr, pure_unary, pure_binary, pure}
+use Rattle.cc_meaning.specs.FlatPaths.{Use, other, below, in_expr, pure_unary, pure_binary, pure}
 use Rattle.cc_tied.specs.Placed.{accesses, variable}
 use Rattle.cc_fold.specs.Fold.{Literal, literal, literal_at, price_of, unmarked, marked, charged, computed, computed_of_one, computed_of_two, fold_unary, fold_binary, fold_and, fold_or, fold_cond, fold}
 use Rattle.cc_fold.proofs.LiteralRuns.{charged_is, computed_is}

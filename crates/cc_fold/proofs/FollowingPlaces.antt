@@ -1,13 +1,13 @@
 -- Where scopes follow those of a well made program, what is reached was reached, and each variable that
 -- is mentioned is still there.
-use Rattle.std.proofs.Common.{◌≡◌, ℕ, ◌+◌, ◌<◌, Bool, true, false, List, map, Some, refl, sym, ap, subst, ◌∙◌}
+use Rattle.std.proofs.Common.{◌≡◌, ℕ, ◌+◌, ◌<◌, Bool, true, false, List, Some, refl, sym, ap, subst, ◌∙◌}
 use Rattle.std.specs.Prelude.{slice_get, IsTrue, IsFalse}
 use Rattle.cc_ast.specs.Syntax.{Scope, Program}
 use Rattle.cc_ast.specs.declared.tree.Ref.{Ref}
 use Rattle.cc_meaning.specs.Store.{global_kind}
 use Rattle.cc_meaning.specs.Alike.{In, ListT}
-use Rattle.cc_meaning.specs.Shapes.{head_of, tables_of, body_in, body_of, sets_by_chunks}
-use Rattle.cc_meaning.specs.Parts.{Part, declares, makes, stmts_parts}
+use Rattle.cc_meaning.specs.Shapes.{tables_of}
+use Rattle.cc_meaning.specs.Parts.{Part, declares, makes}
 use Rattle.cc_meaning.specs.WellMade.{is_chunk, parts_of, Reached, chunk_reached, function_reached, IsOwn, is_param, is_declared, Holds, of_catch, of_frame, of_own, of_outer, of_outer_own, IsDeclared, IsSound, sound_place, sound_global, sound_outer, IsPlaced, placed_global, placed_local, IsMade, IsPart, a_function, WellMade}
 use Rattle.cc_tied.proofs.InjectFacts.{part_of, parent_is}
 use Rattle.cc_fold.proofs.FollowingScopes.{Follows, After, after}

@@ -1,20 +1,17 @@
 -- Where scopes follow those of a program, what may become a variable still may, and is set as often.
-use Rattle.std.proofs.Common.{◌≡◌, ◌⊎◌, inl, inr, ℕ, suc, ◌≤◌, Bool, true, false, List, [], ◌∷◌, ◌++◌, length, Option, Some, refl, sym, ap, subst, ◌∙◌, arith}
-use Rattle.std.specs.Prelude.{slice_get}
-use Rattle.cc_ast.specs.Syntax.{Expr, fun, object, Fields, Scope, Program}
-use Rattle.cc_ast.specs.declared.tree.Ref.{Ref}
+use Rattle.std.proofs.Common.{◌≡◌, ◌⊎◌, inl, inr, ℕ, ◌≤◌, true, List, [], ◌∷◌, ◌++◌, length, refl, sym, ap, subst, ◌∙◌, arith}
+use Rattle.cc_ast.specs.Syntax.{object, Scope, Program}
 use Rattle.cc_meaning.specs.State.{Path}
 use Rattle.cc_meaning.specs.Store.{class_of_function, global_kind}
 use Rattle.cc_meaning.specs.Alike.{In, here, there, ListT}
-use Rattle.cc_meaning.specs.Shapes.{tables_of, body_of}
-use Rattle.cc_meaning.specs.Parts.{mentions}
-use Rattle.cc_meaning.specs.FlatPaths.{Use, called, constructed, tested, deleted, other, Setting, by_value, by_function, elsewhere, Mention, used, set, settings, uses, mentions_of, extended, OwnNameOf, own_here, own_outer, own_further, IsConstructor, AreConstructions, no_uses, by_new, by_instance, Holds, a_literal, an_expression, a_declaration, IsFree, IsHolding, MayBeVariable, a_global, a_property}
+use Rattle.cc_meaning.specs.Shapes.{tables_of}
+use Rattle.cc_meaning.specs.FlatPaths.{Use, called, constructed, tested, deleted, other, Setting, by_value, used, set, settings, uses, mentions_of, extended, OwnNameOf, own_here, own_outer, own_further, IsConstructor, AreConstructions, no_uses, by_new, by_instance, Holds, a_literal, an_expression, a_declaration, IsFree, IsHolding, MayBeVariable, a_global, a_property}
 use Rattle.cc_meaning.specs.WellMade.{parts_of, WellMade}
 use Rattle.cc_fold.proofs.Paths.{Begins, begins_itself, begins_further, Before, no_extended, extended_same, in_next, in_settings, settings_in, in_uses, uses_in, count}
 use Rattle.cc_fold.proofs.LessMentions.{MayBecome, to_call, Comes, from_same, from_value, from_before}
-use Rattle.cc_fold.proofs.Mentioned.{firm, Like, like_literal, like_itself, Kept, Clear, Mentioned}
+use Rattle.cc_fold.proofs.Mentioned.{firm, Like, like_literal, like_itself, Clear, Mentioned}
 use Rattle.cc_fold.proofs.SetMentions.{IsSet}
-use Rattle.cc_fold.proofs.FollowingScopes.{Follows, Before as ScopeBefore, before, all_mentioned}
+use Rattle.cc_fold.proofs.FollowingScopes.{Follows, before, all_mentioned}
 use Rattle.cc_fold.proofs.FollowingParts.{part_before}
 use Rattle.cc_fold.proofs.FollowingPlaces.{Q}
 

@@ -1,10 +1,9 @@
 -- Whichever scopes of a program are folded, its labels and properties can be written as before.
-use Rattle.std.proofs.Common.{◌≡◌, ℕ, List, Some, sym, subst}
-use Rattle.std.specs.Prelude.{slice_get}
+use Rattle.std.proofs.Common.{ℕ, List, sym, subst}
 use Rattle.cc_ast.specs.Syntax.{Scope, Program}
 use Rattle.cc_meaning.specs.Alike.{In, ListT}
 use Rattle.cc_meaning.specs.Shapes.{tables_of}
-use Rattle.cc_meaning.specs.Spelled.{stmts_labels, IsSpelled}
+use Rattle.cc_meaning.specs.Spelled.{IsSpelled}
 use Rattle.cc_fold.specs.Law.{FoldingKeepsSpelling}
 use Rattle.cc_fold.proofs.FoldedScopes.{folded_follow}
 use Rattle.cc_fold.proofs.FollowingScopes.{Follows, before}

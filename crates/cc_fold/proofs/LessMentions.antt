@@ -1,9 +1,9 @@
 -- Lists of mentions of which some are dropped, and in which a path may be used in another way, or one that
 -- goes on from it in its place, where it was used in no way of its own.
-use Rattle.std.proofs.Common.{◌≡◌, inl, inr, ℕ, ◌+◌, ◌≤◌, Bool, true, false, List, [], ◌∷◌, ◌++◌, refl, sym, ap, subst, arith}
+use Rattle.std.proofs.Common.{◌≡◌, inl, inr, ℕ, ◌≤◌, List, [], ◌∷◌, ◌++◌, arith}
 use Rattle.cc_meaning.specs.State.{Path}
 use Rattle.cc_meaning.specs.Alike.{In, here, there}
-use Rattle.cc_meaning.specs.FlatPaths.{Use, called, constructed, tested, deleted, other, Setting, Mention, used, set, settings, extended}
+use Rattle.cc_meaning.specs.FlatPaths.{Use, called, constructed, tested, other, Setting, Mention, used, set, settings, extended}
 use Rattle.cc_tied.proofs.KeptSets.{in_left, in_right, in_either}
 use Rattle.cc_fold.proofs.Paths.{Before, before_next, begins_after, through_before, count, count_both}
 

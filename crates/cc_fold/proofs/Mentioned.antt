@@ -1,15 +1,14 @@
 -- Lists of mentions that follow others: a path is set no more often, if those before it are set to literals
 -- and functions alone; it is set to a literal or to a function as before; and its uses come from those before.
-use Rattle.std.proofs.Common.{◌≡◌, inl, inr, ℕ, suc, ◌+◌, ◌≤◌, Bool, true, false, List, [], ◌∷◌, ◌++◌, length, Option, Some, None, refl, sym, ap, subst, ◌∙◌, arith}
+use Rattle.std.proofs.Common.{◌≡◌, inl, inr, ℕ, ◌≤◌, Bool, true, false, List, [], ◌∷◌, ◌++◌, length, Option, Some, None, refl, subst, arith}
 use Rattle.cc_ast.specs.Syntax.{Expr, lit, var, this, fun, list, object, unary, binary, and, or, cond, assign, step, member, index, call, new, comma, cast, tick, Target, to_var, to_member, to_index, Exprs, no_exprs, more_exprs, Fields, no_fields, more_fields}
-use Rattle.cc_ast.specs.declared.tree.Ref.{Ref}
 use Rattle.cc_meaning.specs.State.{Path}
 use Rattle.cc_meaning.specs.Monad.{pick}
 use Rattle.cc_meaning.specs.Shapes.{longer, path_of_ref, path_of}
 use Rattle.cc_meaning.specs.Alike.{In, here, there}
 use Rattle.cc_meaning.specs.FlatPaths.{Use, other, Setting, by_value, by_function, elsewhere, Mention, used, set, below, use_of, setting_of, operand_use, right_use, in_expr, in_target_of, in_exprs, in_fields, same_path, settings, dotted_keys, pure_fields}
 use Rattle.cc_tied.proofs.KeptSets.{in_left, in_right, in_either}
-use Rattle.cc_fold.proofs.Paths.{Before, in_next, count, count_both}
+use Rattle.cc_fold.proofs.Paths.{Before, count, count_both}
 use Rattle.cc_fold.proofs.LessMentions.{Comes, from_same, comes_within, Less}
 
 -- ---- settings

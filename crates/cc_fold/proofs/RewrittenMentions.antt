@@ -1,6 +1,6 @@
 -- A rewriting by a step that takes an operand in place of a node leaves mentions that stood before, and uses
 -- of paths that come from them.
-use Rattle.std.proofs.Common.{◌≡◌, ℕ, Bool, true, false, List, [], ◌∷◌, ◌++◌, Option, Some, None, refl, sym, ap, subst, ◌∙◌}
+use Rattle.std.proofs.Common.{◌≡◌, ℕ, Bool, true, false, List, [], ◌∷◌, Option, Some, None, refl, sym, ap, subst, ◌∙◌}
 use Rattle.std.specs.Prelude.{not, ◌&&◌, ◌||◌}
 use Rattle.cc_ast.specs.Syntax.{Expr, lit, var, this, fun, list, object, unary, binary, and, or, cond, assign, step as step_of, member, index, call, new, comma, cast, tick, Target, to_var, to_member, to_index, Exprs, no_exprs, more_exprs, Fields, no_fields, more_fields}
 use Rattle.cc_ast.specs.declared.operator.BinOp.{BinOp}
@@ -11,7 +11,7 @@ use Rattle.cc_ast.specs.declared.tree.Ref.{Ref}
 use Rattle.cc_meaning.specs.State.{Path, Tables}
 use Rattle.cc_meaning.specs.Monad.{pick}
 use Rattle.cc_meaning.specs.Shapes.{longer, path_of_ref, path_of, path_of_target}
-use Rattle.cc_meaning.specs.FlatPaths.{Use, called, constructed, tested, deleted, other, elsewhere, Mention, used, set, below, use_of, setting_of, operand_use, right_use, in_expr, in_target_of, in_exprs, in_fields, extended}
+use Rattle.cc_meaning.specs.FlatPaths.{Use, called, constructed, tested, deleted, other, elsewhere, Mention, used, below, use_of, setting_of, operand_use, right_use, in_expr, in_target_of, in_exprs, in_fields, extended}
 use Rattle.cc_tied.specs.Placed.{Place, a_value, an_assigned, a_callee, a_deleted, an_object, accesses, variable, builds, reaches, keeps, guard, operand}
 use Rattle.cc_tied.specs.Rewrites.{put, re, re_target, re_all, re_fields}
 use Rattle.cc_tied.proofs.KeptPaths.{re_member, path_kept}

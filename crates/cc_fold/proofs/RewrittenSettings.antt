@@ -1,22 +1,21 @@
 -- A rewriting keeps how statements of a chunk's own list set globals and paths.
-use Rattle.std.proofs.Common.{◌≡◌, inl, inr, ℕ, suc, ◌+◌, ◌≤◌, Bool, true, false, List, [], ◌∷◌, ◌++◌, length, Option, Some, None, is_some, refl, sym, ap, subst, ◌∙◌, arith}
-use Rattle.cc_ast.specs.Syntax.{Expr, lit, var, this, fun, list, object, unary, binary, and, or, cond, assign, step as step_of, member, index, call, new, comma, cast, tick, Target, to_var, to_member, to_index, Exprs, Fields, no_fields, more_fields}
-use Rattle.cc_ast.specs.declared.operator.BinOp.{BinOp}
+use Rattle.std.proofs.Common.{◌≡◌, inl, inr, ℕ, suc, ◌≤◌, Bool, true, false, List, [], ◌∷◌, ◌++◌, length, Option, Some, None, is_some, refl, sym, ap, subst, ◌∙◌, arith}
+use Rattle.cc_ast.specs.Syntax.{Expr, fun, object, assign, Target, to_var, to_member, to_index, Exprs, Fields, no_fields, more_fields}
 use Rattle.cc_ast.specs.declared.tree.Key.{Key}
 use Rattle.cc_ast.specs.declared.tree.Ref.{Ref}
 use Rattle.cc_meaning.specs.State.{Path, Tables}
 use Rattle.cc_meaning.specs.Monad.{pick}
-use Rattle.cc_meaning.specs.Shapes.{longer, path_of_ref, path_of, path_of_target, path_of_key}
+use Rattle.cc_meaning.specs.Shapes.{longer, path_of_target, path_of_key}
 use Rattle.cc_meaning.specs.Alike.{In, here, there}
 use Rattle.cc_meaning.specs.FlatPaths.{Use, other, Setting, by_value, elsewhere, Mention, used, set, setting_of, in_expr, in_target_of, sets_at, sets_keys, in_statement, same_path, settings, pure, extended}
 use Rattle.cc_tied.specs.Placed.{Place, a_value, an_assigned}
 use Rattle.cc_tied.specs.Rewrites.{re, re_target, re_fields, re_value}
 use Rattle.cc_tied.proofs.KeptPaths.{re_fun, re_object, re_assign}
-use Rattle.cc_tied.proofs.KeptSets.{in_left, in_right, in_either}
+use Rattle.cc_tied.proofs.KeptSets.{in_either}
 use Rattle.cc_fold.proofs.Paths.{Begins, begins_itself, Before, before_next, begins_after, before_through, path_is, count, count_both}
 use Rattle.cc_fold.proofs.DroppingSteps.{Drops}
 use Rattle.cc_fold.proofs.LessMentions.{Less}
-use Rattle.cc_fold.proofs.Mentioned.{firm, like_literal, like_itself, Clear, Mentioned, mentioned_same, mentioned_both, mentioned_set, plain_expr, plain_target, not_firm, mentioned_plain}
+use Rattle.cc_fold.proofs.Mentioned.{firm, like_literal, Clear, Mentioned, mentioned_same, mentioned_both, mentioned_set, plain_expr, plain_target, not_firm, mentioned_plain}
 use Rattle.cc_fold.proofs.RewrittenMentions.{Turned, fits_other, re_less, target_less, target_path}
 use Rattle.cc_fold.proofs.RewrittenPure.{fields_pure, keys_dotted}
 

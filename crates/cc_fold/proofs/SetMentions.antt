@@ -1,6 +1,6 @@
 -- Where a global or a path is set to a function by a statement of a chunk's own list, it is mentioned.
-use Rattle.std.proofs.Common.{◌≡◌, inl, inr, ℕ, true, List, [], ◌∷◌, ◌++◌, Option, Some, None, is_some, ap, subst, sym}
-use Rattle.cc_ast.specs.Syntax.{Expr, fun, object, assign, Target, to_var, to_member, to_index, Fields, no_fields, more_fields, Declarator, Stmt, simple, vars, fun_decl, Stmts, no_stmts, more_stmts, Scope}
+use Rattle.std.proofs.Common.{inl, inr, ℕ, true, List, [], ◌∷◌, ◌++◌, Option, Some, None, is_some}
+use Rattle.cc_ast.specs.Syntax.{Expr, fun, object, assign, Target, Fields, no_fields, more_fields, Declarator, Stmt, simple, vars, fun_decl, Stmts, no_stmts, more_stmts, Scope}
 use Rattle.cc_ast.specs.declared.tree.Key.{Key}
 use Rattle.cc_ast.specs.declared.tables.ChunkInfo.{ChunkInfo}
 use Rattle.cc_meaning.specs.State.{Path}

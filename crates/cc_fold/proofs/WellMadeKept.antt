@@ -11,7 +11,7 @@ use Rattle.cc_ast.specs.declared.tables.FlatPath.{FlatPath}
 use Rattle.cc_meaning.specs.State.{Tables}
 use Rattle.cc_meaning.specs.Alike.{In, here, there, ListT}
 use Rattle.cc_meaning.specs.Shapes.{head_of, tables_of, sets_by_chunks}
-use Rattle.cc_meaning.specs.Parts.{Part, mentions, stmts_parts}
+use Rattle.cc_meaning.specs.Parts.{Part, mentions}
 use Rattle.cc_meaning.specs.WellMade.{is_chunk, opened, parts_of, stmts_well, Reached, IsNumbered, numbered_place, numbered_global, IsPart, a_site, a_prop, a_doc, a_mention, a_declaration, a_function, a_method, IsScope, IsDistinct, Encloses, directly, further, IsProp, IsDoc, IsClass, IsGlobal, ArePaths, IsCounted, outer_names, IsOrdered, IsMeant, WellMade}
 use Rattle.cc_tied.specs.Promises.{HasNoPaths}
 use Rattle.cc_tied.proofs.Lists.{tied_length}
