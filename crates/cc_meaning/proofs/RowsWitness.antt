@@ -23,11 +23,11 @@ use Rattle.cc_meaning.specs.Alike.{In, here, there}
 use Rattle.cc_meaning.specs.Parts as Pa
 use Rattle.cc_meaning.specs.Parts.{Part, has_site, uses_prop, mentions, declares, makes, sets_method}
 use Rattle.cc_meaning.specs.FlatPaths as F
-use Rattle.cc_meaning.specs.FlatPaths.{Use, called, other, by_value, by_function, elsewhere, mentions_of, settings, uses, IsHolder, IsFree, IsCollapsible, IsFlat, a_literal, a_global}
+use Rattle.cc_meaning.specs.FlatPaths.{Use, called, other, Setting, by_value, by_function, elsewhere, mentions_of, settings, uses, AreConstructions, no_uses, by_new, by_instance, a_literal, an_expression, a_declaration, IsHolder, IsFree, IsCollapsible, IsHolding, MayBeVariable, a_global, a_property}
 use Rattle.cc_meaning.specs.WellMade as W
-use Rattle.cc_meaning.specs.WellMade.{WellMade, IsScope, IsPart, a_site, a_prop, a_mention, a_declaration, a_function, a_method, IsMade, HasMethod, IsSound, sound_place, sound_global, sound_outer, IsDeclared, IsPlaced, placed_global, IsOwn, is_param, of_catch, of_frame, of_own, Reached, IsProp, IsOrdered, IsGlobal, ArePaths, IsMeant, IsCounted, IsDistinct, HasPlace, IsClass, IsCode, parts_of, all_functions}
+use Rattle.cc_meaning.specs.WellMade.{WellMade, IsScope, IsPart, a_site, a_prop, a_mention, a_declaration, a_function, a_method, IsMade, HasMethod, IsSound, sound_place, sound_global, sound_outer, IsDeclared, IsPlaced, placed_global, IsOwn, is_param, of_catch, of_frame, of_own, Reached, IsProp, IsOrdered, IsGlobal, ArePaths, IsMeant, IsCounted, IsDistinct, HasPlace, IsClass, IsCode, its_method, parts_of, all_functions}
 use Rattle.cc_meaning.proofs.Opened.{opened}
-use Rattle.cc_meaning.proofs.Trees.{exprs, stmts, fields, fn, own_fn, no_doc, glo, loc, outer, num, var_glo, set_dot, do_expr, alert, global_in, built_ins, prop, kept_prop, chunk_of}
+use Rattle.cc_meaning.proofs.Trees.{exprs, stmts, fields, fn, own_fn, no_doc, glo, loc, outer, num, var_glo, set_dot, do_expr, let_glo, alert, global_in, built_ins, prop, kept_prop, chunk_of, one_chunk}
 use Rattle.cc_meaning.proofs.Listed.{Each, none, ◌▹◌, each_in, Placed, nowhere, placed, placed_at, same_some, not_listed, once, distinct, same_number, same_text, declared_in, declared, declared_at, no_loop, codes_of, is_code}
 
 --     /** @constructor */
@@ -387,3 +387,63 @@ witness_well = record {
   meant = λ f c n r i. record { meant = placed_at meant n };
   counted = record { globals = lit< tt; docs = lit< tt; scopes = lit< tt; props = lit< tt; classes = lit< tt; places = lit< tt };
 }
+
+-- ---- what breaks it
+
+--     function A(){}
+--     function B(){}
+--     function init(){A=B;}
+abbrev reassigned : Program
+reassigned = one_chunk (codes "alert" ∷ []) (codes "A" ∷ codes "B" ∷ codes "init" ∷ []) [] (fn 0 0 (fun_decl 0 (Ref.Global 4) 1 ∷ fun_decl 0 (Ref.Global 5) 2 ∷ fun_decl 0 (Ref.Global 6) 3 ∷ []) ∷ fn 0 0 [] ∷ fn 0 0 [] ∷ fn 0 0 (let_glo 4 (glo 5) ∷ []) ∷ [])
+
+set_twice : settings (4, []) (mentions_of reassigned) ≡ by_function 1 ∷ elsewhere ∷ []
+unfolding shut
+set_twice = refl
+
+-- a class's place that a function sets again is none
+no_place : HasPlace reassigned 1 → ⊥
+unfolding shut
+no_place h =
+    let e = each_in {P = λ x. x.1 ≡ 1 → x.0 ≡ (4, [])} ((λ e. refl) ▹ (λ e. cc) ▹ (λ e. cc) ▹ none) (h.place, 1) h.set refl in
+    let k : by_function 1 ∷ elsewhere ∷ [] ≡ h.once.0 ∷ [] = subst (λ w. settings w (mentions_of reassigned) ≡ h.once.0 ∷ []) e h.once.1 in
+    cc
+
+--     var ns={};
+--     ns.A=function(){};
+--     alert(ns);
+abbrev escaping : Program
+escaping = one_chunk (codes "alert" ∷ []) (codes "ns" ∷ []) (prop (codes "A") ∷ []) (fn 0 0 (var_glo 4 (object 0 (fields [])) ∷ set_dot 0 (glo 4) 0 (fun 0 1) ∷ alert (glo 4) ∷ []) ∷ fn 0 0 [] ∷ [])
+
+one_name : (ps : List ℕ) (p q : ℕ) → ps ++ p ∷ [] ≡ q ∷ [] → ps ≡ []
+one_name [] p q e = refl
+one_name (_ ∷ []) p q e = cc
+one_name (_ ∷ _ ∷ ps) p q e = cc
+
+-- the global that holds a property
+held : {P : Program} {w : Path} (n p : ℕ) → MayBeVariable P w → w ≡ (n, p ∷ []) → IsHolding P (n, [])
+held n p (a_global m c k) e = let d : [] ≡ p ∷ [] = ap (λ z. z.1) e in cc
+held {P = P} n p (a_property h q m k f) e =
+    let a : h.0 ≡ n = ap (λ z. z.0) e in
+    let b : h.1 ≡ [] = one_name h.1 q p (ap (λ z. z.1) e) in
+    subst (λ z. IsHolding P (n, z)) b (subst (λ z. IsHolding P (z, h.1)) a k)
+
+constructed_only : {us : List Use} → AreConstructions us → us ≡ other ∷ [] → ⊥
+constructed_only no_uses e = cc
+constructed_only (by_new us a) e = cc
+constructed_only (by_instance us a) e = cc
+
+used_itself : {P : Program} {s : Setting} {us : List Use} → F.Holds P s us → us ≡ other ∷ [] → ⊥
+used_itself (a_literal i fs d p) e = cc
+used_itself (an_expression i f us c a) e = constructed_only a e
+used_itself (a_declaration f us c a) e = constructed_only a e
+
+-- a class's place whose holder is used in another way is none
+no_variable : HasPlace escaping 1 → ⊥
+unfolding shut
+no_variable h =
+    let e = each_in {P = λ x. x.1 ≡ 1 → x.0 ≡ (4, 0 ∷ [])} ((λ e. refl) ▹ none) (h.place, 1) h.set refl in
+    used_itself (held 4 0 h.variable e).holds refl
+
+--     two classes with one method
+one_function_twice : WellMade (with_classes (class_A ∷ (record class_S { methods = (1, 3) ∷ [] }) ∷ [])) → ⊥
+one_function_twice w = let e = w.one_class 0 1 3 _ _ refl refl (its_method 1 here) (its_method 1 here) in cc
