@@ -52,11 +52,11 @@ mentioned_same ms = record {
 pub mentioned_both : {ms ns ks ls : List Mention} → Mentioned ms ks → Mentioned ns ls → Mentioned (ms ++ ns) (ks ++ ls)
 mentioned_both {ms = ms} {ns = ns} {ks = ks} {ls = ls} f g = record {
   fewer = λ w c.
-    let a = f.fewer w (λ v s b i. c v s b (in_left ns i)) in
-    let b = g.fewer w (λ v s b i. c v s b (in_right ms i)) in
-    let d = count_both w ms ns in
-    let e = count_both w ks ls in
-    omega arith;
+      let a = f.fewer w (λ v s b i. c v s b (in_left ns i)) in
+      let b = g.fewer w (λ v s b i. c v s b (in_right ms i)) in
+      let d = count_both w ms ns in
+      let e = count_both w ks ls in
+      omega arith;
   uses = λ w u i. elim (in_either ks i) [ inl j ↦ comes_within (λ x k. in_left ns k) (f.uses w u j) | inr j ↦ comes_within (λ x k. in_right ms k) (g.uses w u j) ];
   kept = λ w s i h. elim (in_either ms i) [ inl j ↦ kept_within (λ x k. in_left ls k) (f.kept w s j h) | inr j ↦ kept_within (λ x k. in_right ks k) (g.kept w s j h) ];
 }

@@ -159,10 +159,10 @@ module _ (T : Tables) (built : Ref → Bool) (step : Expr → Expr) (step_call :
   promoted_by None x e h = promoted_same _
   promoted_by (Some v) x e h = subst (λ z. Promoted (z ++ in_expr other e) (sets_at (Some v) e ++ in_expr other e)) (sym (target_set x v h)) (record {
     fewer = λ w c.
-      let a = same_count v w elsewhere e (λ b. c v b here) in
-      let b = count_both w (sets_at (Some v) e) (in_expr other e) in
-      let d = count_both w (set v elsewhere ∷ []) (in_expr other e) in
-      omega arith;
+        let a = same_count v w elsewhere e (λ b. c v b here) in
+        let b = count_both w (sets_at (Some v) e) (in_expr other e) in
+        let d = count_both w (set v elsewhere ∷ []) (in_expr other e) in
+        omega arith;
     uses = λ w u i. elim (in_either (sets_at (Some v) e) i) [ inl j ↦ unused_at (Some v) e j | inr j ↦ there j ];
   })
 

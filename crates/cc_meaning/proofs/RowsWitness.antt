@@ -1,23 +1,20 @@
 -- A program of two chunks that is well made, with a class that extends another, a method, a flat path, a
 -- catch clause and a function expression with an own name; and what breaks it.
-use Rattle.std.proofs.Common.{◌≡◌, refl, ℕ, zero, suc, ◌+◌, ◌<◌, ◌≤◌, Bool, true, false, List, [], ◌∷◌, ◌++◌, Option, Some, None, subst, sym, ap, ◌∙◌, lit<, lit≤, IsTrue, IsFalse, is_some, arith}
+use Rattle.std.proofs.Common.{◌≡◌, refl, ℕ, zero, suc, ◌+◌, ◌<◌, ◌≤◌, Bool, true, false, List, [], ◌∷◌, ◌++◌, Some, None, subst, sym, ap, lit<, lit≤, IsTrue, IsFalse, is_some, arith}
 use Rattle.std.specs.Prelude.{slice_get, nat_eq, ◌&&◌, codes}
 use Rattle.std.specs.List.{Contains, list_any}
-use Rattle.cc_ast.specs.Syntax.{Scope, Program, Stmt, fun, object, assign, call, member, to_member, to_var, simple, fun_decl, return, try, present, absent}
+use Rattle.cc_ast.specs.Syntax.{Scope, Program, fun, object, call, member, fun_decl, return, try, present, absent}
 use Rattle.cc_ast.specs.declared.tree.Ref.{Ref}
-use Rattle.cc_ast.specs.declared.tables.ChunkInfo.{ChunkInfo}
 use Rattle.cc_ast.specs.declared.tables.Class.{Class}
-use Rattle.cc_ast.specs.declared.tables.GlobalInfo.{GlobalInfo}
 use Rattle.cc_ast.specs.declared.tables.FlatPath.{FlatPath}
 use Rattle.cc_ast.specs.declared.tables.PropInfo.{PropInfo}
 use Rattle.cc_ast.specs.declared.tables.SiteDoc.{SiteDoc}
-use Rattle.cc_ast.specs.declared.tables.TypeSet.{TypeSet}
 use Rattle.cc_meaning.specs.Operators.{is_in, list_eq}
 use Rattle.cc_meaning.specs.State.{Path}
 use Rattle.cc_meaning.specs.Monad.{pick}
 use Rattle.cc_meaning.specs.Names.{builtin_globals, always_kept}
 use Rattle.cc_meaning.specs.Store.{class_of_function}
-use Rattle.cc_meaning.specs.Shapes.{tables_of, set_by}
+use Rattle.cc_meaning.specs.Shapes.{tables_of}
 use Rattle.cc_meaning.specs.Types.{Ancestor, itself, above, parents}
 use Rattle.cc_meaning.specs.Alike.{In, here, there}
 use Rattle.cc_meaning.specs.Parts as Pa
@@ -27,7 +24,7 @@ use Rattle.cc_meaning.specs.FlatPaths.{Use, called, other, Setting, by_value, by
 use Rattle.cc_meaning.specs.WellMade as W
 use Rattle.cc_meaning.specs.WellMade.{WellMade, IsScope, IsPart, a_site, a_prop, a_mention, a_declaration, a_function, a_method, IsMade, HasMethod, IsSound, sound_place, sound_global, sound_outer, IsDeclared, IsPlaced, placed_global, IsOwn, is_param, of_catch, of_frame, of_own, Reached, IsProp, IsOrdered, IsGlobal, ArePaths, IsMeant, IsCounted, IsDistinct, HasPlace, IsClass, IsCode, its_method, parts_of, all_functions}
 use Rattle.cc_meaning.proofs.Opened.{opened}
-use Rattle.cc_meaning.proofs.Trees.{exprs, stmts, fields, fn, own_fn, no_doc, glo, loc, outer, num, var_glo, set_dot, do_expr, let_glo, alert, global_in, built_ins, prop, kept_prop, chunk_of, one_chunk}
+use Rattle.cc_meaning.proofs.Trees.{exprs, stmts, fields, fn, own_fn, no_doc, glo, loc, outer, num, var_glo, set_dot, let_glo, alert, global_in, built_ins, prop, kept_prop, chunk_of, one_chunk}
 use Rattle.cc_meaning.proofs.Listed.{Each, none, ◌▹◌, each_in, Placed, nowhere, placed, placed_at, same_some, not_listed, once, distinct, same_number, same_text, declared_in, declared, declared_at, no_loop, codes_of, is_code}
 
 --     /** @constructor */
@@ -53,7 +50,7 @@ abbrev method : Scope
 method = within 0 (fn 0 0 (return 0 (Some (num 1)) ∷ []))
 
 abbrev named : Scope
-named = within 1 (own_fn 1 0 (try 0 (stmts (alert (loc 0) ∷ [])) (present (stmts (return 0 (Some (call 0 (outer 2 0) (exprs (outer 0 0 ∷ []))))  ∷ []))) absent ∷ []))
+named = within 1 (own_fn 1 0 (try 0 (stmts (alert (loc 0) ∷ [])) (present (stmts (return 0 (Some (call 0 (outer 2 0) (exprs (outer 0 0 ∷ [])))) ∷ []))) absent ∷ []))
 
 abbrev class_A : Class
 class_A = record { name = codes "A"; function = Some 2; external = false; interface = false; extends = None; implements = []; methods = (1, 3) ∷ []; fields = [] }
