@@ -13,15 +13,15 @@ use crate::lexeme::{Kind, Lexeme, is_end, is_mark, is_word, kind_of, offends};
 use crate::refused::{Due, fault};
 use cc_ast::place::Place;
 use cc_ast::reading::{Construct, Refusal};
-use cc_grammar::word::Word;
 use cc_lexer::token::{Mark, Token, Tokens};
+use cc_lexer::word::Word;
 use std::marker::Model;
 
 /// The next token, those behind it, and behind them the place where none begins.
 #[derive(Drop)]
 pub struct Cursor<'a> {
     next: Option<Lexeme<'a>>,
-    rest: &'a [Token],
+    rest: &'a [Token<'a>],
     stop: Option<Lexeme<'a>>,
 }
 
@@ -70,7 +70,7 @@ fn stop_of<'a>(stop: &Option<Refusal>) -> Option<Lexeme<'a>>
 }
 
 // The cursor before these tokens.
-fn before<'a>(tokens: &'a [Token], stop: Option<Lexeme<'a>>) -> Cursor<'a>
+fn before<'a>(tokens: &'a [Token<'a>], stop: Option<Lexeme<'a>>) -> Cursor<'a>
     ensures { result ≡ shown.behind false tokens.now stop.entry }
 {
     let mut rest = tokens;
@@ -101,7 +101,7 @@ fn before<'a>(tokens: &'a [Token], stop: Option<Lexeme<'a>>) -> Cursor<'a>
 
 impl<'a> Cursor<'a> {
     /// The cursor at the begin of a file.
-    pub fn new(tokens: &'a Tokens) -> Cursor<'a>
+    pub fn new(tokens: &'a Tokens<'a>) -> Cursor<'a>
         ensures { result ≡ symbols.lexemes false tokens.now.list.items tokens.now.stop }
     {
         before(tokens.list.as_slice(), stop_of(&tokens.stop))

@@ -1,7 +1,7 @@
 -- The definitions of statements that are named by a reserved word, opened.
 use Rattle.std.proofs.Common.{◌≡◌, refl, ◌+◌, max, Bool, true, false, ◌||◌, if◌then◌else◌, List, ◌∷◌, [], Ok, Err}
 use Rattle.cc_lexer.specs.declared.token.Mark.TheVariants as mark
-use Rattle.cc_grammar.specs.declared.word.Word.TheVariants as word
+use Rattle.cc_lexer.specs.declared.word.Word.TheVariants as word
 use Rattle.cc_grammar.specs.Symbols.{is_mark, is_word}
 use Rattle.cc_grammar.specs.Grammar.{Context, in_loop}
 use Rattle.cc_grammar.specs.RawTree as S

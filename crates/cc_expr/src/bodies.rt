@@ -15,7 +15,7 @@ use cc_cursor::error::{Cause, ReadError};
 use cc_cursor::lexeme::Kind;
 use cc_cursor::limits::Limits;
 use cc_cursor::names::params_of;
-use cc_grammar::word::Word;
+use cc_lexer::word::Word;
 use cc_lexer::token::Mark;
 use cc_raw::tree::{Named, RawExpr, RawStmt};
 use cc_trees::statement_trees::joined;

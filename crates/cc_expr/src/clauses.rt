@@ -21,7 +21,7 @@ use cc_cursor::lexeme::Kind;
 use cc_cursor::limits::Limits;
 use cc_cursor::names::variable;
 use cc_cursor::refused::Due;
-use cc_grammar::word::Word;
+use cc_lexer::word::Word;
 use cc_lexer::token::Mark;
 use cc_raw::tree::{RawCase, RawCatch, RawExpr, RawStmt};
 use cc_trees::statement_trees as trees;

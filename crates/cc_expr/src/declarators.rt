@@ -14,7 +14,7 @@ use cc_cursor::cursor::Cursor;
 use cc_cursor::error::{Cause, ReadError};
 use cc_cursor::limits::Limits;
 use cc_cursor::names::variable;
-use cc_grammar::word::Word;
+use cc_lexer::word::Word;
 use cc_lexer::token::Mark;
 use cc_raw::tree::{RawDeclarator, RawExpr, RawStmt};
 use cc_trees::statement_trees as trees;

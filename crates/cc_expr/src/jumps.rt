@@ -11,15 +11,14 @@ ghost use Rattle.cc_cursor.specs.Reads.{Reads};
 ghost use Rattle.cc_expr.specs.Nests.{NestsExpr, NestsStmt};
 
 use crate::grammar::Grammar;
-use cc_ast::copy::CopyOf;
 use cc_ast::place::Place;
-use cc_ast::units::Units;
 use cc_cursor::context::Context;
 use cc_cursor::cursor::Cursor;
 use cc_cursor::error::ReadError;
 use cc_cursor::labels::{has_any, is_among, label_of, with_label};
 use cc_cursor::limits::Limits;
 use cc_cursor::refused::Due;
+use cc_lexer::piece::Piece;
 use cc_lexer::token::Mark;
 use cc_raw::tree::{RawExpr, RawStmt};
 use cc_trees::statement_trees::{self as trees, Jump};
@@ -42,7 +41,7 @@ impl<
         jump: Jump,
         place: Place,
         alone: bool,
-        labels: &[&Units],
+        labels: &[&Piece<'_>],
     ) -> Result<(Items<RawStmt>, usize), ReadError>
         ensures reads { Reads shown.stmts (spec.jump self.now.limits (parts.jump jump place) alone (shown.labels labels.now) (reading.label_of (look_token cursor.old)) cursor.old) result cursor.new }
         ensures low { IfOk result (λ x. x.1 ≤ self.now.limits.depth) }
@@ -59,7 +58,7 @@ impl<
         }
         cursor.take();
         cursor.semicolon()?;
-        let name = name.copy_of(self.alloc)?;
+        let name = name.units(self.alloc)?;
         Ok((trees::make_jump(self.alloc, jump, place, Some(name))?, 0))
     }
 
@@ -103,7 +102,7 @@ impl<
         cursor: &mut Cursor<'_>,
         context: Context<'_>,
         place: Place,
-        name: &Units,
+        name: &Piece<'_>,
     ) -> Result<(Items<RawStmt>, usize), ReadError>
         requires stmt { NestsStmt self.now.limits (G.pre self.now.stmt) (G.post self.now.stmt) }
         ensures reads { Reads shown.stmts (spec.named self.now.limits (shown.context context.entry) place name.now (signs.refused_name name.now) true cursor.old) result cursor.new }
@@ -118,7 +117,7 @@ impl<
         let own = with_label(self.alloc, name, context.own)?;
         let inside = context.labelled(name, labels.as_slice(), own.as_slice());
         let (body, height) = self.inner_stmt(cursor, inside)?;
-        let name = name.copy_of(self.alloc)?;
+        let name = name.units(self.alloc)?;
         let all = trees::label(self.alloc, place, name, body)?;
         // the depth fits its type, and with it the heights below it
         let _depth = self.limits.depth;

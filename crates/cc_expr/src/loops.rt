@@ -21,7 +21,7 @@ use cc_cursor::cursor::Cursor;
 use cc_cursor::error::ReadError;
 use cc_cursor::labels::loop_labels;
 use cc_cursor::limits::Limits;
-use cc_grammar::word::Word;
+use cc_lexer::word::Word;
 use cc_lexer::token::Mark;
 use cc_raw::tree::{RawDeclarator, RawExpr, RawForTarget, RawInit, RawStmt};
 use cc_trees::statement_trees as trees;

@@ -8,13 +8,13 @@ ghost use Rattle.cc_cursor.specs.Reads.{Reads};
 ghost use Rattle.cc_expr.specs.Nests.{NestsExpr, NestsStmt};
 
 use crate::grammar::Grammar;
-use cc_ast::units::Units;
 use cc_cursor::context::Context;
 use cc_cursor::cursor::Cursor;
 use cc_cursor::error::{Cause, Fault, ReadError};
 use cc_cursor::lexeme::{Lexeme, is_end, is_mark};
 use cc_cursor::limits::Limits;
 use cc_cursor::refused::{Due, refused_name};
+use cc_lexer::piece::Piece;
 use cc_lexer::token::Mark;
 use cc_raw::tree::{RawExpr, RawStmt};
 use cc_trees::statement_trees as trees;
@@ -109,7 +109,7 @@ impl<
         &self,
         cursor: &mut Cursor<'_>,
         context: Context<'_>,
-        name: &Units,
+        name: &Piece<'_>,
     ) -> Result<(Items<RawStmt>, usize), ReadError>
         requires expr { NestsExpr self.now.limits (F.pre self.now.expr) (F.post self.now.expr) }
         requires stmt { NestsStmt self.now.limits (G.pre self.now.stmt) (G.post self.now.stmt) }

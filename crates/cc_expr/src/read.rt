@@ -21,7 +21,7 @@ const DEPTH: u16 = 256;
 /// The statements that the tokens of a text derive with justified insertions of semicolons, of a
 /// height of at most 256, or the first fault: a construct that is refused, a token that goes on with
 /// no program, or one where the tree is too high.
-pub fn read_list(alloc: Global, tokens: &Tokens) -> Result<Items<RawStmt>, Refusal>
+pub fn read_list(alloc: Global, tokens: &Tokens<'_>) -> Result<Items<RawStmt>, Refusal>
     requires { IsLexed tokens.now }
     ensures read { IfOk result (λ b. IsRead (spec.tokens tokens.now) b) }
     ensures refused { IfErr result (λ e. IsRefused (spec.tokens tokens.now) e) }

@@ -17,44 +17,44 @@ use cc_ast::reading::Construct;
 use cc_text::{is_line_end, split_first};
 use std::alloc::{AllocError, Global};
 
-fn token<'a>(alloc: Global, c: char, rest: &'a str, text: &'a str) -> Result<Item<'a>, AllocError>
+fn token<'a>(c: char, rest: &'a str, text: &'a str) -> Item<'a>
     requires { chars text.now ≡ c ∷ chars rest.now }
-    ensures { IfOk result (items.IsItem (items.token_item c (chars rest.now))) }
+    ensures { items.IsItem (items.token_item c (chars rest.now)) result }
 {
     if is_start(c) {
         let (name, behind) = split_name(text);
-        return Ok(Item::Token(word_or_name(alloc, name)?, behind));
+        return Item::Token(word_or_name(name), behind);
     }
     if c.is_ascii_digit() {
-        return Ok(number(c, rest, text));
+        return number(c, rest, text);
     }
     if c == '.' && begins_with_digit(rest) {
-        return Ok(Item::Nothing(Fault::Refused(Construct::NumberForm)));
+        return Item::Nothing(Fault::Refused(Construct::NumberForm));
     }
     if c == '\\' {
-        return Ok(Item::Nothing(Fault::Refused(Construct::NameEscape)));
+        return Item::Nothing(Fault::Refused(Construct::NameEscape));
     }
-    Ok(mark(c, rest))
+    mark(c, rest)
 }
 
-fn item<'a>(alloc: Global, c: char, rest: &'a str, text: &'a str) -> Result<Item<'a>, AllocError>
+fn item<'a>(c: char, rest: &'a str, text: &'a str) -> Item<'a>
     requires { chars text.now ≡ c ∷ chars rest.now }
-    ensures { IfOk result (items.IsItem (items.item c (chars rest.now))) }
+    ensures { items.IsItem (items.item c (chars rest.now)) result }
 {
     if is_white(c) {
-        return Ok(Item::Blank(false, rest));
+        return Item::Blank(false, rest);
     }
     if is_line_end(c) {
-        return Ok(Item::Blank(true, rest));
+        return Item::Blank(true, rest);
     }
     if c == '/' {
         match split_first(rest) {
-            Some(('/', _)) => return Ok(Item::Blank(false, behind_line(rest))),
-            Some(('*', inside)) => return block(alloc, text, inside),
+            Some(('/', _)) => return Item::Blank(false, behind_line(rest)),
+            Some(('*', inside)) => return block(text, inside),
             _ => {}
         }
     }
-    token(alloc, c, rest, text)
+    token(c, rest, text)
 }
 
 /// What the text begins with, by its first character and what is behind that.
@@ -70,6 +70,6 @@ pub(crate) fn begin<'a>(
     if is_quote(c) {
         string(alloc, c, rest)
     } else {
-        item(alloc, c, rest, text)
+        Ok(item(c, rest, text))
     }
 }

@@ -14,7 +14,7 @@ use std::alloc::Global;
 
 /// The file of this number that has these tokens: its statements, its annotation comments and its
 /// licences. The refusals are those of `cc_expr::read_list`.
-pub fn read_file(alloc: Global, tokens: &Tokens, file: u32) -> Result<Tree, Refusal>
+pub fn read_file(alloc: Global, tokens: &Tokens<'_>, file: u32) -> Result<Tree, Refusal>
     requires { IsLexed tokens.now }
     ensures read { IfOk result (λ tree. IsFile tokens.now file tree) }
     ensures refused { IfErr result (λ e. IsRefused (lists.tokens tokens.now) e) }

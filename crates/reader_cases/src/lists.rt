@@ -20,7 +20,7 @@ fn push_refused(page: &mut Page, refusal: &Refusal) {
 }
 
 /// The number of the statements that tokens are.
-pub(crate) fn push_list(alloc: Global, page: &mut Page, tokens: &Tokens)
+pub(crate) fn push_list(alloc: Global, page: &mut Page, tokens: &Tokens<'_>)
     requires { IsLexed tokens.now }
 {
     page.row();
@@ -34,7 +34,7 @@ pub(crate) fn push_list(alloc: Global, page: &mut Page, tokens: &Tokens)
 }
 
 /// The number of the file that tokens are read as.
-pub(crate) fn push_file(alloc: Global, page: &mut Page, tokens: &Tokens)
+pub(crate) fn push_file(alloc: Global, page: &mut Page, tokens: &Tokens<'_>)
     requires { IsLexed tokens.now }
 {
     page.row();

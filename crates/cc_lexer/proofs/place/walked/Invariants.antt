@@ -4,7 +4,7 @@ use denote.Shadow.{shadow}
 use Rattle.std.specs.Str.{chars}
 use Rattle.cc_text.specs.Ends.{Ends}
 use Rattle.cc_lexer.specs.Lexes.{Passed, HasRoom}
-use Rattle.cc_lexer.proofs.place.moved.Given as goal
+use Rattle.cc_lexer.proofs.place.walked.Given as goal
 
 abbrev pub invariant-loop-c : goal.invariant-loop-c
 invariant-loop-c l = record {
