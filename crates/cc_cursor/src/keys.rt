@@ -56,6 +56,7 @@ pub fn key_of(kind: Kind<'_>) -> Option<Key<'_>>
 }
 
 /// `get` or `set`.
+#[tactic(auto, using(crate::proofs::NameLemmas::name_steps, std::proofs::lemmas::Grind::common_steps))]
 pub fn is_accessor(kind: Kind<'_>) -> bool
     ensures { result ≡ signs.is_accessor (shown.kind kind.entry) }
 {
@@ -66,6 +67,7 @@ pub fn is_accessor(kind: Kind<'_>) -> bool
 }
 
 /// The text of a property's name.
+#[tactic(auto, using(cc_lexer::proofs::WordLemmas::units_spelled, std::proofs::lemmas::Grind::common_steps))]
 pub fn owned_name(alloc: Global, property: Property<'_>) -> Result<Units, AllocError>
     ensures { IfOk result (λ text. text ≡ keys.property property.entry) }
 {

@@ -1,6 +1,6 @@
 // Tokens that are no comments.
 
-ghost use Rattle.std.specs.Prelude.{◌≡◌};
+ghost use Rattle.std.specs.Prelude.{◌≡◌, ◌∷◌, [], true, is_some};
 ghost use Rattle.std.specs.Option.{option_map};
 ghost use Rattle.cc_grammar.specs.Fronts as fronts;
 ghost use Rattle.cc_grammar.specs.Symbols as symbols;
@@ -10,7 +10,7 @@ use cc_ast::place::Place;
 use cc_ast::reading::Construct;
 use cc_ast::units::Units;
 use cc_lexer::piece::Piece;
-use cc_lexer::token::{Mark, TokenKind};
+use cc_lexer::token::{Mark, Token, TokenKind};
 use cc_lexer::word::Word;
 
 /// What a token is. Nothing begins at `Stop`, where perhaps a construct is refused.
@@ -47,6 +47,22 @@ pub fn kind_of<'a>(token: &'a TokenKind<'a>) -> Option<Kind<'a>>
         TokenKind::Text(units) => Some(Kind::Text(units.get())),
         TokenKind::Doc(_) => None,
         TokenKind::End => Some(Kind::End),
+    }
+}
+
+/// A token that is no comment, noted or not.
+pub(crate) fn lexeme_of<'a>(token: &'a Token<'a>, noted: bool) -> Lexeme<'a>
+    requires { is_some (symbols.kind_of token.now.kind) ≡ true }
+    ensures { symbols.lexeme (symbols.kind_of token.now.kind) noted token.now ≡ shown.lexeme result ∷ [] }
+{
+    match kind_of(&token.kind) {
+        Some(kind) => Lexeme {
+            kind,
+            place: token.place,
+            after_line: token.after_line,
+            noted,
+        },
+        None => unreachable!(),
     }
 }
 

@@ -21,6 +21,7 @@ pub enum Due {
 }
 
 /// What a name refuses that no variable has.
+#[tactic(auto, using(crate::proofs::NameLemmas::name_steps, std::proofs::lemmas::Grind::common_steps))]
 pub fn refused_name(name: &Piece<'_>) -> Option<Construct>
     ensures { result ≡ signs.refused_name name.now }
 {

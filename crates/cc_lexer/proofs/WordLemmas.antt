@@ -1,9 +1,10 @@
 -- The words that begin with a byte.
 use Rattle.std.specs.Prelude.{ℕ, List, [], ◌∷◌, Bool, true, false, ◌==◌, ◌||◌, cond, if◌then◌else◌, Option, Some, None, slice_index, length, ◌≤◌}
 use Rattle.std.specs.List.{filter}
-use Rattle.std.specs.Str.{bytes_eq}
+use Rattle.std.specs.Str.{bytes_eq, chars}
 use Rattle.std.proofs.Common.{◌≡◌, arith, refl, sym, ap, ◌∙◌, subst}
 use Rattle.std.proofs.lemmas.Slice.Eq.{bytes_eq-Decides}
+use Rattle.cc_text.specs.Utf16.{utf16}
 use Rattle.cc_lexer.specs.declared.word.Word.{Word}
 use Rattle.cc_lexer.specs.declared.word.Word.TheVariants as w
 use Rattle.cc_lexer.specs.Words.{spelling, words, spelled_in, word_of}
@@ -98,3 +99,43 @@ pub no_bytes : (text : List ℕ) → length text ≤ 0 → word_of text ≡ None
 unfolding word_of words spelling
 no_bytes [] h = refl
 no_bytes (c ∷ cs) h = absurd (omega arith)
+
+-- a word is of ASCII
+pub units_spelled : (x : Word) → utf16 (chars (spelling x)) ≡ spelling x
+unfolding chars spelling
+units_spelled w.Break = refl
+units_spelled w.Case = refl
+units_spelled w.Catch = refl
+units_spelled w.Class = refl
+units_spelled w.Const = refl
+units_spelled w.Continue = refl
+units_spelled w.Debugger = refl
+units_spelled w.Default = refl
+units_spelled w.Delete = refl
+units_spelled w.Do = refl
+units_spelled w.Else = refl
+units_spelled w.Enum = refl
+units_spelled w.Export = refl
+units_spelled w.Extends = refl
+units_spelled w.False = refl
+units_spelled w.Finally = refl
+units_spelled w.For = refl
+units_spelled w.Function = refl
+units_spelled w.If = refl
+units_spelled w.Import = refl
+units_spelled w.In = refl
+units_spelled w.Instanceof = refl
+units_spelled w.New = refl
+units_spelled w.Null = refl
+units_spelled w.Return = refl
+units_spelled w.Super = refl
+units_spelled w.Switch = refl
+units_spelled w.This = refl
+units_spelled w.Throw = refl
+units_spelled w.True = refl
+units_spelled w.Try = refl
+units_spelled w.Typeof = refl
+units_spelled w.Var = refl
+units_spelled w.Void = refl
+units_spelled w.While = refl
+units_spelled w.With = refl
