@@ -28,17 +28,28 @@ branches_opened m n i = closed_same ((within m).expr true 1 i) (expect mark.Colo
 
 -- ---- a `new`, with arguments or not
 
-abbrev made : Place → Sized S.RawExpr → Sized (List S.RawExpr) → Tokens → Outcome Tokens (Sized S.RawExpr)
+abbrev Reader : Type 0
+Reader = Tokens → Outcome Tokens (Sized S.RawExpr)
+
+abbrev made : Place → Sized S.RawExpr → Sized (List S.RawExpr) → Reader
 made p f x us = Ok ((S.new p f.0 (S.exprs x.0), max f.1 x.1 + 1), us)
 
+abbrev choose : Bool → Reader → Reader → Reader
+choose b p q = if b then p else q
+
+abbrev with_arguments : Limits → Place → Sized S.RawExpr → Reader
+with_arguments m p f us = and_then (spec.arguments_of m (rest_tokens us)) (made p f)
+
+abbrev without : Place → Sized S.RawExpr → Reader
+without p f us = Ok ((S.new p f.0 S.no_exprs, f.1 + 1), us)
+
 new_by : (m : Limits) (p : Place) (f : Sized S.RawExpr) (us : Tokens) (b : Bool)
-    → (if b then (λ i. and_then (spec.arguments_of m (rest_tokens i)) (made p f)) else (λ i. Ok ((S.new p f.0 S.no_exprs, f.1 + 1), i))) us
-    ≡ and_then (if b then spec.arguments_of m (rest_tokens us) else Ok (([], 0), us)) (made p f)
+    → choose b (with_arguments m p f) (without p f) us ≡ and_then (if b then spec.arguments_of m (rest_tokens us) else Ok (([], 0), us)) (made p f)
 new_by m p f us true = refl
 new_by m p f us false = let e : f.1 ≡ max f.1 0 = omega arith in ap (λ h. Ok ((S.new p f.0 S.no_exprs, h + 1), us)) e
 
 new_behind : (m : Limits) (p : Place) (o : Outcome Tokens (Sized S.RawExpr))
-    → and_then o (λ f us. (if is_mark mark.OpenParen (look_token us).kind then (λ i. and_then (spec.arguments_of m (rest_tokens i)) (made p f)) else (λ i. Ok ((S.new p f.0 S.no_exprs, f.1 + 1), i))) us)
+    → and_then o (λ f us. choose (is_mark mark.OpenParen (look_token us).kind) (with_arguments m p f) (without p f) us)
     ≡ and_then o (λ f us. and_then (spec.new_arguments m us) (made p f))
 new_behind m p (Ok q) = new_by m p q.0 q.1 (is_mark mark.OpenParen (look_token q.1).kind)
 new_behind m p (Err x) = refl

@@ -34,7 +34,9 @@ impl<
         let mut height = 0;
         for _turn in 0..self.limits.turns {
             let (e, h) = self.inner_expr(cursor, true, 1)?;
-            push_boxed(self.alloc, found, e)?;
+            let Ok(()) = push_boxed(self.alloc, found, e) else {
+                return Err(ReadError::Memory);
+            };
             height = height.max(h);
             if !cursor.sees(Mark::Comma) {
                 return closed(cursor, Mark::CloseParen, height);

@@ -78,7 +78,9 @@ impl<
                 return Err(ReadError::Fault(cursor.stop(Cause::Refused(Construct::Hole))));
             }
             let (e, h) = self.inner_expr(cursor, true, 1)?;
-            push_boxed(self.alloc, found, e)?;
+            let Ok(()) = push_boxed(self.alloc, found, e) else {
+                return Err(ReadError::Memory);
+            };
             height = height.max(h);
             if !cursor.sees(Mark::Comma) {
                 return closed(cursor, Mark::CloseBracket, height);
@@ -136,7 +138,9 @@ impl<
                 return Ok(height);
             }
             let (field, h) = self.field(cursor)?;
-            push(self.alloc, found, field)?;
+            let Ok(()) = push(self.alloc, found, field) else {
+                return Err(ReadError::Memory);
+            };
             height = height.max(h);
             if !cursor.sees(Mark::Comma) {
                 return closed(cursor, Mark::CloseBrace, height);

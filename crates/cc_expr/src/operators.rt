@@ -49,7 +49,10 @@ impl<
             }
             let place = cursor.take();
             let (right, h) = self.inner_expr(cursor, with_in, level(sign) + 1)?;
-            e = trees::binary(self.alloc, sign, place, e, right)?;
+            let Ok(made) = trees::binary(self.alloc, sign, place, e, right) else {
+                return Err(ReadError::Memory);
+            };
+            e = made;
             height = height.max(h) + 1;
         }
         unreachable!()
@@ -104,7 +107,10 @@ impl<
             }
             let place = cursor.take();
             let (right, h) = self.inner_expr(cursor, with_in, 1)?;
-            e = trees::comma(self.alloc, place, e, right)?;
+            let Ok(made) = trees::comma(self.alloc, place, e, right) else {
+                return Err(ReadError::Memory);
+            };
+            e = made;
             height = height.max(h) + 1;
         }
         unreachable!()

@@ -1,7 +1,7 @@
 // Lists of trees. One that grows has room for four, which is too much for the one statement of most
 // bodies, or the one argument of most calls.
 
-ghost use Rattle.std.specs.Prelude.{◌≡◌, [], ◌∷◌, ◌++◌, length, IfOk, OnOk};
+ghost use Rattle.std.specs.Prelude.{◌≡◌, [], ◌∷◌, ◌++◌, length, slice_get, Some, IfOk, OnOk};
 
 use sqlite_items::{Boxed, Items};
 use std::alloc::{AllocError, Global};
@@ -18,7 +18,7 @@ pub(crate) fn only<T: Drop>(alloc: Global, item: T) -> Result<Items<T>, AllocErr
 /// The item of a list of one, in a box.
 pub fn boxed_only<T: Drop>(alloc: Global, mut items: Items<T>) -> Result<Boxed<T>, AllocError>
     requires { length items ≡ 1 }
-    ensures { IfOk result (λ item. items.entry ≡ item ∷ []) }
+    ensures { IfOk result (λ item. slice_get items 0 ≡ Some item) }
 {
     Boxed::new(alloc, items.remove(0))
 }
