@@ -1,7 +1,7 @@
 // What is done with the tokens of a text.
 
 ghost use Rattle.std.specs.Prelude.{◌≤◌, length};
-ghost use Rattle.cc_expr.specs.ReadList.{IsLexed};
+ghost use Rattle.cc_stmt.specs.ReadList.{IsLexed};
 
 use crate::lists::{push_file, push_list};
 use crate::names::push_names;

@@ -1,11 +1,11 @@
 // Lists of tokens that are read.
 
-ghost use Rattle.cc_expr.specs.ReadList.{IsLexed};
+ghost use Rattle.cc_stmt.specs.ReadList.{IsLexed};
 
 use crate::page::Page;
 use crate::refusal::{place_of, push_stop};
 use cc_ast::reading::Refusal;
-use cc_expr::read_list;
+use cc_stmt::read_list;
 use cc_lexer::token::Tokens;
 use cc_stmt::read_file;
 use std::alloc::Global;
