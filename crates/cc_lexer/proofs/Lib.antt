@@ -9,4 +9,5 @@ pub mod LexLemmas
 pub mod OnceLemmas
 pub mod MarkLemmas
 pub mod PieceLemmas
+pub mod QuickLemmas
 pub mod CoverLemmas

@@ -3,7 +3,7 @@ use denote.Text.{Utf8}
 use denote.Shadow.{shadow}
 use Rattle.std.specs.Str.{chars}
 use Rattle.cc_lexer.specs.Items.{longest}
-use Rattle.cc_lexer.proofs.mark.mark.Given as goal
+use Rattle.cc_lexer.proofs.mark.longest.Given as goal
 
 abbrev pub invariant-loop-c : goal.invariant-loop-c
 invariant-loop-c l = record {
