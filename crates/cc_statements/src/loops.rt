@@ -11,6 +11,7 @@ ghost use Rattle.cc_trees.specs.StatementParts as parts;
 ghost use Rattle.cc_cursor.specs.Shown as shown;
 ghost use Rattle.cc_statements.specs.ReadsStatements as spec;
 ghost use Rattle.cc_statements.specs.ForSteps as steps;
+ghost use Rattle.cc_statements.specs.StatementSteps.{while_head};
 ghost use Rattle.cc_cursor.specs.Reads.{Reads, within};
 ghost use Rattle.cc_trees.specs.Nests.{NestsExpr, NestsStmt};
 
@@ -69,7 +70,7 @@ impl<
     /// The `while` of a `do`, with its expression.
     fn while_head(&self, cursor: &mut Cursor<'_>) -> Result<(Boxed<RawExpr>, usize), ReadError>
         requires expr { NestsExpr self.now.limits (F.pre self.now.expr) (F.post self.now.expr) }
-        ensures reads { Reads shown.expr (steps.while_head self.now.limits cursor.old) result cursor.new }
+        ensures reads { Reads shown.expr (while_head self.now.limits cursor.old) result cursor.new }
         ensures low { IfOk result (λ x. x.1 < self.now.limits.depth) }
     {
         cursor.expect_word(Word::While)?;
