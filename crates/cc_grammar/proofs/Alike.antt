@@ -5,7 +5,7 @@ use Rattle.cc_ast.specs.declared.place.Place.{Place}
 use Rattle.cc_ast.specs.declared.reading.Construct.{Construct}
 use Rattle.cc_lexer.specs.declared.token.Mark.{Mark}
 use Rattle.cc_lexer.specs.declared.token.Mark.TheVariants as mark
-use Rattle.cc_grammar.specs.declared.word.Word.{Word}
+use Rattle.cc_lexer.specs.declared.word.Word.{Word}
 use Rattle.cc_grammar.specs.Symbols.{Lexeme, Symbol, Symbols, real, inserted, look, rest, lexeme_of, is_mark, is_word}
 use Rattle.cc_grammar.specs.Fronts.{is_end}
 use Rattle.cc_grammar.specs.Reading.{Outcome, Fault, Cause, Due, and_then, fault, semicolon_symbol, syntax, depth, spent, refused}

@@ -2,7 +2,7 @@
 use Rattle.std.specs.Prelude.{◌≡◌, ℕ, suc, ◌+◌, ◌<◌, ◌≤◌, max, Bool, true, false, ◌==◌, List, Ok, Some, None}
 use Rattle.std.proofs.Common.{refl, sym, ap, arith, ◌∙◌}
 use Rattle.cc_ast.specs.Syntax.{Prim}
-use Rattle.cc_grammar.specs.declared.word.Word.TheVariants as word
+use Rattle.cc_lexer.specs.declared.word.Word.TheVariants as word
 use Rattle.cc_grammar.specs.Symbols.{Kind, Symbols, look, rest, is_mark}
 use Rattle.cc_grammar.specs.Symbols as k
 use Rattle.cc_grammar.specs.RawTree.{RawExpr, RawTarget}

@@ -4,7 +4,7 @@ use Rattle.std.proofs.Common.{refl, sym, ◌∙◌}
 use Rattle.cc_ast.specs.declared.place.Place.{Place}
 use Rattle.cc_ast.specs.declared.reading.Construct.{Construct}
 use Rattle.cc_lexer.specs.declared.token.Mark.TheVariants as mark
-use Rattle.cc_grammar.specs.declared.word.Word.TheVariants as word
+use Rattle.cc_lexer.specs.declared.word.Word.TheVariants as word
 use Rattle.cc_grammar.specs.Symbols.{Kind, Lexeme, Symbols, real, look, rest, is_mark, is_word}
 use Rattle.cc_grammar.specs.Symbols as k
 use Rattle.cc_grammar.specs.Fronts.{offends, is_end}

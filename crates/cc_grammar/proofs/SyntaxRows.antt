@@ -3,7 +3,7 @@
 use Rattle.std.specs.Prelude.{◌≡◌, ℕ, List, [], ◌∷◌, Option, Some, map}
 use Rattle.std.proofs.Common.{refl}
 use Rattle.cc_lexer.specs.declared.token.Mark.TheVariants as m
-use Rattle.cc_grammar.specs.declared.word.Word.TheVariants as w
+use Rattle.cc_lexer.specs.declared.word.Word.TheVariants as w
 use Rattle.cc_grammar.specs.Reading.{Outcome, Sized, Cause, syntax, depth, refused}
 use Rattle.cc_grammar.specs.Reading as r
 use Rattle.cc_grammar.proofs.Pieces.{Piece, name, word, mark, number, end, stopped, line, placed, failure}

@@ -2,7 +2,7 @@
 use Rattle.std.specs.Prelude.{◌≡◌, List, [], ◌∷◌, true, replicate, map}
 use Rattle.std.proofs.Common.{refl}
 use Rattle.cc_lexer.specs.declared.token.Mark.TheVariants as m
-use Rattle.cc_grammar.specs.declared.word.Word.TheVariants as w
+use Rattle.cc_lexer.specs.declared.word.Word.TheVariants as w
 use Rattle.cc_grammar.specs.Reading.{Outcome, Sized, Cause, syntax, depth, refused}
 use Rattle.cc_grammar.specs.Reading as r
 use Rattle.cc_grammar.proofs.Pieces.{Piece, name, word, mark, number, end, line, placeless, tree, is_whole}

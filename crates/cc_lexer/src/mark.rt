@@ -77,13 +77,10 @@ pub(crate) fn longer(mark: Mark, c: char) -> Option<Mark>
     Some(longer)
 }
 
-/// The longest mark that a text begins with, by its first character and what is behind that.
-pub(crate) fn mark(c: char, rest: &str) -> Item<'_>
-    ensures { items.IsItem (items.mark c (chars rest.now)) result }
+/// The longest mark that begins with this one, which stands before the text.
+pub(crate) fn longest(first: Mark, rest: &str) -> Item<'_>
+    ensures { items.IsItem (items.longest first (chars rest.now)) result }
 {
-    let Some(first) = single(c) else {
-        return Item::Nothing(Fault::Syntax);
-    };
     let mut mark = first;
     let mut end = rest;
     while let Some((c, behind)) = split_first(end) {
@@ -94,4 +91,14 @@ pub(crate) fn mark(c: char, rest: &str) -> Item<'_>
         end = behind;
     }
     Item::Token(TokenKind::Mark(mark), end)
+}
+
+/// The longest mark that a text begins with, by its first character and what is behind that.
+pub(crate) fn mark(c: char, rest: &str) -> Item<'_>
+    ensures { items.IsItem (items.mark c (chars rest.now)) result }
+{
+    match single(c) {
+        Some(first) => longest(first, rest),
+        None => Item::Nothing(Fault::Syntax),
+    }
 }
