@@ -45,7 +45,10 @@ pub fn label_of<'a>(lexeme: Lexeme<'a>) -> Option<&'a Piece<'a>>
 
 /// The labels of a loop: those right before it, and those of the loops around it.
 #[tactic(auto, using(crate::proofs::LabelLemmas::labels_shown))]
-pub fn loop_labels<'a>(alloc: Global, context: Context<'a>) -> Result<Vec<&'a Piece<'a>>, AllocError>
+pub fn loop_labels<'a>(
+    alloc: Global,
+    context: Context<'a>,
+) -> Result<Vec<&'a Piece<'a>>, AllocError>
     ensures { IfOk result (λ ls. shown.labels ls.items ≡ (grammar.in_loop (shown.context context.entry)).loops) }
 {
     let mut labels = Vec::new(alloc);

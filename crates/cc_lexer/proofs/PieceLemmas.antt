@@ -21,7 +21,7 @@ units_by b c = cond b (c ∷ []) (high c ∷ low c ∷ [])
 -- a surrogate is no character
 no_character : (c d : ℕ) → scalar c ≡ true → scalar d ≡ true → 65536 ≤ d → c ≡ high d → ⊥
 no_character c d s t above e = elim (scalar_cases c s) [
-  inl below ↦ omega arith
+  | inl below ↦ omega arith
   | inr over ↦ elim (scalar_cases d t) [ inl small ↦ omega arith | inr large ↦ omega (arith, over.0, large.1) ]
 ]
 

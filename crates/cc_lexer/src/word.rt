@@ -95,7 +95,13 @@ fn beginning(first: u8) -> &'static [Word]
 {
     match first {
         b'b' => &[Word::Break],
-        b'c' => &[Word::Case, Word::Catch, Word::Class, Word::Const, Word::Continue],
+        b'c' => &[
+            Word::Case,
+            Word::Catch,
+            Word::Class,
+            Word::Const,
+            Word::Continue,
+        ],
         b'd' => &[Word::Debugger, Word::Default, Word::Delete, Word::Do],
         b'e' => &[Word::Else, Word::Enum, Word::Export, Word::Extends],
         b'f' => &[Word::False, Word::Finally, Word::For, Word::Function],
