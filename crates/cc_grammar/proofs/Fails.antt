@@ -23,7 +23,7 @@ use Rattle.cc_grammar.proofs.Marked.{In}
 use Rattle.cc_grammar.proofs.Meets.{Done, ok, err}
 use Rattle.cc_grammar.proofs.Shrinks.{reals}
 use Rattle.cc_grammar.proofs.Steps.{kind_at}
-use Rattle.cc_grammar.proofs.Alike.{is_limit}
+use Rattle.cc_grammar.proofs.Alikeness.Alike.{is_limit}
 use Rattle.cc_grammar.proofs.Moves.{Front, stays}
 use Rattle.cc_grammar.proofs.Deletions.{Nest, nest_told}
 use Rattle.cc_grammar.proofs.Nests.{Spares}

@@ -8,8 +8,8 @@ use Rattle.cc_grammar.specs.Faults.{TokensFront, TokensFrontWithin, Splits, Wron
 use Rattle.cc_grammar.specs.Laws.{IsText, Fails, IsFirstFault}
 use Rattle.cc_grammar.specs.Reading.{Fault, Cause, syntax, depth, spent, refused}
 use Rattle.cc_grammar.proofs.Clashes.{clash, same_head, same_tail}
-use Rattle.cc_grammar.proofs.Alike.{is_limit, is_spent}
-use Rattle.cc_grammar.proofs.Copies.{L}
+use Rattle.cc_grammar.proofs.Alikeness.Alike.{is_limit, is_spent}
+use Rattle.cc_grammar.proofs.Copying.Copies.{L}
 use Rattle.cc_grammar.proofs.TokenFronts.{lexemes_append, part_front, part_front_within}
 use Rattle.cc_grammar.proofs.Halts.{Halt, halt, is_deletion, is_plain}
 use Rattle.cc_grammar.proofs.Refusals.{refused_at, where_refused}

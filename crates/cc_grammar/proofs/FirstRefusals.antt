@@ -17,16 +17,16 @@ use Rattle.cc_grammar.specs.Laws.{IsText}
 use Rattle.cc_grammar.specs.Reading.{Outcome, Sized, Fault, Cause, goes_on, is_remedy, syntax, depth, spent, refused, read_symbols}
 use Rattle.cc_grammar.proofs.Clashes.{clash, never, none_some, some_is, same_construct}
 use Rattle.cc_grammar.proofs.Shrinks.{reals}
-use Rattle.cc_grammar.proofs.Alike.{is_limit}
+use Rattle.cc_grammar.proofs.Alikeness.Alike.{is_limit}
 use Rattle.cc_grammar.proofs.NoFront.{no_front}
 use Rattle.cc_grammar.proofs.Deletions.{nest_found, all_closed}
 use Rattle.cc_grammar.proofs.Nests.{nest_opened}
-use Rattle.cc_grammar.proofs.Copies.{L, lexemes_real}
+use Rattle.cc_grammar.proofs.Copying.Copies.{L, lexemes_real}
 use Rattle.cc_grammar.proofs.TokenFronts.{lexemes_append, first_token, shorter_within}
 use Rattle.cc_grammar.proofs.Halts.{Halt}
-use Rattle.cc_grammar.proofs.Swap.{Pair, Fitting, IsRefused, is_refused, Falls, falls_there, no_colon}
-use Rattle.cc_grammar.proofs.Swap as swap
-use Rattle.cc_grammar.proofs.SwapSites.{change}
+use Rattle.cc_grammar.proofs.Swapping.Swap.{Pair, Fitting, IsRefused, is_refused, Falls, falls_there, no_colon}
+use Rattle.cc_grammar.proofs.Swapping.Swap as swap
+use Rattle.cc_grammar.proofs.Swapping.SwapSites.{change}
 use Rattle.cc_grammar.proofs.Verdicts.{Verdict, passing, limiting, refusing, falling, verdict, no_such_front, limit_is}
 use Rattle.cc_grammar.proofs.Foreign.{foreign, Foreign, refused_at_foreign}
 use Rattle.cc_grammar.proofs.Foreign as before_it

@@ -19,11 +19,11 @@ use Rattle.cc_grammar.proofs.Shrinks.{reals}
 use Rattle.cc_grammar.proofs.NoFront.{no_front}
 use Rattle.cc_grammar.proofs.Deletions.{Nest, bare, nested, Closers, closed_all, close_one}
 use Rattle.cc_grammar.proofs.Nests.{nest_opened}
-use Rattle.cc_grammar.proofs.Copies.{L, lexemes_real}
+use Rattle.cc_grammar.proofs.Copying.Copies.{L, lexemes_real}
 use Rattle.cc_grammar.proofs.TokenFronts.{lexemes_append, first_token, shorter_within}
-use Rattle.cc_grammar.proofs.Swap.{Pair, IsRefused, is_refused, Falls, falls_there, token}
-use Rattle.cc_grammar.proofs.Swap as swap
-use Rattle.cc_grammar.proofs.SwapSites.{change}
+use Rattle.cc_grammar.proofs.Swapping.Swap.{Pair, IsRefused, is_refused, Falls, falls_there, token}
+use Rattle.cc_grammar.proofs.Swapping.Swap as swap
+use Rattle.cc_grammar.proofs.Swapping.SwapSites.{change}
 use Rattle.cc_grammar.proofs.Verdicts.{Verdict, passing, limiting, refusing, falling, verdict, unlimited}
 use Rattle.cc_grammar.proofs.Foreign.{foreign, Foreign, at_name, at_delete, refused_at_foreign}
 

@@ -11,10 +11,10 @@ use Rattle.cc_grammar.specs.Laws.{IsText, last, before, is_last, HasNoFault}
 use Rattle.cc_grammar.specs.Reading.{syntax, depth, spent, refused}
 use Rattle.cc_grammar.proofs.Clashes.{clash, same_head, same_tail}
 use Rattle.cc_grammar.proofs.Mono.{higher_body}
-use Rattle.cc_grammar.proofs.Copies.{L, lexemes_real}
+use Rattle.cc_grammar.proofs.Copying.Copies.{L, lexemes_real}
 use Rattle.cc_grammar.proofs.TokenFronts.{lexemes_append, part_front, part_front_within}
 use Rattle.cc_grammar.proofs.Halts.{inserts}
-use Rattle.cc_grammar.proofs.CompleteTokens.{Taken, taken}
+use Rattle.cc_grammar.proofs.Completeness.CompleteTokens.{Taken, taken}
 use Rattle.cc_grammar.proofs.Refutations.{Course, Rest, at_last, one_more_last, one_less_last, name_last, key_last, delete_last, delete_within, examined}
 
 nothing_else : (a : L) (t : Lexeme) → [] ≡ a ++ t ∷ [] → ⊥

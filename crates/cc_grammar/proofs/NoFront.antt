@@ -7,9 +7,9 @@ use Rattle.cc_grammar.specs.Fronts.{Derives, IsFront}
 use Rattle.cc_grammar.specs.Reading.{Outcome, Sized, Fault, read_symbols}
 use Rattle.cc_grammar.proofs.Clashes.{clash}
 use Rattle.cc_grammar.proofs.Shrinks.{reals}
-use Rattle.cc_grammar.proofs.Complete.{program_read}
-use Rattle.cc_grammar.proofs.Alike.{Bounds, limits, turns_alone, is_spent, Deeper, bounded, equal, Suffix, Stands, is_limit, IsErr, is_err, Held, limit, beyond, Decides, stops, barred, passes, limited}
-use Rattle.cc_grammar.proofs.AlikeStatements.{program_alike}
+use Rattle.cc_grammar.proofs.Completeness.Complete.{program_read}
+use Rattle.cc_grammar.proofs.Alikeness.Alike.{Bounds, limits, turns_alone, is_spent, Deeper, bounded, equal, Suffix, Stands, is_limit, IsErr, is_err, Held, limit, beyond, Decides, stops, barred, passes, limited}
+use Rattle.cc_grammar.proofs.Alikeness.AlikeStatements.{program_alike}
 
 abbrev Read : Type 0
 Read = Outcome Symbols (Sized (List RawStmt))

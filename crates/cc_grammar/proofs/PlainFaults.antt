@@ -13,20 +13,20 @@ use Rattle.cc_grammar.specs.Laws.{IsText}
 use Rattle.cc_grammar.specs.Reading.{Fault, fault, either, is_remedy, refused, read_symbols}
 use Rattle.cc_grammar.specs.Reading as r
 use Rattle.cc_grammar.proofs.Clashes.{clash, never, same_head, same_tail}
-use Rattle.cc_grammar.proofs.Alike.{is_limit}
+use Rattle.cc_grammar.proofs.Alikeness.Alike.{is_limit}
 use Rattle.cc_grammar.proofs.NoFront.{no_front, too_long}
 use Rattle.cc_grammar.proofs.Deletions.{Nest}
-use Rattle.cc_grammar.proofs.Paired.{Paired, end_ready, body_ready}
+use Rattle.cc_grammar.proofs.Copying.Paired.{Paired, end_ready, body_ready}
 use Rattle.cc_grammar.proofs.Fails.{Why}
 use Rattle.cc_grammar.proofs.Fails as why
-use Rattle.cc_grammar.proofs.FrontsProgram.{FrontOf}
-use Rattle.cc_grammar.proofs.Copies.{L}
-use Rattle.cc_grammar.proofs.SoundTokens.{begun_behind}
+use Rattle.cc_grammar.proofs.Fronts.FrontsProgram.{FrontOf}
+use Rattle.cc_grammar.proofs.Copying.Copies.{L}
+use Rattle.cc_grammar.proofs.Soundness.SoundTokens.{begun_behind}
 use Rattle.cc_grammar.proofs.TokenFronts.{lexemes_append, first_token}
 use Rattle.cc_grammar.proofs.Halts.{Halt, Reason, at_next, behind, is_plain}
-use Rattle.cc_grammar.proofs.Swap.{Next, Pair, Fitting, anything}
-use Rattle.cc_grammar.proofs.Swap as swap
-use Rattle.cc_grammar.proofs.SwapSites.{change}
+use Rattle.cc_grammar.proofs.Swapping.Swap.{Next, Pair, Fitting, anything}
+use Rattle.cc_grammar.proofs.Swapping.Swap as swap
+use Rattle.cc_grammar.proofs.Swapping.SwapSites.{change}
 use Rattle.cc_grammar.proofs.Verdicts.{Said, said_refused, said_limited, said_passed, said_fallen, said, verdict}
 use Rattle.cc_grammar.proofs.GoesOn.{pair_delete}
 use Rattle.cc_grammar.proofs.Refutations.{Deleting, deleting, not_fresh, slash_pair, key_pair, comma_pair, function_pair, label_pair, name_pair, next_look, no_remedy}

@@ -18,8 +18,8 @@ use Rattle.cc_grammar.specs.Reading as r
 use Rattle.cc_grammar.proofs.Clashes.{clash, none_some, some_is, no_syntax, same_construct}
 use Rattle.cc_grammar.proofs.Fails.{due, Why, by_token, by_variable, by_operand, by_element, by_statement, by_name, by_key}
 use Rattle.cc_grammar.proofs.Deletions.{Nest, nest_told, nest_found, all_closed}
-use Rattle.cc_grammar.proofs.FrontsProgram.{FrontOf}
-use Rattle.cc_grammar.proofs.Copies.{L, lexemes_real}
+use Rattle.cc_grammar.proofs.Fronts.FrontsProgram.{FrontOf}
+use Rattle.cc_grammar.proofs.Copying.Copies.{L, lexemes_real}
 use Rattle.cc_grammar.proofs.TokenFronts.{Filled, Closed, lexemes_append, shorter_within, higher_within, justified_part}
 use Rattle.cc_grammar.proofs.Halts.{Reason, at_next, behind}
 use Rattle.cc_grammar.proofs.GoesOn.{other_name}

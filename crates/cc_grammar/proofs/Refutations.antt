@@ -22,14 +22,14 @@ use Rattle.cc_grammar.proofs.Shrinks.{reals}
 use Rattle.cc_grammar.proofs.NoFront.{no_front, too_long}
 use Rattle.cc_grammar.proofs.Deletions.{Nest, nest_told, variable_nest}
 use Rattle.cc_grammar.proofs.Nests.{nest_opened}
-use Rattle.cc_grammar.proofs.Paired.{is_fresh, Begun, Paired, end_ready, body_ready}
-use Rattle.cc_grammar.proofs.Copies.{L, StopsAt, lexemes_real}
-use Rattle.cc_grammar.proofs.SoundTokens.{begun_behind, no_limit}
+use Rattle.cc_grammar.proofs.Copying.Paired.{is_fresh, Begun, Paired, end_ready, body_ready}
+use Rattle.cc_grammar.proofs.Copying.Copies.{L, StopsAt, lexemes_real}
+use Rattle.cc_grammar.proofs.Soundness.SoundTokens.{begun_behind, no_limit}
 use Rattle.cc_grammar.proofs.TokenFronts.{lexemes_append, shorter, first_token}
 use Rattle.cc_grammar.proofs.Halts.{Inserts}
-use Rattle.cc_grammar.proofs.Swap.{Next, Pair, Fitting, anything, no_colon, a_key}
-use Rattle.cc_grammar.proofs.Swap as swap
-use Rattle.cc_grammar.proofs.SwapSites.{change}
+use Rattle.cc_grammar.proofs.Swapping.Swap.{Next, Pair, Fitting, anything, no_colon, a_key}
+use Rattle.cc_grammar.proofs.Swapping.Swap as swap
+use Rattle.cc_grammar.proofs.Swapping.SwapSites.{change}
 use Rattle.cc_grammar.proofs.Meeting.{Met, inside, one_more, at_end, one_less, Sharp, meets, Along, past, exactly, within, along}
 use Rattle.cc_grammar.proofs.Verdicts.{Said, said_refused, said_limited, said_passed, said_fallen, said, verdict, no_such_front}
 use Rattle.cc_grammar.proofs.GoesOn.{same_tokens, pair_delete}

@@ -10,16 +10,16 @@ use Rattle.cc_grammar.specs.Faults.{any}
 use Rattle.cc_grammar.specs.Reading.{Outcome, Sized, Fault, refused, read_symbols}
 use Rattle.cc_grammar.proofs.Clashes.{clash}
 use Rattle.cc_grammar.proofs.Shrinks.{reals}
-use Rattle.cc_grammar.proofs.Complete.{program_read}
-use Rattle.cc_grammar.proofs.Alike.{Suffix, Stands, is_limit, is_spent, IsErr, is_err}
+use Rattle.cc_grammar.proofs.Completeness.Complete.{program_read}
+use Rattle.cc_grammar.proofs.Alikeness.Alike.{Suffix, Stands, is_limit, is_spent, IsErr, is_err}
 use Rattle.cc_grammar.proofs.NoFront.{unread_there}
 use Rattle.cc_grammar.proofs.Fails.{Fails, fine, stop, deleted, deep}
-use Rattle.cc_grammar.proofs.FrontsProgram.{FrontOf, program_fails}
+use Rattle.cc_grammar.proofs.Fronts.FrontsProgram.{FrontOf, program_fails}
 use Rattle.cc_grammar.proofs.TokenFronts.{lexemes_append}
-use Rattle.cc_grammar.proofs.Swap.{Next, Change, Pair, IsPair, Fitting, Fits, IsLimit, held, IsRefused, is_refused, Falls, falls_there, Swaps, stops, barred, passes, limited, refuses, falls, swaps_at, part, token}
-use Rattle.cc_grammar.proofs.Swap as swap
-use Rattle.cc_grammar.proofs.SwapSites.{change}
-use Rattle.cc_grammar.proofs.SwapPrograms.{program_swap}
+use Rattle.cc_grammar.proofs.Swapping.Swap.{Next, Change, Pair, IsPair, Fitting, Fits, IsLimit, held, IsRefused, is_refused, Falls, falls_there, Swaps, stops, barred, passes, limited, refuses, falls, swaps_at, part, token}
+use Rattle.cc_grammar.proofs.Swapping.Swap as swap
+use Rattle.cc_grammar.proofs.Swapping.SwapSites.{change}
+use Rattle.cc_grammar.proofs.Swapping.SwapPrograms.{program_swap}
 
 abbrev Read : Type 0
 Read = Outcome Symbols (Sized (List RawStmt))
