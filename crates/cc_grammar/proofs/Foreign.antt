@@ -18,7 +18,7 @@ use Rattle.cc_grammar.specs.Reading.{Outcome, Sized, Fault, goes_on, refused, re
 use Rattle.cc_grammar.proofs.Clashes.{clash, no_syntax, head_is, tail_is}
 use Rattle.cc_grammar.proofs.Shrinks.{reals}
 use Rattle.cc_grammar.proofs.Alikeness.Alike.{is_limit}
-use Rattle.cc_grammar.proofs.NoFront.{no_front}
+use Rattle.cc_grammar.proofs.Refusing.NoFront.{no_front}
 use Rattle.cc_grammar.proofs.Deletions.{Nest, nest_told}
 use Rattle.cc_grammar.proofs.Fails.{Fails, fine, stop, deleted, deep, here, due, anew, Why}
 use Rattle.cc_grammar.proofs.Fails as why

@@ -16,7 +16,7 @@ use Rattle.cc_grammar.specs.Faults.{any}
 use Rattle.cc_grammar.specs.Reading.{Outcome, Sized, Fault, goes_on, refused, read_symbols}
 use Rattle.cc_grammar.proofs.Clashes.{clash, some_is, same_construct, head_is, tail_is, not_real}
 use Rattle.cc_grammar.proofs.Shrinks.{reals}
-use Rattle.cc_grammar.proofs.NoFront.{no_front}
+use Rattle.cc_grammar.proofs.Refusing.NoFront.{no_front}
 use Rattle.cc_grammar.proofs.Deletions.{Nest, bare, nested, Closers, closed_all, close_one}
 use Rattle.cc_grammar.proofs.Nests.{nest_opened}
 use Rattle.cc_grammar.proofs.Copying.Copies.{L, lexemes_real}
@@ -24,7 +24,7 @@ use Rattle.cc_grammar.proofs.TokenFronts.{lexemes_append, first_token, shorter_w
 use Rattle.cc_grammar.proofs.Swapping.Swap.{Pair, IsRefused, is_refused, Falls, falls_there, token}
 use Rattle.cc_grammar.proofs.Swapping.Swap as swap
 use Rattle.cc_grammar.proofs.Swapping.SwapSites.{change}
-use Rattle.cc_grammar.proofs.Verdicts.{Verdict, passing, limiting, refusing, falling, verdict, unlimited}
+use Rattle.cc_grammar.proofs.Refusing.Verdicts.{Verdict, passing, limiting, refusing, falling, verdict, unlimited}
 use Rattle.cc_grammar.proofs.Foreign.{foreign, Foreign, at_name, at_delete, refused_at_foreign}
 
 abbrev Read : Type 0

@@ -18,7 +18,7 @@ use Rattle.cc_grammar.proofs.Views.{mark_true}
 use Rattle.cc_grammar.proofs.Shrinks.{reals}
 use Rattle.cc_grammar.proofs.Completeness.Complete.{program_read}
 use Rattle.cc_grammar.proofs.Alikeness.Alike.{is_limit, is_spent}
-use Rattle.cc_grammar.proofs.NoFront.{no_front, unread_there}
+use Rattle.cc_grammar.proofs.Refusing.NoFront.{no_front, unread_there}
 use Rattle.cc_grammar.proofs.Steps.{kind_at}
 use Rattle.cc_grammar.proofs.Deletions.{Nest, nest_told}
 use Rattle.cc_grammar.proofs.Fails.{Why, Raises, Fails, fine, stop, deleted, deep, here, due, anew}

@@ -18,7 +18,7 @@ pub mod Completeness
 pub mod OnTokens
 pub mod Alikeness
 pub mod Following
-pub mod NoFront
+pub mod Refusing
 pub mod Moves
 pub mod MovesDerived
 pub mod Deletions
@@ -31,16 +31,9 @@ pub mod Copying
 pub mod TokenFronts
 pub mod Halts
 pub mod Meeting
-pub mod FirstFaults
-pub mod Refusals
 pub mod Swapping
-pub mod Verdicts
 pub mod Foreign
 pub mod GoesOn
-pub mod Refutations
 pub mod Settled
-pub mod PlainFaults
-pub mod FirstRefusals
-pub mod NoFaults
 pub mod WholeTexts
 pub mod TextTokens

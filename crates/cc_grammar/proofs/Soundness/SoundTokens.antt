@@ -11,7 +11,7 @@ use Rattle.cc_grammar.specs.Reading.{Outcome, Sized, Fault, fault, look_token, r
 use Rattle.cc_grammar.specs.Reading as r
 use Rattle.cc_grammar.proofs.Clashes.{head_is, tail_is, not_real, no_insertion}
 use Rattle.cc_grammar.proofs.Alikeness.Alike.{is_limit}
-use Rattle.cc_grammar.proofs.NoFront.{no_front}
+use Rattle.cc_grammar.proofs.Refusing.NoFront.{no_front}
 use Rattle.cc_grammar.proofs.Soundness.Sound.{symbols_sound, ended_at}
 use Rattle.cc_grammar.proofs.Copying.Paired.{Begun, Paired, end_ready, body_ready}
 use Rattle.cc_grammar.proofs.Copying.Copies.{L, Copy, end, take, insert, put, put_lexemes, Each, StopsAt, Just, Copies, read, Quiet}

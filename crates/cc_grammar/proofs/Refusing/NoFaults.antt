@@ -15,7 +15,7 @@ use Rattle.cc_grammar.proofs.Copying.Copies.{L, lexemes_real}
 use Rattle.cc_grammar.proofs.TokenFronts.{lexemes_append, part_front, part_front_within}
 use Rattle.cc_grammar.proofs.Halts.{inserts}
 use Rattle.cc_grammar.proofs.Completeness.CompleteTokens.{Taken, taken}
-use Rattle.cc_grammar.proofs.Refutations.{Course, Rest, at_last, one_more_last, one_less_last, name_last, key_last, delete_last, delete_within, examined}
+use Rattle.cc_grammar.proofs.Refusing.Refutations.{Course, Rest, at_last, one_more_last, one_less_last, name_last, key_last, delete_last, delete_within, examined}
 
 nothing_else : (a : L) (t : Lexeme) → [] ≡ a ++ t ∷ [] → ⊥
 nothing_else [] t e = cc

@@ -12,7 +12,7 @@ use Rattle.cc_grammar.proofs.Clashes.{clash}
 use Rattle.cc_grammar.proofs.Shrinks.{reals}
 use Rattle.cc_grammar.proofs.Completeness.Complete.{program_read}
 use Rattle.cc_grammar.proofs.Alikeness.Alike.{Suffix, Stands, is_limit, is_spent, IsErr, is_err}
-use Rattle.cc_grammar.proofs.NoFront.{unread_there}
+use Rattle.cc_grammar.proofs.Refusing.NoFront.{unread_there}
 use Rattle.cc_grammar.proofs.Fails.{Fails, fine, stop, deleted, deep}
 use Rattle.cc_grammar.proofs.Fronts.FrontsProgram.{FrontOf, program_fails}
 use Rattle.cc_grammar.proofs.TokenFronts.{lexemes_append}

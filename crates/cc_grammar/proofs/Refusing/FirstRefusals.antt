@@ -18,7 +18,7 @@ use Rattle.cc_grammar.specs.Reading.{Outcome, Sized, Fault, Cause, goes_on, is_r
 use Rattle.cc_grammar.proofs.Clashes.{clash, never, none_some, some_is, same_construct}
 use Rattle.cc_grammar.proofs.Shrinks.{reals}
 use Rattle.cc_grammar.proofs.Alikeness.Alike.{is_limit}
-use Rattle.cc_grammar.proofs.NoFront.{no_front}
+use Rattle.cc_grammar.proofs.Refusing.NoFront.{no_front}
 use Rattle.cc_grammar.proofs.Deletions.{nest_found, all_closed}
 use Rattle.cc_grammar.proofs.Nests.{nest_opened}
 use Rattle.cc_grammar.proofs.Copying.Copies.{L, lexemes_real}
@@ -27,14 +27,14 @@ use Rattle.cc_grammar.proofs.Halts.{Halt}
 use Rattle.cc_grammar.proofs.Swapping.Swap.{Pair, Fitting, IsRefused, is_refused, Falls, falls_there, no_colon}
 use Rattle.cc_grammar.proofs.Swapping.Swap as swap
 use Rattle.cc_grammar.proofs.Swapping.SwapSites.{change}
-use Rattle.cc_grammar.proofs.Verdicts.{Verdict, passing, limiting, refusing, falling, verdict, no_such_front, limit_is}
+use Rattle.cc_grammar.proofs.Refusing.Verdicts.{Verdict, passing, limiting, refusing, falling, verdict, no_such_front, limit_is}
 use Rattle.cc_grammar.proofs.Foreign.{foreign, Foreign, refused_at_foreign}
 use Rattle.cc_grammar.proofs.Foreign as before_it
 use Rattle.cc_grammar.proofs.GoesOn.{bare_nest, no_later, other_name, no_deletion, pair_delete}
-use Rattle.cc_grammar.proofs.Refusals.{Refusal, may_stop, firm, part_due, Where, now, at_name, at_key, at_delete, earlier}
-use Rattle.cc_grammar.proofs.Refutations.{Deleting, key_refuses, name_pair}
+use Rattle.cc_grammar.proofs.Refusing.Refusals.{Refusal, may_stop, firm, part_due, Where, now, at_name, at_key, at_delete, earlier}
+use Rattle.cc_grammar.proofs.Refusing.Refutations.{Deleting, key_refuses, name_pair}
 use Rattle.cc_grammar.proofs.Settled.{Answered, by_name, by_key, by_delete, Settled, answered, same_end, firm_end, settled, name_settled, delete_settled, reads_on}
-use Rattle.cc_grammar.proofs.PlainFaults.{told}
+use Rattle.cc_grammar.proofs.Refusing.PlainFaults.{told}
 use Rattle.cc_grammar.proofs.OnSymbols as symbols
 
 abbrev Read : Type 0

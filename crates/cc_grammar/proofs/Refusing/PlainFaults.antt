@@ -14,7 +14,7 @@ use Rattle.cc_grammar.specs.Reading.{Fault, fault, either, is_remedy, refused, r
 use Rattle.cc_grammar.specs.Reading as r
 use Rattle.cc_grammar.proofs.Clashes.{clash, never, same_head, same_tail}
 use Rattle.cc_grammar.proofs.Alikeness.Alike.{is_limit}
-use Rattle.cc_grammar.proofs.NoFront.{no_front, too_long}
+use Rattle.cc_grammar.proofs.Refusing.NoFront.{no_front, too_long}
 use Rattle.cc_grammar.proofs.Deletions.{Nest}
 use Rattle.cc_grammar.proofs.Copying.Paired.{Paired, end_ready, body_ready}
 use Rattle.cc_grammar.proofs.Fails.{Why}
@@ -27,9 +27,9 @@ use Rattle.cc_grammar.proofs.Halts.{Halt, Reason, at_next, behind, is_plain}
 use Rattle.cc_grammar.proofs.Swapping.Swap.{Next, Pair, Fitting, anything}
 use Rattle.cc_grammar.proofs.Swapping.Swap as swap
 use Rattle.cc_grammar.proofs.Swapping.SwapSites.{change}
-use Rattle.cc_grammar.proofs.Verdicts.{Said, said_refused, said_limited, said_passed, said_fallen, said, verdict}
+use Rattle.cc_grammar.proofs.Refusing.Verdicts.{Said, said_refused, said_limited, said_passed, said_fallen, said, verdict}
 use Rattle.cc_grammar.proofs.GoesOn.{pair_delete}
-use Rattle.cc_grammar.proofs.Refutations.{Deleting, deleting, not_fresh, slash_pair, key_pair, comma_pair, function_pair, label_pair, name_pair, next_look, no_remedy}
+use Rattle.cc_grammar.proofs.Refusing.Refutations.{Deleting, deleting, not_fresh, slash_pair, key_pair, comma_pair, function_pair, label_pair, name_pair, next_look, no_remedy}
 use Rattle.cc_grammar.proofs.Settled.{Answered, by_name, by_key, by_delete, Settled, answered, same_end, firm_end, settled, deleted_fits, operand_ends, accessor_names}
 use Rattle.cc_grammar.proofs.Firsts.{names}
 

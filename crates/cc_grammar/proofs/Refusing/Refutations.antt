@@ -19,7 +19,7 @@ use Rattle.cc_grammar.specs.Reading.{Fault, fault, either, goes_on, is_remedy, s
 use Rattle.cc_grammar.specs.Reading as r
 use Rattle.cc_grammar.proofs.Clashes.{clash, never, none_some, no_syntax, same_construct, same_head, same_tail}
 use Rattle.cc_grammar.proofs.Shrinks.{reals}
-use Rattle.cc_grammar.proofs.NoFront.{no_front, too_long}
+use Rattle.cc_grammar.proofs.Refusing.NoFront.{no_front, too_long}
 use Rattle.cc_grammar.proofs.Deletions.{Nest, nest_told, variable_nest}
 use Rattle.cc_grammar.proofs.Nests.{nest_opened}
 use Rattle.cc_grammar.proofs.Copying.Paired.{is_fresh, Begun, Paired, end_ready, body_ready}
@@ -31,7 +31,7 @@ use Rattle.cc_grammar.proofs.Swapping.Swap.{Next, Pair, Fitting, anything, no_co
 use Rattle.cc_grammar.proofs.Swapping.Swap as swap
 use Rattle.cc_grammar.proofs.Swapping.SwapSites.{change}
 use Rattle.cc_grammar.proofs.Meeting.{Met, inside, one_more, at_end, one_less, Sharp, meets, Along, past, exactly, within, along}
-use Rattle.cc_grammar.proofs.Verdicts.{Said, said_refused, said_limited, said_passed, said_fallen, said, verdict, no_such_front}
+use Rattle.cc_grammar.proofs.Refusing.Verdicts.{Said, said_refused, said_limited, said_passed, said_fallen, said, verdict, no_such_front}
 use Rattle.cc_grammar.proofs.GoesOn.{same_tokens, pair_delete}
 use Rattle.cc_grammar.proofs.OnSymbols as symbols
 

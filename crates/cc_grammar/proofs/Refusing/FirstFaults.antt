@@ -12,9 +12,9 @@ use Rattle.cc_grammar.proofs.Alikeness.Alike.{is_limit, is_spent}
 use Rattle.cc_grammar.proofs.Copying.Copies.{L}
 use Rattle.cc_grammar.proofs.TokenFronts.{lexemes_append, part_front, part_front_within}
 use Rattle.cc_grammar.proofs.Halts.{Halt, halt, is_deletion, is_plain}
-use Rattle.cc_grammar.proofs.Refusals.{refused_at, where_refused}
-use Rattle.cc_grammar.proofs.PlainFaults.{none_begins}
-use Rattle.cc_grammar.proofs.FirstRefusals.{First, first_refusal}
+use Rattle.cc_grammar.proofs.Refusing.Refusals.{refused_at, where_refused}
+use Rattle.cc_grammar.proofs.Refusing.PlainFaults.{none_begins}
+use Rattle.cc_grammar.proofs.Refusing.FirstRefusals.{First, first_refusal}
 
 -- ---- the beginnings of a list
 
