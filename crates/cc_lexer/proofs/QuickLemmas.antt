@@ -1,6 +1,7 @@
 -- What a text begins with that begins with a letter, or with a mark that begins no number and no comment.
 use Rattle.std.specs.Prelude.{◌≡◌, ℕ, zero, suc, ◌<◌, List, [], ◌∷◌, Bool, true, false, not, ◌||◌, ◌&&◌, ◌==◌, nat_lt, Some, slice_index}
 use Rattle.std.specs.Char.{is_ascii_alphabetic, is_ascii_alphanumeric}
+use Rattle.std.specs.Int.{is_in_range}
 use Rattle.std.proofs.Common.{refl, sym, ◌∙◌, ap, subst, arith}
 use Rattle.std.proofs.lemmas.Bool.{ltb-true}
 use Rattle.std.proofs.lemmas.Bool.Decides.{nat_tests}
@@ -14,34 +15,6 @@ use Rattle.cc_lexer.specs.Marks.{spelling, single}
 use Rattle.cc_lexer.specs.Items.{token, word_or_name, longest, token_item, item, IsItem, BeginsWith}
 use Rattle.cc_lexer.proofs.ItemLemmas.{begins_other}
 use Rattle.cc_lexer.proofs.MarkLemmas.{single_spells}
-
--- ---- ASCII characters
-
-abbrev pub is_letter : ℕ → Bool
-is_letter c = c == 36 || c == 95 || is_ascii_alphabetic c
-
-abbrev pub is_letter_or_digit : ℕ → Bool
-is_letter_or_digit c = c == 36 || c == 95 || is_ascii_alphanumeric c
-
-pub letter_start : (c : ℕ) → c < 128 → is_letter c ≡ is_start c
-letter_start c h = ap (λ b. c == 36 || c == 95 || b) (sym (is_xid_start-ascii c h))
-
-parts : (a b d : Bool) → (a || b || d) ≡ (a || b || false || false || (d || b))
-parts true b d = refl
-parts false true d = refl
-parts false false true = refl
-parts false false false = refl
-
-no_joiners : (a b d : Bool) (p q : Bool) → p ≡ false → q ≡ false → (a || b || d) ≡ (a || b || p || q || (d || b))
-no_joiners a b d p q e h = parts a b d ∙ ap (λ x. a || b || x || false || (d || b)) (sym e) ∙ ap (λ x. a || b || p || x || (d || b)) (sym h)
-
-pub part_ascii : (c : ℕ) → c < 128 → is_letter_or_digit c ≡ is_part c
-part_ascii c h =
-    no_joiners (c == 36) (c == 95) (is_ascii_alphanumeric c) (c == 0x200C) (c == 0x200D) (grind (arith, nat_tests)) (grind (arith, nat_tests))
-    ∙ ap (λ b. c == 36 || c == 95 || c == 0x200C || c == 0x200D || b) (sym (is_xid_continue-ascii c h))
-
-letter_ascii : (c : ℕ) → is_letter c ≡ true → c < 128
-letter_ascii c e = grind (arith, nat_tests)
 
 -- ---- what holds of each number below another
 
@@ -59,6 +32,39 @@ below_each p (suc n) c e h = let q = both (p n) (below p n) e in by_last (c == n
   by_last : (b : Bool) → (c == n) ≡ b → (c < n → p c ≡ true) → p c ≡ true
   by_last true s k = let same : c ≡ n = grind (arith, nat_tests) in ap p same ∙ (both (p n) (below p n) e).0
   by_last false s k = let other : c < n = grind (arith, nat_tests) in k other
+
+abbrev same : Bool → Bool → Bool
+same a b = (a && b) || (not a && not b)
+
+equal : (a b : Bool) → same a b ≡ true → a ≡ b
+equal true true e = refl
+equal true false e = cc
+equal false true e = cc
+equal false false e = refl
+
+equal_below : (p q : ℕ → Bool) (n c : ℕ) → below (λ d. same (p d) (q d)) n ≡ true → c < n → p c ≡ q c
+equal_below p q n c e h = equal (p c) (q c) (below_each (λ d. same (p d) (q d)) n c e h)
+
+-- ---- ASCII characters
+
+abbrev pub is_letter : ℕ → Bool
+is_letter c = is_in_range 97 122 c || is_in_range 65 90 c || c == 95 || c == 36
+
+abbrev pub is_letter_or_digit : ℕ → Bool
+is_letter_or_digit c = is_in_range 97 122 c || is_in_range 65 90 c || is_in_range 48 57 c || c == 95 || c == 36
+
+pub letter_start : (c : ℕ) → c < 128 → is_letter c ≡ is_start c
+letter_start c h =
+    equal_below is_letter (λ d. d == 36 || d == 95 || is_ascii_alphabetic d) 128 c refl h
+    ∙ ap (λ b. c == 36 || c == 95 || b) (sym (is_xid_start-ascii c h))
+
+pub part_ascii : (c : ℕ) → c < 128 → is_letter_or_digit c ≡ is_part c
+part_ascii c h =
+    equal_below is_letter_or_digit (λ d. d == 36 || d == 95 || d == 0x200C || d == 0x200D || (is_ascii_alphanumeric d || (d == 95))) 128 c refl h
+    ∙ ap (λ b. c == 36 || c == 95 || c == 0x200C || c == 0x200D || b) (sym (is_xid_continue-ascii c h))
+
+letter_ascii : (c : ℕ) → is_letter c ≡ true → c < 128
+letter_ascii c e = grind (arith, nat_tests)
 
 -- ---- no text begins with two things
 

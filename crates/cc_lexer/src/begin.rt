@@ -19,6 +19,7 @@ use cc_text::{is_line_end, split_first};
 use std::alloc::{AllocError, Global};
 
 // The name or the word that a text begins with.
+#[inline(always)]
 fn word(text: &str) -> Item<'_>
     ensures { items.IsItem (items.token (items.word_or_name (class.run class.is_part (chars text.now))) (class.behind class.is_part (chars text.now))) result }
 {

@@ -1,7 +1,7 @@
 // Classes of characters.
 
 ghost use Rattle.std.specs.Prelude.{◌≡◌, ◌==◌, ◌||◌};
-ghost use Rattle.std.specs.Char.{is_ascii_alphabetic, is_ascii_alphanumeric};
+ghost use Rattle.std.specs.Int.{is_in_range};
 ghost use Rattle.cc_lexer.specs.Characters as class;
 
 pub(crate) fn is_white(c: char) -> bool
@@ -21,16 +21,16 @@ pub(crate) fn is_white(c: char) -> bool
 
 /// Whether an ASCII character begins a name.
 pub(crate) fn is_letter(c: char) -> bool
-    ensures { result ≡ (c == 36 || c == 95 || is_ascii_alphabetic c) }
+    ensures { result ≡ (is_in_range 97 122 c || is_in_range 65 90 c || c == 95 || c == 36) }
 {
-    matches!(c, '$' | '_' | 'A'..='Z' | 'a'..='z')
+    matches!(c, 'a'..='z' | 'A'..='Z' | '_' | '$')
 }
 
 // Whether an ASCII character goes on with a name.
 fn is_letter_or_digit(c: char) -> bool
-    ensures { result ≡ (c == 36 || c == 95 || is_ascii_alphanumeric c) }
+    ensures { result ≡ (is_in_range 97 122 c || is_in_range 65 90 c || is_in_range 48 57 c || c == 95 || c == 36) }
 {
-    matches!(c, '$' | '_' | '0'..='9' | 'A'..='Z' | 'a'..='z')
+    matches!(c, 'a'..='z' | 'A'..='Z' | '0'..='9' | '_' | '$')
 }
 
 fn is_far_start(c: char) -> bool

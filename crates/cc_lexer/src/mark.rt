@@ -10,6 +10,7 @@ use crate::token::{Fault, Mark, TokenKind};
 use cc_text::split_first;
 
 // The mark that is one character.
+#[inline(always)]
 pub(crate) fn single(c: char) -> Option<Mark>
     ensures { result ≡ marks.single c }
 {
@@ -78,6 +79,7 @@ pub(crate) fn longer(mark: Mark, c: char) -> Option<Mark>
 }
 
 /// The longest mark that begins with this one, which stands before the text.
+#[inline(always)]
 pub(crate) fn longest(first: Mark, rest: &str) -> Item<'_>
     ensures { items.IsItem (items.longest first (chars rest.now)) result }
 {

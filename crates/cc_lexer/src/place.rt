@@ -36,6 +36,7 @@ fn beyond(place: Place, c: char, rest: &str) -> Place
 }
 
 // The place of an end of a text, character by character.
+#[cold]
 fn walked(place: Place, text: &str, rest: &str) -> Place
     requires ends { Ends (chars text.now) (chars rest.now) }
     requires room { lexes.HasRoom place (length text.now) }
@@ -78,6 +79,7 @@ fn plain_length(text: &str, most: usize) -> usize
 
 /// The place of an end of a text, from the place of the text. Over ASCII characters that end no
 /// line, as most tokens are, it goes on by their number.
+#[inline(always)]
 pub(crate) fn moved(place: Place, text: &str, rest: &str) -> Place
     requires ends { Ends (chars text.now) (chars rest.now) }
     requires room { lexes.HasRoom place (length text.now) }
