@@ -1,5 +1,5 @@
 -- Annotation comments from the last to the first, and texts in texts.
-use Rattle.std.proofs.Common.{◌≡◌, refl, sym, ap, ◌∙◌, ℕ, ◌<◌, false, List, [], ◌∷◌, ◌++◌, length, drop, length-drop, append_assoc, reverse, arith}
+use Rattle.std.proofs.Common.{◌≡◌, refl, sym, ap, ◌∙◌, ℕ, zero, suc, ◌-◌, ◌<◌, ◌≤◌, false, List, [], ◌∷◌, ◌++◌, length, take, drop, length-drop, append_assoc, reverse, slice_index_or, arith}
 use Rattle.std.specs.Prelude.{◌==◌}
 use Rattle.std.proofs.lemmas.Bool.Decides.{nat_tests}
 use Rattle.std.proofs.lemmas.List.{append-nil, reverse-append}
@@ -67,3 +67,16 @@ pub contains_none : (w us : List ℕ) → length us ≡ 0 → contains w us ≡ 
 contains_none [] [] none = refl
 contains_none (x ∷ w) [] none = grind (arith, nat_tests)
 contains_none w (u ∷ us) none = absurd (omega arith)
+
+-- ---- the front of a list, with one item more
+
+one_more_at : (xs : List Token) (i : ℕ) (d : Token) → i < length xs → take (suc i) xs ≡ take i xs ++ slice_index_or xs i d ∷ []
+one_more_at [] i d h = absurd (omega arith)
+one_more_at (x ∷ xs) zero d h = refl
+one_more_at (x ∷ xs) (suc i) d h = ap (λ l. x ∷ l) (one_more_at xs i d (omega arith))
+
+pub one_more : (xs : List Token) (n : ℕ) (t : Token) → 0 < n → n ≤ length xs → t ≡ slice_index_or xs (n - 1) t → take n xs ≡ take (n - 1) xs ++ t ∷ []
+one_more xs zero t p h e = absurd (omega arith)
+one_more xs (suc n) t p h e =
+    let d : suc n - 1 ≡ n = omega arith in
+    one_more_at xs n t (omega arith) ∙ ap (λ k. take k xs ++ slice_index_or xs k t ∷ []) (sym d) ∙ ap (λ x. take (suc n - 1) xs ++ x ∷ []) (sym e)

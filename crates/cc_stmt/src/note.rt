@@ -1,7 +1,9 @@
 // The annotation comments of a list of tokens.
 
-ghost use Rattle.std.specs.Prelude.{◌≡◌, IfOk};
+ghost use Rattle.std.specs.Prelude.{◌≡◌, Some, None, IfOk};
+ghost use Rattle.cc_ast.specs.declared.units.Units.{Units};
 ghost use Rattle.cc_grammar.specs.Symbols.{nowhere};
+ghost use Rattle.cc_lexer.specs.declared.token.TokenKind.TheVariants as kind;
 ghost use Rattle.cc_stmt.specs.Notes as spec;
 
 use crate::tree::Note;
@@ -19,22 +21,34 @@ const NOWHERE: Place = Place {
     column: 0,
 };
 
+// The text of an annotation comment, where the token is one.
+fn doc_text(alloc: Global, token: &Token<'_>) -> Result<Option<Units>, AllocError>
+    ensures doc { IfOk result (λ found. (text : Units) → found ≡ Some text → token.now.kind ≡ kind.Doc text) }
+    ensures other { IfOk result (λ found. found ≡ None → (text : Units) → token.now.kind ≡ kind.Doc text → ⊥) }
+{
+    match &token.kind {
+        TokenKind::Doc(text) => Ok(Some(text.units(alloc)?)),
+        _ => Ok(None),
+    }
+}
+
 /// The annotation comments, in order.
 pub(crate) fn notes_of(alloc: Global, tokens: &[Token<'_>]) -> Result<Vec<Note>, AllocError>
     ensures { IfOk result (λ notes. notes.items ≡ spec.notes nowhere tokens.now) }
 {
     let mut found = Vec::new(alloc);
     let mut next = NOWHERE;
-    let mut rest = tokens;
-    while let Some((token, before)) = rest.split_last() {
-        rest = before;
-        match &token.kind {
-            TokenKind::Doc(text) => found.push(Note {
+    let mut at = tokens.len();
+    while at > 0 {
+        at -= 1;
+        let token = &tokens[at];
+        match doc_text(alloc, token)? {
+            Some(text) => found.push(Note {
                 place: token.place,
                 next,
-                text: text.units(alloc)?,
+                text,
             })?,
-            _ => next = token.place,
+            None => next = token.place,
         }
     }
     found.reverse();

@@ -1,13 +1,13 @@
-use Rattle.std.proofs.Common.{◌∙◌}
-use Rattle.cc_stmt.proofs.NoteLemmas.{note_before, token_before}
+use Rattle.std.proofs.Common.{◌∙◌, refl, arith}
+use Rattle.cc_stmt.proofs.NoteLemmas.{note_before, token_before, one_more}
 use Rattle.cc_stmt.proofs.note.notes_of.Goals as goal
 
-pub loop-token-preserved-in_ok-push-in-Doc : goal.loop-token-preserved-in_ok-push-in-Doc
-loop-token-preserved-in_ok-push-in-Doc c =
-    c.loop-token.invariant ∙ note_before c.loop-token.next c.loop-token.rest.now c.in-Some.before.now c.in-Some.token.now _ _ c.loop-token.found.items _
-    c.in-Some.ensures.cases.0 c.in-Doc.is c.in_ok-copy_of-in-Doc.ensures c.in_ok-push-in-Doc.ensures.items
+pub loop-at-preserved-in-Continue-branch-3 : goal.loop-at-preserved-in-Continue-branch-3
+loop-at-preserved-in-Continue-branch-3 c =
+    let split = one_more c.args.tokens.now c.loop-at.at c.index-tokens-at.result c.loop-at-test.true c.loop-at.invariant.0 c.index-tokens-at.is in
+    (omega arith, c.loop-at.invariant.1 ∙ note_before c.loop-at.next _ _ c.index-tokens-at.result _ _ c.loop-at.found.items _ split (c.in_ok-text.ensures.doc c.in-Some.text c.in-Some.is) refl c.in_ok-push-in-Some.ensures.items)
 
-pub loop-token-preserved : goal.loop-token-preserved
-loop-token-preserved c =
-    c.loop-token.invariant ∙ token_before c.loop-token.next c.loop-token.rest.now c.in-Some.before.now c.in-Some.token.now c.loop-token.found.items
-    c.in-Some.ensures.cases.0 c.in_default-kind.not-Doc
+pub loop-at-preserved : goal.loop-at-preserved
+loop-at-preserved c =
+    let split = one_more c.args.tokens.now c.loop-at.at c.index-tokens-at.result c.loop-at-test.true c.loop-at.invariant.0 c.index-tokens-at.is in
+    (omega arith, c.loop-at.invariant.1 ∙ token_before c.loop-at.next _ _ c.index-tokens-at.result c.loop-at.found.items split (c.in_ok-text.ensures.other c.in-None.is))

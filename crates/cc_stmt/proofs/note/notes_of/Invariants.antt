@@ -1,10 +1,10 @@
-use Rattle.std.proofs.Common.{◌≡◌, ◌++◌, length, reverse}
+use Rattle.std.proofs.Common.{◌≡◌, ◌++◌, ◌≤◌, length, reverse, take}
 use Rattle.cc_grammar.specs.Symbols.{nowhere}
 use Rattle.cc_stmt.specs.Notes as spec
 use Rattle.cc_stmt.proofs.note.notes_of.Given as goal
 
-abbrev pub invariant-loop-token : goal.invariant-loop-token
-invariant-loop-token l = spec.notes nowhere l.tokens ≡ spec.notes l.next l.rest ++ reverse l.found.items
+abbrev pub invariant-loop-at : goal.invariant-loop-at
+invariant-loop-at l = (l.at ≤ length l.tokens) × (spec.notes nowhere l.tokens ≡ spec.notes l.next (take l.at l.tokens) ++ reverse l.found.items)
 
-abbrev pub decreases-loop-token : goal.decreases-loop-token
-decreases-loop-token l = length l.rest
+abbrev pub decreases-loop-at : goal.decreases-loop-at
+decreases-loop-at l = l.at
