@@ -79,15 +79,24 @@ impl Counted {
         }
     }
 
-    /// Puts an empty scope by a claim of an earlier phase.
-    pub fn put_late(&mut self, alloc: Global, claim: Claim) -> Put
+    /// Puts an empty scope by a claim of an earlier phase. The claim is given back where memory is
+    /// wanting.
+    pub fn put_late(&mut self, alloc: Global, claim: Claim) -> Result<Put, AllocError>
         requires room { self.old.most + 1 < 2 ^ 32 }
         requires phase { claim.phase < self.old.shop.state.closed }
         requires slot { claim.slot < length self.old.shop.state.slots }
     {
-        let put = self.shop.put(claim, an_empty_scope(alloc));
-        self.most += 1;
-        put
+        match an_empty_scope(alloc) {
+            Ok(scope) => {
+                let put = self.shop.put(claim, scope);
+                self.most += 1;
+                Ok(put)
+            }
+            Err(fault) => {
+                self.give_back(claim);
+                Err(fault)
+            }
+        }
     }
 
     pub fn give_back(&mut self, claim: Claim)
@@ -136,8 +145,9 @@ impl Counted {
         requires { self.old.most ≡ 0 }
     {
         let none = a_shop(alloc, 0)?;
-        let given = self.exchange(none);
-        self.shop = work_alone(given)?;
+        let mut given = self.exchange(none);
+        work_alone(&mut given)?;
+        self.shop = given;
         Ok(())
     }
 }

@@ -59,7 +59,7 @@ fn leave(claim: Claim) {
 fn scope_answer(scope: &Scope) -> Answer {
     Answer::Scope {
         doc: scope.doc,
-        statements: scope.body.len(),
+        statements: scope.body.get().len(),
     }
 }
 
@@ -188,7 +188,7 @@ impl Session {
         let put = if held.phase == self.counted.shop.closed() {
             self.counted.put(claim)?
         } else {
-            self.counted.put_late(self.alloc, claim)
+            self.counted.put_late(self.alloc, claim)?
         };
         Ok(put_answer(&put))
     }

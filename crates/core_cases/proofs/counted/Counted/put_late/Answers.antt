@@ -5,4 +5,4 @@ use Rattle.core_cases.proofs.counted.Counted.put_late.Goals as goal
 
 pub invariant_of-self : goal.invariant_of-self
 invariant_of-self c =
-    record { few = rw c.put-put.ensures.event (few_event clear c.args.self.now.shop.state (Puts c.args.claim.phase c.args.claim.slot c.an_empty_scope.result) c.args.self.now.most c.args.self.now.few) }
+    record { few = rw c.put-put.ensures.event (few_event clear c.args.self.now.shop.state (Puts c.args.claim.phase c.args.claim.slot c.in-Ok.scope) c.args.self.now.most c.args.self.now.few) }

@@ -9,4 +9,4 @@ work_alone-requires-after_bounds c κs =
     rw c.exchange-given.ensures.given (none_of_few _ (subst (λ (n : ℕ). AtMostOut n c.args.self.now.shop.state.slots) c.requires c.args.self.now.few))
 
 pub invariant_of-self : goal.invariant_of-self
-invariant_of-self c = record { few = few_of_none _ _ c.in_ok-self.ensures.none_out }
+invariant_of-self c = record { few = few_of_none _ _ c.in_ok-work_alone.ensures.none_out }
