@@ -25,7 +25,7 @@ use Rattle.cc_scope.proofs.Numbers.{map_in, map_out, count_below, first_part, is
 
 -- ---- lists of names
 
-index_in : (x : Name) (xs : List Name) (k : ℕ) → index_of x xs ≡ Some k → slice_get xs k ≡ Some x
+pub index_in : (x : Name) (xs : List Name) (k : ℕ) → index_of x xs ≡ Some k → slice_get xs k ≡ Some x
 unfolding index_of later or_zero
 index_in x [] k e = absurd (cc)
 index_in x (y ∷ xs) k e = by (list_eq x y) refl e (index_in x xs) where
@@ -42,7 +42,7 @@ at_in [] k x e = absurd (cc)
 at_in (y ∷ xs) zero x e = subst (λ z. In z (y ∷ xs)) (let h : y ≡ x = cc in h) here
 at_in (y ∷ xs) (suc k) x e = there (at_in xs k x e)
 
-not_index : (x : Name) (xs : List Name) → (In x xs → ⊥) → index_of x xs ≡ None
+pub not_index : (x : Name) (xs : List Name) → (In x xs → ⊥) → index_of x xs ≡ None
 not_index x xs h = by (index_of x xs) refl where
   by : (o : Option ℕ) → index_of x xs ≡ o → o ≡ None
   by None e = refl
@@ -88,7 +88,7 @@ without_outer [] ts [] = refl
 without_outer [] ts (y ∷ ys) = without_outer [] ts ys
 without_outer (x ∷ xs) ts ys = ap suc (without_outer xs ts ys)
 
-after : {A : Type 0} (xs ys : List A) (k : ℕ) (y : A) → slice_get ys k ≡ Some y → slice_get (xs ++ ys) (length xs + k) ≡ Some y
+pub after : {A : Type 0} (xs ys : List A) (k : ℕ) (y : A) → slice_get ys k ≡ Some y → slice_get (xs ++ ys) (length xs + k) ≡ Some y
 after [] ys k y e = subst (λ i. slice_get ys i ≡ Some y) (let h : k ≡ 0 + k = omega arith in h) e
 after (x ∷ xs) ys k y e = subst (λ i. slice_get (x ∷ (xs ++ ys)) i ≡ Some y) (let h : suc (length xs + k) ≡ suc (length xs) + k = omega arith in h) (after xs ys k y e)
 
@@ -112,11 +112,11 @@ module _ (v : Naming) (P : Program) (S : Source) (ds : List ℕ) (O : Outside v 
   abbrev pub globals_paired : List (ℕ × ℕ)
   globals_paired = map (λ i. (i, i)) (count_from 0 (length S.externs + 3)) ++ map (λ i. (i, inner_number i)) ds
 
-  data Case (m n : ℕ) : Type 0 where
+  pub data Case (m n : ℕ) : Type 0 where
     outer_case : m < length S.externs + 3 → m ≡ n → Case m n
     inner_case : In m ds → n ≡ inner_number m → Case m n
 
-  cases : (m n : ℕ) → Paired globals_paired m n → Case m n
+  pub cases : (m n : ℕ) → Paired globals_paired m n → Case m n
   cases m n h = elim (in_either (map (λ i. (i, i)) (count_from 0 (length S.externs + 3))) (map (λ i. (i, inner_number i)) ds) h) [
     | inl j ↦ (let d = map_out (λ i. (i, i)) (m, n) (count_from 0 (length S.externs + 3)) j in
         let a : d.0 ≡ m = ap (λ p. p.0) d.2 in let b : d.0 ≡ n = ap (λ p. p.1) d.2 in
@@ -137,7 +137,7 @@ module _ (v : Naming) (P : Program) (S : Source) (ds : List ℕ) (O : Outside v 
         got_name : {x y : Name} → Some x ≡ Some y → x ≡ y
         got_name e = ap some_or e
 
-  above_number : (m : ℕ) → length S.externs + 3 ≤ inner_number m
+  pub above_number : (m : ℕ) → length S.externs + 3 ≤ inner_number m
   unfolding inner_number
   above_number m = omega arith
 
@@ -172,7 +172,7 @@ module _ (v : Naming) (P : Program) (S : Source) (ds : List ℕ) (O : Outside v 
     by None e = absurd (let d = slice_get-get_or builtin_globals i [] (unfold builtin_globals in h) in cc)
     by (Some x) e = e ∙ (sym (after S.externs builtin_globals i x e) ∙ O.outer_name (length S.externs + i) (omega arith))
 
-  meaning : (i : ℕ) → Meant v S ds i → (j : ℕ) × (global_named (outer_of S) (v.global i) ≡ Some (Ref.Global j)) × Paired globals_paired i j
+  pub meaning : (i : ℕ) → Meant v S ds i → (j : ℕ) × (global_named (outer_of S) (v.global i) ≡ Some (Ref.Global j)) × Paired globals_paired i j
   unfolding global_named global_from or_else outer_of distinct inner_number or_zero
   meaning _ (an_extern i h free) =
       let e = indexed (v.global i) S.externs (at_in S.externs i (v.global i) (extern_name i h)) in
@@ -193,7 +193,7 @@ module _ (v : Naming) (P : Program) (S : Source) (ds : List ℕ) (O : Outside v 
   abbrev pub Q : Program
   Q = program_of S
 
-  outer_length : length (map outer_info (S.externs ++ builtin_globals)) ≡ length S.externs + 3
+  pub outer_length : length (map outer_info (S.externs ++ builtin_globals)) ≡ length S.externs + 3
   unfolding builtin_globals
   outer_length = length_map outer_info (S.externs ++ builtin_globals) ∙ length-append S.externs builtin_globals
 
@@ -205,11 +205,11 @@ module _ (v : Naming) (P : Program) (S : Source) (ds : List ℕ) (O : Outside v 
   unfolding global_kind tables_of program_of
   read_kind n = ap (λ k. global_by k n (chunk_in (slice_get (globals_of S) n))) externs_count
 
-  outer_read : (m : ℕ) → m < length S.externs + 3 → global_kind (tables_of Q) m ≡ outer_global (length S.externs) m
+  pub outer_read : (m : ℕ) → m < length S.externs + 3 → global_kind (tables_of Q) m ≡ outer_global (length S.externs) m
   unfolding globals_of distinct global_by chunk_in
   outer_read m h = read_kind m ∙ ap (λ o. global_by (length S.externs) m (chunk_in o)) (first_part (map outer_info (S.externs ++ builtin_globals)) (map (chunk_info S.trees) gs) m (outer_info (v.global m)) (slice_get-map outer_info (S.externs ++ builtin_globals) m ∙ ap (option_map outer_info) (O.outer_name m h)))
 
-  inner_read : (m : ℕ) → In m ds → global_kind (tables_of Q) (inner_number m) ≡ of_chunk (chunk_by 0 (v.global m) S.trees)
+  pub inner_read : (m : ℕ) → In m ds → global_kind (tables_of Q) (inner_number m) ≡ of_chunk (chunk_by 0 (v.global m) S.trees)
   unfolding globals_of distinct global_by chunk_in inner_number or_zero chunk_info
   inner_read m h =
       let d = place_in m h in
@@ -232,7 +232,7 @@ module _ (v : Naming) (P : Program) (S : Source) (ds : List ℕ) (O : Outside v 
         rw (not_in (v.global m) (stmts_declare t) (λ y. let d = map_out v.global (v.global m) (stmts_in (body_of P c)) (subst (λ xs. In (v.global m) xs) here_are y) in
         least c z (subst (λ k. In k (stmts_in (body_of P c))) (O.injective d.0 m (covers c d.0 (omega arith) d.1) i d.2) d.1))) (r z)
 
-  kinds : (Known : ℕ → Type 0) → ((d j : ℕ) → d < length S.trees → In j (stmts_in (body_of P d)) → In j ds) → ChunksN v P Known 0 S.trees → (m n : ℕ) → Paired globals_paired m n → GlobalA (tables_of P) (tables_of Q) m n
+  pub kinds : (Known : ℕ → Type 0) → ((d j : ℕ) → d < length S.trees → In j (stmts_in (body_of P d)) → In j ds) → ChunksN v P Known 0 S.trees → (m n : ℕ) → Paired globals_paired m n → GlobalA (tables_of P) (tables_of Q) m n
   kinds Known covers w m n h = by (cases m n h) where
     by : Case m n → GlobalA (tables_of P) (tables_of Q) m n
     by (outer_case a b) = record { kind = O.outer_kind m a ∙ sym (outer_read m a) ∙ ap (global_kind (tables_of Q)) b; outer = λ e. b }
@@ -241,12 +241,12 @@ module _ (v : Naming) (P : Program) (S : Source) (ds : List ℕ) (O : Outside v 
       outer = λ e. absurd (let z : of_chunk l.0 ≡ extern = sym l.1 ∙ e in cc);
     }
 
-all_are : (v : Naming) (P : Program) (Known : ℕ → Type 0) (c : ℕ) (ts : List RawStmts) → ChunksN v P Known c ts → all_declared ts ≡ map v.global (declared_from P c (length ts))
+pub all_are : (v : Naming) (P : Program) (Known : ℕ → Type 0) (c : ℕ) (ts : List RawStmts) → ChunksN v P Known c ts → all_declared ts ≡ map v.global (declared_from P c (length ts))
 unfolding all_declared declared_from
 all_are v P Known c [] w = refl
 all_are v P Known c (t ∷ ts) (n.more_chunks_n s w) = ap (λ xs. xs ++ all_declared ts) (stmts_declared v P Known s) ∙ ap (λ xs. map v.global (stmts_in (body_of P c)) ++ xs) (all_are v P Known (suc c) ts w) ∙ sym (map_append v.global (stmts_in (body_of P c)) (declared_from P (suc c) (length ts)))
 
-covered : (P : Program) (c k d j : ℕ) → c ≤ d → d < c + k → In j (stmts_in (body_of P d)) → In j (declared_from P c k)
+pub covered : (P : Program) (c k d j : ℕ) → c ≤ d → d < c + k → In j (stmts_in (body_of P d)) → In j (declared_from P c k)
 unfolding declared_from
 covered P c zero d j g h i = absurd (omega arith)
 covered P c (suc k) d j g h i = by (nat_eq d c) refl (λ z. covered P (suc c) k d j z (omega arith) i) where

@@ -19,20 +19,8 @@ use Rattle.cc_scope.specs.Resolve.{Outer, Frames, lookup, ref_of, ref_by, var_by
 use Rattle.cc_scope.specs.Written as n
 use Rattle.cc_scope.specs.Written.{Naming, Apart, Frame, sizes, base, slot, name_at, shown, rank, fresh, count_from, stmts_in, stmt_in, vars_in, init_in, heading_in, maybe_in, cases_in, number_of, order_of, frame_of, single, owned, base_at, own_name, IsOwn, own_global, own_place, Seen, seen_place, seen_global, OwnN, KeyN, FunN, ExprN, TargetN, ExprsN, FieldsN, MaybeN, VarsN, InitN, HeadingN, StmtN, StmtsN, CatchN, FinallyN, CasesN, ChunksN}
 use Rattle.cc_scope.proofs.Names.{env, resolves, resolves_global, shown_append, shown_news}
-
-pub in_left : {A : Type 0} {x : A} (xs ys : List A) → In x xs → In x (xs ++ ys)
-in_left (x ∷ xs) ys here = here
-in_left (y ∷ xs) ys (there i) = there (in_left xs ys i)
-in_left [] ys i = elim i [ ]
-
-pub in_right : {A : Type 0} {x : A} (xs ys : List A) → In x ys → In x (xs ++ ys)
-in_right [] ys i = i
-in_right (x ∷ xs) ys i = there (in_right xs ys i)
-
-pub in_either : {A : Type 0} {x : A} (xs ys : List A) → In x (xs ++ ys) → In x xs ⊎ In x ys
-in_either [] ys i = inr i
-in_either (x ∷ xs) ys here = inl here
-in_either (y ∷ xs) ys (there i) = elim (in_either xs ys i) [ inl j ↦ inl (there j) | inr j ↦ inr j ]
+pub use Rattle.cc_scope.proofs.Declared.{in_left, in_right, in_either, map_append, length_map, length_count, stmts_declared, shown_map}
+use Rattle.cc_scope.proofs.Declared.{frame_is, locals_count, params_count, own_is_some}
 
 pub functions_append : (ms ns : List Mark) → functions (ms ++ ns) ≡ functions ms + functions ns
 unfolding functions
@@ -47,10 +35,6 @@ names_append [] ns = refl
 names_append (a_name x ∷ ms) ns = ap (λ xs. x ∷ xs) (names_append ms ns)
 names_append (a_site q ∷ ms) ns = names_append ms ns
 names_append (a_function ∷ ms) ns = names_append ms ns
-
-pub map_append : {A B : Type 0} (f : A → B) (xs ys : List A) → map f (xs ++ ys) ≡ map f xs ++ map f ys
-map_append f [] ys = refl
-map_append f (x ∷ xs) ys = ap (λ zs. f x ∷ zs) (map_append f xs ys)
 
 -- ---- what is known of each function that was met
 
@@ -88,109 +72,9 @@ run_on : (k l : ℕ) (L K : List Entry) → Runs k L → k + length L ≡ l → 
 run_on k l [] K r e s = subst (λ i. Runs i K) (let z : l ≡ k = omega arith in z) s
 run_on k l (w ∷ L) K (goes e r) d s = goes e (run_on (suc k) l L K r (omega arith) s)
 
-pub length_map : {A B : Type 0} (f : A → B) (xs : List A) → length (map f xs) ≡ length xs
-length_map f [] = refl
-length_map f (x ∷ xs) = ap suc (length_map f xs)
-
 or_zero : Option ℕ → ℕ
 or_zero None = 0
 or_zero (Some n) = n
-
-length_shown : (v : Naming) (b : ℕ) (ns : List ℕ) → length (shown v b ns) ≡ length ns
-length_shown v b [] = refl
-length_shown v b (i ∷ ns) = ap suc (length_shown v b ns)
-
-pub length_count : (k i : ℕ) → length (count_from k i) ≡ i
-unfolding count_from
-length_count k zero = refl
-length_count k (suc i) = ap suc (length_count (suc k) i)
-
-module _ (v : Naming) (P : Program) (Known : ℕ → Type 0) where
-  -- ---- what a body declares is what the program's frame has
-
-  abbrev pub declared : Bool → ℕ → List Frame → List ℕ → List Name
-  declared top d c ns = map (own_name v top d c) ns
-
-  slot_base : (c : List Frame) (d i : ℕ) → slot (sizes c) d i ≡ base_at d c + i
-  slot_base [] d i = omega arith
-  slot_base (l ∷ c) zero i = refl
-  slot_base (l ∷ c) (suc d) i = slot_base c d i
-
-  own_is : {top : Bool} {d : ℕ} (c : List Frame) {r : Ref} {y : Name} → IsOwn d top r → y ≡ name_at v c r → y ≡ own_name v top d c (number_of r)
-  unfolding number_of
-  own_is c (own_global i) e = e
-  own_is {d} c (own_place i) e = e ∙ ap v.local (slot_base c d i)
-
-  two_declared : (top : Bool) (d : ℕ) (c : List Frame) (ms ns : List ℕ) {xs ys : List Name} → xs ≡ declared top d c ms → ys ≡ declared top d c ns → xs ++ ys ≡ declared top d c (ms ++ ns)
-  two_declared top d c ms ns {xs} {ys} e h = ap (λ zs. zs ++ ys) e ∙ ap (λ zs. map (own_name v top d c) ms ++ zs) h ∙ sym (map_append (own_name v top d c) ms ns)
-
-  more_declared : (top : Bool) (d : ℕ) (c : List Frame) (i : ℕ) (ns : List ℕ) {x : Name} {xs : List Name} → x ≡ own_name v top d c i → xs ≡ declared top d c ns → (x ∷ xs) ≡ declared top d c (i ∷ ns)
-  more_declared top d c i ns {x} {xs} e h = ap (λ z. z ∷ xs) e ∙ ap (λ zs. own_name v top d c i ∷ zs) h
-
-  none_declared : (top : Bool) (d : ℕ) (c : List Frame) → [] ≡ declared top d c []
-  none_declared top d c = refl
-
-  vars_declared : {top : Bool} {d : ℕ} {c : List Frame} {s : List Declarator} {t : RawDeclarators} → VarsN v P Known top d c s t → vars_declare t ≡ declared top d c (vars_in s)
-  unfolding vars_declare vars_in
-  vars_declared {top} {d} {c} n.no_vars_n = none_declared top d c
-  vars_declared {top} {d} {c} (n.more_vars_n {r} {ds = s} w o y e h i) = more_declared top d c (number_of r) (vars_in s) (own_is c o e) (vars_declared i)
-
-  init_declared : {top : Bool} {d : ℕ} {c : List Frame} {s : ForInit} {t : RawInit} → InitN v P Known top d c s t → init_declares t ≡ declared top d c (init_in s)
-  unfolding init_declares init_in
-  init_declared {top} {d} {c} n.no_init_n = none_declared top d c
-  init_declared {top} {d} {c} (n.init_value_n h) = none_declared top d c
-  init_declared (n.init_vars_n h) = vars_declared h
-
-  heading_declared : {top : Bool} {d : ℕ} {c : List Frame} {s : ForTarget} {t : RawForTarget} → HeadingN v P Known top d c s t → heading_declares t ≡ declared top d c (heading_in s)
-  unfolding heading_declares heading_in
-  heading_declared {top} {d} {c} (n.in_target_n h) = none_declared top d c
-  heading_declared {top} {d} {c} (n.in_declared_n {r} w o y e h) = more_declared top d c (number_of r) [] (own_is c o e) (none_declared top d c)
-
-  behind_catch : (top : Bool) (d : ℕ) (c : List Frame) (ns : List ℕ) → declared top (suc d) (single ∷ c) ns ≡ declared top d c ns
-  behind_catch top d c [] = refl
-  behind_catch true d c (i ∷ ns) = ap (λ xs. v.global i ∷ xs) (behind_catch true d c ns)
-  behind_catch false d c (i ∷ ns) = ap (λ xs. v.local (base_at d c + i) ∷ xs) (behind_catch false d c ns)
-
-  mutual
-    unfolding stmts_declare stmts_in
-
-    stmt_declared : {top : Bool} {d : ℕ} {c : List Frame} {s : Stmt} {t : RawStmt} → StmtN v P Known top d c s t → stmt_declares t ≡ declared top d c (stmt_in s)
-    stmt_declared {top} {d} {c} (n.simple_n h) = none_declared top d c
-    stmt_declared (n.vars_n h) = vars_declared h
-    stmt_declared {top} {d} {c} (n.fun_decl_n {r} w o y e f s ps k h) = more_declared top d c (number_of r) [] (own_is c o e) (none_declared top d c)
-    stmt_declared {top} {d} {c} (n.if_n {a} {b} t h i) = two_declared top d c (stmts_in a) (stmts_in b) (stmts_declared h) (stmts_declared i)
-    stmt_declared (n.while_n t h) = stmts_declared h
-    stmt_declared (n.do_while_n h t) = stmts_declared h
-    stmt_declared {top} {d} {c} (n.for_n {h = g} {b} i t e h) = two_declared top d c (init_in g) (stmts_in b) (init_declared i) (stmts_declared h)
-    stmt_declared {top} {d} {c} (n.for_in_n {h = g} {b} i e h) = two_declared top d c (heading_in g) (stmts_in b) (heading_declared i) (stmts_declared h)
-    stmt_declared {top} {d} {c} (n.return_n h) = none_declared top d c
-    stmt_declared {top} {d} {c} (n.throw_n h) = none_declared top d c
-    stmt_declared {top} {d} {c} n.break_n = none_declared top d c
-    stmt_declared {top} {d} {c} n.continue_n = none_declared top d c
-    stmt_declared (n.label_n h) = stmts_declared h
-    stmt_declared (n.switch_n e h) = cases_declared h
-    stmt_declared {top} {d} {c} (n.try_n {b} {k} {f} h i j) = two_declared top d c (stmts_in b) (maybe_in k ++ maybe_in f) (stmts_declared h) (two_declared top d c (maybe_in k) (maybe_in f) (catch_declared i) (finally_declared j))
-
-    pub stmts_declared : {top : Bool} {d : ℕ} {c : List Frame} {s : Stmts} {t : RawStmts} → StmtsN v P Known top d c s t → stmts_declare t ≡ declared top d c (stmts_in s)
-    stmts_declared {top} {d} {c} n.no_stmts_n = none_declared top d c
-    stmts_declared {top} {d} {c} (n.more_stmts_n {s} {ss} h i) = two_declared top d c (stmt_in s) (stmts_in ss) (stmt_declared h) (stmts_declared i)
-    stmts_declared (n.pay_n h) = stmts_declared h
-
-    catch_declared : {top : Bool} {d : ℕ} {c : List Frame} {s : MaybeStmts} {t : RawCatch} → CatchN v P Known top d c s t → catch_declares t ≡ declared top d c (maybe_in s)
-    catch_declared {top} {d} {c} n.no_catch_n = none_declared top d c
-    catch_declared {top} {d} {c} (n.caught_n {b} w e h) = stmts_declared h ∙ behind_catch top d c (stmts_in b)
-
-    finally_declared : {top : Bool} {d : ℕ} {c : List Frame} {s : MaybeStmts} {t : RawFinally} → FinallyN v P Known top d c s t → finally_declares t ≡ declared top d c (maybe_in s)
-    finally_declared {top} {d} {c} n.no_finally_n = none_declared top d c
-    finally_declared (n.finally_n h) = stmts_declared h
-
-    cases_declared : {top : Bool} {d : ℕ} {c : List Frame} {s : Cases} {t : RawCases} → CasesN v P Known top d c s t → cases_declare t ≡ declared top d c (cases_in s)
-    cases_declared {top} {d} {c} n.no_cases_n = none_declared top d c
-    cases_declared {top} {d} {c} (n.more_cases_n {b} {cs} t h i) = two_declared top d c (stmts_in b) (cases_in cs) (stmts_declared h) (cases_declared i)
-
-  pub shown_map : (b : ℕ) (f : ℕ → Name) (ns : List ℕ) → ((i : ℕ) → f i ≡ v.local (b + i)) → map f ns ≡ shown v b ns
-  shown_map b f [] h = refl
-  shown_map b f (i ∷ ns) h = ap (λ x. x ∷ map f ns) (h i) ∙ ap (λ xs. v.local (b + i) ∷ xs) (shown_map b f ns h)
 
 module _ (v : Naming) (apart : Apart v) (P : Program) (W : Outer) (T : Tables) (Known : ℕ → Type 0) (G : List (ℕ × ℕ))
     (globals : (i : ℕ) → Known i → (j : ℕ) × (global_named W (v.global i) ≡ Some (Ref.Global j)) × Paired G i j) where
@@ -343,45 +227,11 @@ module _ (v : Naming) (apart : Apart v) (P : Program) (W : Outer) (T : Tables) (
   caught : {k : ℕ} {ms : List Mark} {V : List Scope} {x : Around} {c : List Frame} {A : Numbering → Type 0} → Out k ms V (catch_pair ∷ x) (single ∷ c) A → Out k ms V x c A
   caught q = record { L = q.L; same = q.same; run = q.run; counted = q.counted; alike = λ N f t s. q.alike N f (single_ties catch_pair in_catch t) s; bodies = λ N f t s. q.bodies N f (single_ties catch_pair in_catch t) s }
 
-  locals_are : {c : List Frame} {f : ℕ} {s : Scope} {own : Option Named} {ps : List Named} {b : RawStmts} → FunN v P Known c f s own ps → StmtsN v P Known false 0 (frame_of s ∷ owned s.own c) s.body b → locals ps b ≡ shown v (base (sizes (owned s.own c))) (fresh (count_from 0 s.params) (stmts_in s.body))
-  unfolding locals
-  locals_are {c} {s} {ps} {b} k h =
-      let i = base (sizes (owned s.own c)) in
-      ap (λ xs. new_names xs (stmts_declare b)) k.params
-      ∙ ap (λ xs. new_names (shown v i (count_from 0 s.params)) xs) (stmts_declared v P Known h ∙ shown_map v P Known i (own_name v false 0 (frame_of s ∷ owned s.own c)) (stmts_in s.body) (λ j. refl))
-      ∙ shown_news v apart i (count_from 0 s.params) (stmts_in s.body)
-
-  own_frame : {c : List Frame} {b : Bool} {own : Option Named} → OwnN v P Known c b own → with_own own (env v c) ≡ env v (owned b c)
-  unfolding with_own
-  own_frame n.no_own = refl
-  own_frame {c} (n.has_own w e) = ap (λ x. (x ∷ []) ∷ env v c) e
-
-  -- the frame that is read has the names of the program's frame
-  frame_is : {c : List Frame} (f : ℕ) (s : Scope) (own : Option Named) (ps : List Named) (b : RawStmts) → FunN v P Known c f s own ps → StmtsN v P Known false 0 (frame_of s ∷ owned s.own c) s.body b → inner own ps b (env v c) ≡ env v (frame_of s ∷ owned s.own c)
-  unfolding inner order_of
-  frame_is {c} f s own ps b k h =
-      let i = base (sizes (owned s.own c)) in
-      ap (λ xs. (xs ++ locals ps b) ∷ with_own own (env v c)) k.params
-      ∙ ap (λ xs. (shown v i (count_from 0 s.params) ++ xs) ∷ with_own own (env v c)) (locals_are k h)
-      ∙ ap (λ xs. xs ∷ with_own own (env v c)) (sym (shown_append v i (count_from 0 s.params) (fresh (count_from 0 s.params) (stmts_in s.body))))
-      ∙ ap (λ E. shown v i (count_from 0 s.params ++ fresh (count_from 0 s.params) (stmts_in s.body)) ∷ E) (own_frame k.own_name)
-
-  locals_count : {c : List Frame} (f : ℕ) (s : Scope) (own : Option Named) (ps : List Named) (b : RawStmts) → FunN v P Known c f s own ps → StmtsN v P Known false 0 (frame_of s ∷ owned s.own c) s.body b → length (locals ps b) ≡ length (fresh (count_from 0 s.params) (stmts_in s.body))
-  locals_count {c} f s own ps b k h = ap length (locals_are k h) ∙ length_shown v (base (sizes (owned s.own c))) _
-
-  params_count : {c : List Frame} (f : ℕ) (s : Scope) (own : Option Named) (ps : List Named) → FunN v P Known c f s own ps → length ps ≡ s.params
-  unfolding named
-  params_count {c} f s own ps k = sym (length_map (λ w. w.name) ps) ∙ ap length k.params ∙ length_shown v (base (sizes (owned s.own c))) (count_from 0 s.params) ∙ length_count 0 s.params
-
-  own_is_some : {c : List Frame} {b : Bool} {own : Option Named} → OwnN v P Known c b own → is_some own ≡ b
-  own_is_some n.no_own = refl
-  own_is_some (n.has_own w e) = refl
-
   functioned : {x : Around} {c : List Frame} (e k : ℕ) (q : Place) (i : Counters) (s : Scope) (own : Option Named) (ps : List Named) (b : RawStmts) (isf : Bool) → FunN v P Known c k s own ps → StmtsN v P Known false 0 (frame_of s ∷ owned s.own c) s.body b → isf ≡ s.own
       → ((E : Frames) → E ≡ env v (frame_of s ∷ owned s.own c) → Out (suc i.function) (stmts_marks b) (stmts_scopes W E i.function (behind i) b) (inside s.own (k, i.function) x) (frame_of s ∷ owned s.own c) (λ N. StmtsA (tables_of P) T N (inside s.own (k, i.function) x) s.body (stmts_of W E (behind i) b)))
       → Out i.function (a_site q ∷ a_function ∷ stmts_marks b) (scope_of W (inner own ps b (env v c)) e i isf ps b q ∷ stmts_scopes W (inner own ps b (env v c)) i.function (behind i) b) x c (λ N. FunA (tables_of P) T N x k i.function)
   unfolding scope_of
-  functioned {x} {c} e k q i s own ps b isf h j d r = sited (function k s (scope_of W (inner own ps b (env v c)) e i isf ps b q) h.stands h.small d (params_count k s own ps h) (locals_count k s own ps b h j) (r (inner own ps b (env v c)) (frame_is k s own ps b h j)))
+  functioned {x} {c} e k q i s own ps b isf h j d r = sited (function k s (scope_of W (inner own ps b (env v c)) e i isf ps b q) h.stands h.small d (params_count v apart P Known k s own ps h) (locals_count v apart P Known k s own ps b h j) (r (inner own ps b (env v c)) (frame_is v apart P Known k s own ps b h j)))
 
   moved : {k : ℕ} {ms : List Mark} {x : Around} {c : List Frame} (V : Frames → List Scope) (A : Frames → Numbering → Type 0) (E D : Frames) → D ≡ E → Out k ms (V E) x c (A E) → Out k ms (V D) x c (A D)
   moved {k} {ms} {x} {c} V A E D e q = subst (λ F. Out k ms (V F) x c (A F)) (sym e) q
@@ -404,7 +254,7 @@ module _ (v : Naming) (apart : Apart v) (P : Program) (W : Outer) (T : Tables) (
     expr e i n.lit_n = sited (leaf (λ N f t. a.lit_a))
     expr {c} e i (n.var_n {i = j} r y) = sited (leaf (λ N f t. mention c r j i.site (found r f t y)))
     expr e i n.this_n = sited (leaf (λ N f t. a.this_a))
-    expr {x} {c} e i (n.fun_n {q} f s own ps {b} k h) = mapped (functioned e f q i s own ps b (is_some own) k h (own_is_some k.own_name) (λ E d. moved (λ D. stmts_scopes W D i.function (behind i) b) (λ D N. StmtsA (tables_of P) T N (inside s.own (f, i.function) x) s.body (stmts_of W D (behind i) b)) (env v (frame_of s ∷ owned s.own c)) E d (stmts i.function (behind i) h))) (λ N y. a.fun_a y)
+    expr {x} {c} e i (n.fun_n {q} f s own ps {b} k h) = mapped (functioned e f q i s own ps b (is_some own) k h (own_is_some v apart P Known k.own_name) (λ E d. moved (λ D. stmts_scopes W D i.function (behind i) b) (λ D N. StmtsA (tables_of P) T N (inside s.own (f, i.function) x) s.body (stmts_of W D (behind i) b)) (env v (frame_of s ∷ owned s.own c)) E d (stmts i.function (behind i) h))) (λ N y. a.fun_a y)
     expr e i (n.list_n h) = sited (mapped (exprs e (next i) h) (λ N y. a.list_a y))
     expr e i (n.object_n h) = sited (mapped (fields e (next i) h) (λ N y. a.object_a y))
     expr e i (n.unary_n h) = sited (mapped (expr e (next i) h) (λ N y. a.unary_a y))
@@ -457,7 +307,7 @@ module _ (v : Naming) (apart : Apart v) (P : Program) (W : Outer) (T : Tables) (
     stmt : {x : Around} {top : Bool} {b : ℕ} {c : List Frame} {s : Stmt} {t : RawStmt} (e : ℕ) (i : Counters) → StmtN v P Known top b c s t → Out i.function (stmt_marks t) (stmt_scopes W (env v c) e i t) x c (λ N. StmtA (tables_of P) T N x s (stmt_of W (env v c) i t))
     stmt e i (n.simple_n h) = sited (mapped (expr e (next i) h) (λ N y. a.simple_a y))
     stmt e i (n.vars_n h) = sited (mapped (variables e (next i) h) (λ N y. a.vars_a y))
-    stmt {x} {c} e i (n.fun_decl_n {q} {r} w o y d f s ps {b} k h) = tied (functioned e f q i s None ps b false k h (own_is_some k.own_name) (λ E z. moved (λ D. stmts_scopes W D i.function (behind i) b) (λ D N. StmtsA (tables_of P) T N (inside s.own (f, i.function) x) s.body (stmts_of W D (behind i) b)) (env v (frame_of s ∷ owned s.own c)) E z (stmts i.function (behind i) h))) (λ N g t z. a.fun_decl_a (written c r w.name d (found r g t y)) z)
+    stmt {x} {c} e i (n.fun_decl_n {q} {r} w o y d f s ps {b} k h) = tied (functioned e f q i s None ps b false k h (own_is_some v apart P Known k.own_name) (λ E z. moved (λ D. stmts_scopes W D i.function (behind i) b) (λ D N. StmtsA (tables_of P) T N (inside s.own (f, i.function) x) s.body (stmts_of W D (behind i) b)) (env v (frame_of s ∷ owned s.own c)) E z (stmts i.function (behind i) h))) (λ N g t z. a.fun_decl_a (written c r w.name d (found r g t y)) z)
     stmt e i (n.if_n {u} {x} h j k) = sited (mapped (both (expr e (next i) h) (both (stmts e (past (next i) (expr_marks u)) j) (stmts e (past (past (next i) (expr_marks u)) (stmts_marks x)) k))) (λ N y. a.if_a y.0 y.1.0 y.1.1))
     stmt e i (n.while_n {u} h j) = sited (mapped (both (expr e (next i) h) (stmts e (past (next i) (expr_marks u)) j)) (λ N y. a.while_a y.0 y.1))
     stmt e i (n.do_while_n {y = z} h j) = sited (mapped (both (stmts e (next i) h) (expr e (past (next i) (stmts_marks z)) j)) (λ N y. a.do_while_a y.0 y.1))

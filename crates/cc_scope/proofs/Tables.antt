@@ -6,24 +6,25 @@ use Rattle.cc_ast.specs.Syntax.{Program}
 use Rattle.cc_ast.specs.declared.tables.GlobalInfo.{GlobalInfo}
 use Rattle.cc_ast.specs.declared.tables.PropInfo.{PropInfo}
 use Rattle.cc_ast.specs.declared.tables.FlatPath.{FlatPath}
+use Rattle.cc_ast.specs.declared.tables.SiteDoc.{SiteDoc}
 use Rattle.cc_meaning.specs.Operators.{is_in}
 use Rattle.cc_meaning.specs.Names.{builtin_globals, always_kept}
 use Rattle.cc_meaning.specs.Monad.{pick}
-use Rattle.cc_meaning.specs.Store.{without_chunk, class_of_function, class_from}
+use Rattle.cc_meaning.specs.Store.{without_chunk}
 use Rattle.cc_meaning.specs.Shapes.{tables_of}
 use Rattle.cc_meaning.specs.Alike.{In, here, there}
-use Rattle.cc_meaning.specs.WellMade.{IsDistinct, IsProp, IsClass, IsOrdered, IsGlobal, ArePaths, outer_names}
+use Rattle.cc_meaning.specs.WellMade.{IsDistinct, IsProp, IsClass, IsOrdered, IsGlobal, ArePaths, IsDoc, types_in, type_in, types_in_all, outer_names}
 use Rattle.cc_grammar.specs.RawTree.{RawStmts}
 use Rattle.cc_scope.specs.Lists.{Name, new_names, distinct, or_zero}
 use Rattle.cc_scope.specs.Marks.{names, stmts_declare}
-use Rattle.cc_scope.specs.Resolve.{Source, outer_of, program_of, globals_of, kept_of, prop_info, outer_info, chunk_info, chunk_by, chunk_scopes, inner_scopes, begin, all_marks, all_declared}
+use Rattle.cc_scope.specs.Resolve.{Source, outer_of, program_of, globals_of, kept_of, prop_info, outer_info, chunk_info, chunk_by, chunk_scopes, inner_scopes, begin, all_marks, all_declared, says_nothing}
 use Rattle.cc_scope.specs.Promises.{Readable, HasTables}
 use Rattle.cc_scope.proofs.Law.{in_left, in_right, in_either}
 use Rattle.cc_scope.proofs.Numbers.{news_have, head_or}
 use Rattle.cc_scope.proofs.Globals.{at_in, in_is_in, without_outer}
 use Rattle.cc_scope.proofs.Whole.{length_chunks}
 
-news_in : (ms ns : List Name) (x : Name) → In x (new_names ms ns) → In x ns
+pub news_in : (ms ns : List Name) (x : Name) → In x (new_names ms ns) → In x ns
 unfolding new_names
 news_in ms [] x h = h
 news_in ms (n ∷ ns) x h = by (is_in n ms) h (news_in ms ns x) (news_in (ms ++ n ∷ []) ns x) where
@@ -43,7 +44,7 @@ news_apart ms (n ∷ ns) x h i = by (is_in n ms) refl h (λ j. news_apart ms ns 
   by false e g y z = elim (head_or x n _ g) [ inl d ↦ (let w : is_in n ms ≡ true = in_is_in n ms (subst (λ k. In k ms) d i) in absurd (let q : true ≡ false = sym w ∙ e in cc)) | inr j ↦ z j ]
 
 -- no name stands twice among the new ones
-news_once : (ms ns : List Name) → IsDistinct (new_names ms ns)
+pub news_once : (ms ns : List Name) → IsDistinct (new_names ms ns)
 unfolding new_names
 news_once ms [] = λ i j x e d. absurd (cc)
 news_once ms (n ∷ ns) = by (is_in n ms) (news_once ms ns) (news_once (ms ++ n ∷ []) ns) (λ h. news_apart (ms ++ n ∷ []) ns n h (in_right ms (n ∷ []) here)) where
@@ -61,7 +62,7 @@ some_is : {A B : Type 0} (f : A → B) (o : Option A) (y : B) → option_map f o
 some_is f None y e = absurd (cc)
 some_is f (Some x) y e = (x, refl, let h : Some (f x) ≡ Some y = e in cc)
 
-mapped_at : {A B : Type 0} (f : A → B) (xs : List A) (k : ℕ) (y : B) → slice_get (map f xs) k ≡ Some y → (x : A) × (slice_get xs k ≡ Some x) × (f x ≡ y)
+pub mapped_at : {A B : Type 0} (f : A → B) (xs : List A) (k : ℕ) (y : B) → slice_get (map f xs) k ≡ Some y → (x : A) × (slice_get xs k ≡ Some x) × (f x ≡ y)
 mapped_at f xs k y e = some_is f (slice_get xs k) y (sym (slice_get-map f xs k) ∙ e)
 
 pub split_at : {A : Type 0} (xs ys : List A) (k : ℕ) (y : A) → slice_get (xs ++ ys) k ≡ Some y → (slice_get xs k ≡ Some y) ⊎ ((j : ℕ) × (slice_get ys j ≡ Some y) × (k ≡ length xs + j))
@@ -179,9 +180,14 @@ module _ (S : Source) (R : Readable S) where
   paths_at : (n : ℕ) (g : GlobalInfo) → slice_get (globals_of S) n ≡ Some g → ArePaths Q n g.flat
   paths_at n g e = subst (λ ws. ArePaths Q n ws) (sym (flat_none n g e)) (record { distinct = λ i j x d h. absurd (cc); each = λ w h. absurd (no_path w h) })
 
-  none_set : (f c : ℕ) → class_of_function (tables_of Q) f ≡ Some c → ⊥
-  unfolding class_of_function class_from tables_of program_of
-  none_set f c e = cc
+  doc_at : (o : Option SiteDoc) → SiteDoc
+  doc_at None = says_nothing
+  doc_at (Some d) = d
+
+  each_doc : (k : ℕ) (d : SiteDoc) → slice_get Q.docs k ≡ Some d → IsDoc Q d
+  unfolding program_of doc_at types_in type_in types_in_all
+  each_doc zero d e = subst (λ x. IsDoc Q x) (ap doc_at e) (record { classes = λ t a h i. elim h [ ]; vars = λ n h. elim h [ ] })
+  each_doc (suc k) d e = absurd (cc)
 
   pub made : HasTables Q
   unfolding program_of
@@ -192,7 +198,8 @@ module _ (S : Source) (R : Readable S) where
     prop_names = props_once;
     kept = kept_all;
     classes = no_class;
-    set_once = λ i j w v f c d e h. absurd (none_set f c h);
+    one_class = λ a b f c d e h i j. absurd (cc);
+    docs = each_doc;
     globals = ordered;
     each_global = global_at;
     paths = paths_at;

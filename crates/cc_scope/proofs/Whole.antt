@@ -30,7 +30,7 @@ named_prop : (ks : List Name) (xs : List Name) (k : ℕ) (x : Name) → slice_ge
 unfolding prop_name prop_info
 named_prop ks xs k x e = ap prop_name (slice_get-map (prop_info ks) xs k ∙ ap (option_map (prop_info ks)) e)
 
-spelled : (S : Source) (x : Name) → In x (names (all_marks S.trees)) → name_of (tables_of (program_of S)) (dotted (prop_of (outer_of S) x)) ≡ x
+pub spelled : (S : Source) (x : Name) → In x (names (all_marks S.trees)) → name_of (tables_of (program_of S)) (dotted (prop_of (outer_of S) x)) ≡ x
 unfolding name_of tables_of program_of prop_of outer_of distinct or_zero
 spelled S x i = elim (news_have x [] (names (all_marks S.trees)) i) [
   | inl j ↦ elim j [ ]
@@ -51,7 +51,7 @@ places_are : (P : Program) (f : ℕ) (s : Scope) (vs : List Val) → slice_get P
 unfolding places_of head_in head_of
 places_are P f s vs e = ap (λ h. fitted (head_in h).0 (head_in h).1 vs) (head_at P f s e)
 
-body_is : (P : Program) (f : ℕ) (s : Scope) → slice_get P.scopes f ≡ Some s → body_of P f ≡ s.body
+pub body_is : (P : Program) (f : ℕ) (s : Scope) → slice_get P.scopes f ≡ Some s → body_of P f ≡ s.body
 unfolding body_of body_in
 body_is P f s e = ap body_in e
 

@@ -1,21 +1,23 @@
 -- What the laws of resolution say.
-use Rattle.std.specs.Prelude.{◌≡◌, ◌↔◌, ℕ, zero, suc, ◌+◌, ◌<◌, ◌≤◌, List, [], ◌++◌, length, map, slice_get, Some, IsFalse}
-use Rattle.cc_ast.specs.Syntax.{Program}
+use Rattle.std.specs.Prelude.{◌≡◌, ◌↔◌, ℕ, zero, suc, ◌+◌, ◌^◌, ◌<◌, ◌≤◌, false, List, [], ◌++◌, length, map, slice_get, Some, IsTrue, IsFalse}
+use Rattle.cc_ast.specs.Syntax.{Scope, Program}
 use Rattle.cc_ast.specs.declared.tables.ChunkInfo.{ChunkInfo}
 use Rattle.cc_ast.specs.declared.tables.GlobalInfo.{GlobalInfo}
 use Rattle.cc_ast.specs.declared.tables.PropInfo.{PropInfo}
 use Rattle.cc_ast.specs.declared.tables.Class.{Class}
+use Rattle.cc_ast.specs.declared.tables.SiteDoc.{SiteDoc}
 use Rattle.cc_meaning.specs.Operators.{is_in}
-use Rattle.cc_meaning.specs.State.{Path}
-use Rattle.cc_meaning.specs.WellMade.{Encloses, IsDistinct, IsProp, IsClass, IsOrdered, IsGlobal, ArePaths, refused_names}
+use Rattle.cc_meaning.specs.WellMade.{Encloses, IsDistinct, IsProp, IsClass, IsCode, IsDoc, IsOrdered, IsGlobal, ArePaths, opened, stmts_well, refused_names, WellMade}
 use Rattle.cc_meaning.specs.Names.{builtin_globals, always_kept, is_index}
-use Rattle.cc_meaning.specs.Store.{of_chunk, outer_global, global_kind, class_of_function}
+use Rattle.cc_meaning.specs.Store.{of_chunk, outer_global, global_kind}
 use Rattle.cc_meaning.specs.Shapes.{tables_of, body_of}
 use Rattle.cc_meaning.specs.Alike.{In, Alike}
 use Rattle.cc_scope.specs.Lists.{Name}
 use Rattle.cc_scope.specs.Resolve.{Source, program_of, all_marks, all_declared}
 use Rattle.cc_scope.specs.Marks.{names, functions, sites}
 use Rattle.cc_scope.specs.Refusals.{answered, refusals_of, resolve}
+use Rattle.cc_grammar.specs.RawTree.{RawStmts}
+use Rattle.cc_scope.specs.Grammatical.{at_head, stmts_fit}
 use Rattle.cc_scope.specs.Written.{Naming, Apart, stmts_in, ChunksN}
 
 -- the numbers that chunks declare, from a chunk on
@@ -45,6 +47,15 @@ abbrev pub ReadsBack : Type 0
 ReadsBack = (v : Naming) → Apart v → (P : Program) (S : Source) → S.chunks ≡ P.chunks → length S.trees ≡ length P.chunks → Outside v P S (declared_from P 0 (length S.trees))
     → ChunksN v P (Meant v S (declared_from P 0 (length S.trees))) 0 S.trees → Alike P (program_of S)
 
+-- the statements of each scope are of the language, as a well made program has them
+abbrev pub HasStatements : Program → Type 0
+HasStatements P = (f : ℕ) (s : Scope) → slice_get P.scopes f ≡ Some s → IsTrue (stmts_well (tables_of P) (opened P f) [] s.body)
+
+-- what is written with names is not refused: it is answered, and alike to what was written
+abbrev pub IsAnswered : Type 0
+IsAnswered = (v : Naming) → Apart v → (P : Program) (S : Source) → S.chunks ≡ P.chunks → length S.trees ≡ length P.chunks → Outside v P S (declared_from P 0 (length S.trees))
+    → ChunksN v P (Meant v S (declared_from P 0 (length S.trees))) 0 S.trees → HasStatements P → (resolve S ≡ answered (program_of S)) × Alike P (program_of S)
+
 -- what the reader and the chunk graph see to
 pub record Readable (S : Source) : Type 0 where
   pub one_each : length S.trees ≡ length S.chunks
@@ -52,6 +63,18 @@ pub record Readable (S : Source) : Type 0 where
   pub externs_once : IsDistinct S.externs
   pub no_index : (x : Name) → In x (names (all_marks S.trees)) → IsFalse (is_index x)
   pub no_refused : (x : Name) → In x (all_declared S.trees) → IsFalse (is_in x refused_names)
+
+-- each tree is of the language: the reader answers no other
+abbrev pub Grammatical : Source → Type 0
+Grammatical S = (t : RawStmts) → In t S.trees → IsTrue (stmts_fit (at_head false) [] t)
+
+-- fewer than 2^32 chunks, globals and marks in all: the limits of reading see to it
+abbrev pub AreFew : Source → Type 0
+AreFew S = length S.trees + (length S.externs + 3) + length (all_declared S.trees) + length (all_marks S.trees) < 2 ^ 32
+
+-- What is resolved without a refusal is well made, where nothing is annotated.
+abbrev pub IsWellMade : Type 0
+IsWellMade = (S : Source) → Readable S → Grammatical S → AreFew S → refusals_of S ≡ [] → WellMade (program_of S)
 
 -- the clauses of a well made program that speak of its tables
 pub record HasTables (P : Program) : Type 0 where
@@ -61,7 +84,8 @@ pub record HasTables (P : Program) : Type 0 where
   pub prop_names : IsDistinct (map (λ p. p.name) P.props)
   pub kept : (n : List ℕ) → In n always_kept → In n P.kept
   pub classes : (a : ℕ) (c : Class) → slice_get P.classes a ≡ Some c → IsClass P a c
-  pub set_once : (i j : ℕ) (w v : Path) (f c : ℕ) → slice_get (tables_of P).set i ≡ Some (w, f) → slice_get (tables_of P).set j ≡ Some (v, f) → class_of_function (tables_of P) f ≡ Some c → i ≡ j
+  pub one_class : (a b f : ℕ) (c d : Class) → slice_get P.classes a ≡ Some c → slice_get P.classes b ≡ Some d → IsCode c f → IsCode d f → a ≡ b
+  pub docs : (n : ℕ) (d : SiteDoc) → slice_get P.docs n ≡ Some d → IsDoc P d
   pub globals : IsOrdered P
   pub each_global : (n : ℕ) (g : GlobalInfo) → slice_get P.globals n ≡ Some g → IsGlobal P g
   pub paths : (n : ℕ) (g : GlobalInfo) → slice_get P.globals n ≡ Some g → ArePaths P n g.flat

@@ -2,16 +2,26 @@
 //! go into one table. The functions here state laws of it, and do nothing.
 #![tactic(auto)]
 
-ghost use Rattle.cc_scope.specs.Promises.{ReadsBack, TablesAreMade, AreCounted, IsExact, NoLoop};
+ghost use Rattle.cc_scope.specs.Promises.{ReadsBack, TablesAreMade, AreCounted, IsExact, NoLoop, IsAnswered, IsWellMade};
 
 /// What is written with names and resolved again is alike to what was written.
 pub fn reads_back()
     ensures { ReadsBack }
 {}
 
+/// What is written with names is not refused: resolution answers it.
+pub fn written_is_answered()
+    ensures { IsAnswered }
+{}
+
 /// The tables of what is resolved are those of a well made program.
 pub fn tables_are_made()
     ensures { TablesAreMade }
+{}
+
+/// What is resolved without a refusal is a well made program, where nothing is annotated.
+pub fn resolved_is_well_made()
+    ensures { IsWellMade }
 {}
 
 /// A program is answered exactly where nothing is refused; its scopes and places are counted.
