@@ -291,7 +291,7 @@ module _ (v : Naming) (apart : Apart v) (P : Program) (W : Outer) (Known : ℕ �
 
     some : {top : Bool} {d : ℕ} {c : List Frame} {ns : List Name} {s : List Declarator} {t : RawDeclarators} → Caught v d c ns → ((i : ℕ) → In i (vars_in s) → Fresh top d c i) → VarsN v P Known top d c s t → some_vars T s ≡ true → vars_refused W (spot top c ns) t ≡ []
     some k g n.no_vars_n w = refl
-    some k g (n.more_vars_n u o y e h j) w = variables k g (n.more_vars_n u o y e h j) w
+    some k g (n.more_vars_n {r} u o y e h j) w = none_two (declares r u o e k (g _ here)) (none_two (maybe _ _ h (both w).0) (variables k (λ i x. g i (there x)) j (both w).1))
 
     init : {top : Bool} {d : ℕ} {c : List Frame} {ns : List Name} {s : ForInit} {t : RawInit} → Caught v d c ns → ((i : ℕ) → In i (init_in s) → Fresh top d c i) → InitN v P Known top d c s t → init_well T s ≡ true → init_refused W (spot top c ns) t ≡ []
     init k g n.no_init_n w = refl
@@ -324,7 +324,7 @@ module _ (v : Naming) (apart : Apart v) (P : Program) (W : Outer) (Known : ℕ �
     pub stmts : {top : Bool} {d : ℕ} {c : List Frame} {ns : List Name} (o : Open) (ls : List (List ℕ)) {s : Stmts} {t : RawStmts} → Caught v d c ns → ((i : ℕ) → In i (stmts_in s) → Fresh top d c i) → StmtsN v P Known top d c s t → stmts_well T o ls s ≡ true → stmts_refused W (spot top c ns) t ≡ []
     stmts _ _ k g n.no_stmts_n w = refl
     stmts _ _ k g (n.more_stmts_n {s} {ss} h j) w = none_two (stmt _ _ k (λ i x. g i (in_left (stmt_in s) (stmts_in ss) x)) h (both w).0) (stmts _ _ k (λ i x. g i (in_right (stmt_in s) (stmts_in ss) x)) j (both w).1)
-    stmts _ _ k g (n.pay_n h) w = stmts _ _ k g h (both w).1
+    stmts o ls k g (n.pay_n h) w = stmts o ls k g h w
 
     catch : {top : Bool} {d : ℕ} {c : List Frame} {ns : List Name} (o : Open) {s : MaybeStmts} {t : RawCatch} → Caught v d c ns → ((i : ℕ) → In i (maybe_in s) → Fresh top d c i) → CatchN v P Known top d c s t → maybe_well T o s ≡ true → catch_refused W (spot top c ns) t ≡ []
     catch _ k g n.no_catch_n w = refl

@@ -217,7 +217,7 @@ module _ (S : Source) (R : Readable S) (fitting : Grammatical S) (few : AreFew S
 
   once_from : (c : ℕ) (ss : List Scope) → ((k : ℕ) (s : Scope) → slice_get ss k ≡ Some s → slice_get (program_of S).scopes (c + k) ≡ Some s) → IsDistinct (all_functions (tables_of (program_of S)) ss)
   unfolding all_functions scope_or parent_or
-  once_from c [] h i j x e d = absurd (cc)
+  once_from c [] h = λ i j x e d. absurd (cc)
   once_from c (s ∷ ss) h =
       let here_is = subst (λ k. slice_get (program_of S).scopes k ≡ Some s) (let z : c + 0 ≡ c = omega arith in z) (h 0 s refl) in
       joined_once (functions_in (stmts_parts (tables_of (program_of S)) 0 s.body)) (all_functions (tables_of (program_of S)) ss) (once_in c s here_is)

@@ -218,7 +218,10 @@ module _ (S : Source) where
     expr X n (raw.step q up before t) c = target X (next n) t (past_site c)
     expr X n (raw.member q e o m) c = expr X (next n) e (before_name m (past_site c))
     expr X n (raw.index q e k) c = two (expr X (next n) e (split (past_site c)).0) (expr X (past (next n) (expr_marks e)) k (split (past_site c)).1)
-    expr X n (raw.call q f es) c = two (called X.frames (next n) f (is_built_callee (outer_of S) X.frames f) (expr_refused (outer_of S) X f) (split (past_site c)).0.named refl (split (past_site c)).0.empty (λ e. expr X (next n) f (record { named = (split (past_site c)).0.named; empty = e; fits = (split (past_site c)).0.fits }))) (exprs X (past (next n) (expr_marks f)) es (split (past_site c)).1)
+    expr X n (raw.call q f es) c =
+        let d : Clean S (expr_marks f ++ exprs_marks es) (pick (is_built_callee (outer_of S) X.frames f) [] (expr_refused (outer_of S) X f) ++ exprs_refused (outer_of S) X es) (expr_fits f && exprs_fit es) = past_site c in
+        let g : Clean S (expr_marks f) (pick (is_built_callee (outer_of S) X.frames f) [] (expr_refused (outer_of S) X f)) (expr_fits f) = (split d).0 in
+        two (called X.frames (next n) f (is_built_callee (outer_of S) X.frames f) (expr_refused (outer_of S) X f) g.named refl g.empty (λ e. expr X (next n) f (record { named = g.named; empty = e; fits = g.fits }))) (exprs X (past (next n) (expr_marks f)) es (split d).1)
     expr X n (raw.new q f es) c = two (expr X (next n) f (split (past_site c)).0) (exprs X (past (next n) (expr_marks f)) es (split (past_site c)).1)
     expr X n (raw.cast q e) c = expr X (next n) e (past_site c)
 
@@ -263,7 +266,11 @@ module _ (S : Source) where
     stmt X n o ls (raw.if q t a b) c = two (two (expr X (next n) t (split (past_site c)).0) (stmts X (past (next n) (expr_marks t)) (nested o) [] a (split (split (past_site c)).1).0)) (stmts X (past (past (next n) (expr_marks t)) (stmts_marks a)) (nested o) [] b (split (split (past_site c)).1).1)
     stmt X n o ls (raw.while q t b) c = two (expr X (next n) t (split (past_site c)).0) (stmts X (past (next n) (expr_marks t)) (in_loop o ls) [] b (split (past_site c)).1)
     stmt X n o ls (raw.do_while q b t) c = two (expr X (past (next n) (stmts_marks b)) t (split (past_site c)).1) (stmts X (next n) (in_loop o ls) [] b (split (past_site c)).0)
-    stmt X n o ls (raw.for q h t e b) c = two (two (two (init X (next n) h (split (past_site c)).0) (maybe X (past (next n) (init_marks h)) t (split (split (past_site c)).1).0)) (maybe X (past (past (next n) (init_marks h)) (maybe_marks t)) e (split (split (split (past_site c)).1).1).0)) (stmts X (past (past (past (next n) (init_marks h)) (maybe_marks t)) (maybe_marks e)) (in_loop o ls) [] b (split (split (split (past_site c)).1).1).1)
+    stmt X n o ls (raw.for q h t e b) c =
+        let d : Clean S (init_marks h ++ (maybe_marks t ++ (maybe_marks e ++ stmts_marks b))) (init_refused (outer_of S) X h ++ (maybe_refused (outer_of S) X t ++ (maybe_refused (outer_of S) X e ++ stmts_refused (outer_of S) X b))) (init_fits h && (maybe_fits t && (maybe_fits e && stmts_fit (in_loop o ls) [] b))) = past_site c in
+        let r : Clean S (maybe_marks t ++ (maybe_marks e ++ stmts_marks b)) (maybe_refused (outer_of S) X t ++ (maybe_refused (outer_of S) X e ++ stmts_refused (outer_of S) X b)) (maybe_fits t && (maybe_fits e && stmts_fit (in_loop o ls) [] b)) = (split d).1 in
+        let g : Clean S (maybe_marks e ++ stmts_marks b) (maybe_refused (outer_of S) X e ++ stmts_refused (outer_of S) X b) (maybe_fits e && stmts_fit (in_loop o ls) [] b) = (split r).1 in
+        two (two (two (init X (next n) h (split d).0) (maybe X (past (next n) (init_marks h)) t (split r).0)) (maybe X (past (past (next n) (init_marks h)) (maybe_marks t)) e (split g).0)) (stmts X (past (past (past (next n) (init_marks h)) (maybe_marks t)) (maybe_marks e)) (in_loop o ls) [] b (split g).1)
     stmt X n o ls (raw.for_in q t e b) c = two (two (heading X (next n) t (split (past_site c)).0) (expr X (past (next n) (heading_marks t)) e (split (split (past_site c)).1).0)) (stmts X (past (past (next n) (heading_marks t)) (expr_marks e)) (in_loop o ls) [] b (split (split (past_site c)).1).1)
     stmt X n o ls (raw.return q e) c = two (besides c).0 (maybe X (next n) e (past_site (besides c).1))
     stmt X n o ls (raw.throw q e) c = expr X (next n) e (past_site c)
@@ -271,7 +278,11 @@ module _ (S : Source) where
     stmt X n o ls (raw.continue q k) c = c.fits
     stmt X n o ls (raw.label q k b) c = two (besides c).0 (subst (λ m. stmts_well (tables_of (program_of S)) (record o { labels = k ∷ o.labels; own = false }) m (stmts_of (outer_of S) X.frames (next n) b) ≡ true) (same_labels X.frames (next n) (k ∷ ls) b) (stmts X (next n) (record o { labels = k ∷ o.labels; own = false }) (loop_labels (k ∷ ls) b) b (past_site (besides c).1)))
     stmt X n o ls (raw.switch q e cs) c = two (two (expr X (next n) e (split (past_site (besides c).1)).0) (ap (λ k. nat_lt k 2) (same_defaults X.frames (past (next n) (expr_marks e)) cs) ∙ (besides c).0)) (cases X (past (next n) (expr_marks e)) (record o { breaks = true; own = false }) cs (split (past_site (besides c).1)).1)
-    stmt X n o ls (raw.try q b k f) c = two (two (two (same_handlers X.frames X.frames (past (next n) (stmts_marks b)) (past (past (next n) (stmts_marks b)) (catch_marks k)) k f (besides c).0) (stmts X (next n) (nested o) [] b (split (past_site (besides c).1)).0)) (catch X (past (next n) (stmts_marks b)) (nested o) k (split (split (past_site (besides c).1)).1).0)) (finally X (past (past (next n) (stmts_marks b)) (catch_marks k)) (nested o) f (split (split (past_site (besides c).1)).1).1)
+    stmt X n o ls (raw.try q b k f) c =
+        let a : (has_catch k || has_finally f ≡ true) × Clean S (a_site q ∷ (stmts_marks b ++ (catch_marks k ++ finally_marks f))) (stmts_refused (outer_of S) X b ++ (catch_refused (outer_of S) X k ++ finally_refused (outer_of S) X f)) (stmts_fit (nested o) [] b && (catch_fits (nested o) k && finally_fits (nested o) f)) = besides c in
+        let d : Clean S (stmts_marks b ++ (catch_marks k ++ finally_marks f)) (stmts_refused (outer_of S) X b ++ (catch_refused (outer_of S) X k ++ finally_refused (outer_of S) X f)) (stmts_fit (nested o) [] b && (catch_fits (nested o) k && finally_fits (nested o) f)) = past_site a.1 in
+        let r : Clean S (catch_marks k ++ finally_marks f) (catch_refused (outer_of S) X k ++ finally_refused (outer_of S) X f) (catch_fits (nested o) k && finally_fits (nested o) f) = (split d).1 in
+        two (two (two (same_handlers X.frames X.frames (past (next n) (stmts_marks b)) (past (past (next n) (stmts_marks b)) (catch_marks k)) k f a.0) (stmts X (next n) (nested o) [] b (split d).0)) (catch X (past (next n) (stmts_marks b)) (nested o) k (split r).0)) (finally X (past (past (next n) (stmts_marks b)) (catch_marks k)) (nested o) f (split r).1)
 
     pub stmts : (X : Spot) (n : Counters) (o : Open) (ls : List (List ℕ)) (t : RawStmts) → Clean S (stmts_marks t) (stmts_refused (outer_of S) X t) (stmts_fit o ls t) → stmts_well (tables_of (program_of S)) o ls (stmts_of (outer_of S) X.frames n t) ≡ true
     stmts X n o ls raw.no_stmts c = refl

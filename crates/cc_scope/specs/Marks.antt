@@ -1,34 +1,40 @@
 -- What stands in a raw tree, in reading order: what carries a place in the program's table, the names
--- behind dots, and functions. Numbers are given by it: the k-th function has number k.
+-- behind dots, and functions. Numbers are given by it: the k-th function of the trees has number k behind
+-- the chunks, the k-th place number k. And the names that statements declare.
 use Rattle.std.specs.Prelude.{ℕ, suc, ◌+◌, List, [], ◌∷◌, ◌++◌}
 use Rattle.cc_ast.specs.declared.place.Place.{Place}
 use Rattle.cc_grammar.specs.RawTree.{Named, RawKey, RawExpr, RawTarget, RawExprs, MaybeExpr, RawFields, RawDeclarators, RawInit, RawForTarget, RawStmt, RawStmts, RawCatch, RawFinally, RawCases}
 use Rattle.cc_grammar.specs.RawTree as raw
 use Rattle.cc_scope.specs.Lists.{Name}
 
+-- what takes a number: a place of an expression, statement or declarator, a property's name, a function
 pub data Mark : Type 0 where
   a_site : Place → Mark
   a_name : Name → Mark
   a_function : Mark
 
+-- how many functions stand in a part
 unfoldable pub functions : List Mark → ℕ
 functions [] = 0
 functions (a_function ∷ ms) = suc (functions ms)
 functions (a_site q ∷ ms) = functions ms
 functions (a_name n ∷ ms) = functions ms
 
+-- how many places a part has
 unfoldable pub sites : List Mark → ℕ
 sites [] = 0
 sites (a_site q ∷ ms) = suc (sites ms)
 sites (a_function ∷ ms) = sites ms
 sites (a_name n ∷ ms) = sites ms
 
+-- the property names of a part, in order
 unfoldable pub names : List Mark → List Name
 names [] = []
 names (a_name n ∷ ms) = n ∷ names ms
 names (a_site q ∷ ms) = names ms
 names (a_function ∷ ms) = names ms
 
+-- the places of a part, in order
 unfoldable pub places : List Mark → List Place
 places [] = []
 places (a_site q ∷ ms) = q ∷ places ms
@@ -40,12 +46,15 @@ pub record Counters : Type 0 where
   pub function : ℕ
   pub site : ℕ
 
+-- behind a place
 abbrev pub next : Counters → Counters
 next n = record { function = n.function; site = suc n.site }
 
+-- behind a part
 abbrev pub past : Counters → List Mark → Counters
 past n ms = record { function = n.function + functions ms; site = n.site + sites ms }
 
+-- a key that is a name or word is a property (11.1.5); one that is a text or number is quoted
 unfoldable pub key_marks : RawKey → List Mark
 key_marks (raw.dotted n) = a_name n ∷ []
 key_marks (raw.quoted t) = []
@@ -138,7 +147,10 @@ unfoldable mutual
   cases_marks raw.no_cases = []
   cases_marks (raw.more_cases t b cs) = maybe_marks t ++ (stmts_marks b ++ cases_marks cs)
 
--- the names that a list of statements declares, functions not entered (ECMA-262 5.1, 10.5)
+-- ---- the names that statements declare, in reading order, functions not entered (ECMA-262 5.1, 10.5,
+-- steps 5 and 8): those of variable statements (12.2), also in the head of a `for` or `for-in` (12.6), and
+-- of function declarations (13); a block, a loop or a clause has no variables of its own
+
 unfoldable pub vars_declare : RawDeclarators → List Name
 vars_declare raw.no_declarators = []
 vars_declare (raw.more_declarators v e ds) = v.name ∷ vars_declare ds

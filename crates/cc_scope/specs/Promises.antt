@@ -1,5 +1,5 @@
 -- What the laws of resolution say.
-use Rattle.std.specs.Prelude.{◌≡◌, ◌↔◌, ℕ, zero, suc, ◌+◌, ◌^◌, ◌<◌, ◌≤◌, false, List, [], ◌++◌, length, map, slice_get, Some, IsTrue, IsFalse}
+use Rattle.std.specs.Prelude.{◌≡◌, ◌↔◌, ℕ, zero, suc, ◌+◌, ◌^◌, ◌<◌, ◌≤◌, false, List, [], ◌++◌, length, map, slice_get, Some, None, IsTrue, IsFalse}
 use Rattle.cc_ast.specs.Syntax.{Scope, Program}
 use Rattle.cc_ast.specs.declared.tables.ChunkInfo.{ChunkInfo}
 use Rattle.cc_ast.specs.declared.tables.GlobalInfo.{GlobalInfo}
@@ -18,6 +18,7 @@ use Rattle.cc_scope.specs.Marks.{names, functions, sites}
 use Rattle.cc_scope.specs.Refusals.{answered, refusals_of, resolve}
 use Rattle.cc_grammar.specs.RawTree.{RawStmts}
 use Rattle.cc_scope.specs.Grammatical.{at_head, stmts_fit}
+use Rattle.cc_scope.specs.Limits.{most_scopes, too_many}
 use Rattle.cc_scope.specs.Written.{Naming, Apart, stmts_in, ChunksN}
 
 -- the numbers that chunks declare, from a chunk on
@@ -105,3 +106,7 @@ IsExact = (S : Source) (Q : Program) → (resolve S ≡ answered Q) ↔ ((refusa
 -- no chain of parents comes back to its start
 abbrev pub NoLoop : Type 0
 NoLoop = (S : Source) (f : ℕ) → Encloses (program_of S) f f → ⊥
+
+-- A function is one too many exactly where the scopes are more than their limit.
+abbrev pub IsLimited : Type 0
+IsLimited = (S : Source) → length S.trees ≤ most_scopes → (too_many S ≡ None) ↔ (length (program_of S).scopes ≤ most_scopes)

@@ -1,4 +1,6 @@
--- What resolution refuses, in reading order; the least place is answered.
+-- What resolution refuses, in reading order; the least place is answered. In the language a free name that
+-- nothing declares is an error when it runs (ECMA-262 5.1, 8.7.1), and a second declaration of a name is none;
+-- here both are refused, as is what would change or hide what the host and the language have.
 use Rattle.std.specs.Prelude.{ℕ, ◌+◌, Bool, true, false, ◌&&◌, ◌||◌, nat_eq, nat_lt, List, [], ◌∷◌, ◌++◌, length, Option, Some, None, codes}
 use Rattle.cc_ast.specs.declared.place.Place.{Place}
 use Rattle.cc_ast.specs.declared.tree.Ref.{Ref}
@@ -13,6 +15,8 @@ use Rattle.cc_grammar.specs.RawTree as raw
 use Rattle.cc_scope.specs.Lists.{Name}
 use Rattle.cc_scope.specs.Resolve.{Outer, Frames, lookup, inner, Source, outer_of, program_of}
 
+-- a free name that nothing declares; a second declaration; a built-in global in any other use than the
+-- language's; a write to an extern or built-in global
 pub data Cause : Type 0 where
   undeclared : Name → Cause
   redeclared built_in_used host_written : Cause
@@ -39,40 +43,46 @@ unfoldable pub global_of : Outer → ℕ → Global
 unfolding outer_global
 global_of W n = pick (nat_lt n (length W.externs + 3)) (outer_global (length W.externs) n) (of_chunk 0)
 
+-- a name that is read
 unfoldable pub read_by : Outer → Name → Place → Option Ref → List Refusal
 unfolding global_of is_no_built is_in
 read_by W n q None = pick (is_in n (codes "undefined" ∷ [])) none (at (undeclared n) q)
 read_by W n q (Some (Ref.Frame up k)) = none
 read_by W n q (Some (Ref.Global k)) = pick (is_no_built (global_of W k)) none (at built_in_used q)
 
+-- a name that is written to
 unfoldable pub write_by : Outer → Name → Place → Option Ref → List Refusal
 unfolding global_of is_own_global
 write_by W n q None = at (undeclared n) q
 write_by W n q (Some (Ref.Frame up k)) = none
 write_by W n q (Some (Ref.Global k)) = pick (is_own_global (global_of W k)) none (at host_written q)
 
+-- the global that a name means
 unfoldable pub global_meant : Outer → Option Ref → Option Global
 unfolding global_of
 global_meant W None = None
 global_meant W (Some (Ref.Frame up k)) = None
 global_meant W (Some (Ref.Global k)) = Some (global_of W k)
 
+-- `String`
 unfoldable pub is_string_use : Option Global → Bool
 unfolding is_string
 is_string_use None = false
 is_string_use (Some g) = is_string g
 
+-- a member that the language has of a built-in global
 unfoldable pub is_member_use : Option Global → Name → Bool
 unfolding has_use
 is_member_use None n = false
 is_member_use (Some g) n = has_use g n
 
+-- the global that an expression is
 unfoldable pub variable_meant : Outer → Frames → RawExpr → Option Global
 unfolding global_meant lookup
 variable_meant W E (raw.var q n) = global_meant W (lookup W E n)
 variable_meant W E _ = None
 
--- `String(..)`, and a member of a built-in global that the language has
+-- the callee of `String(..)`, or of a member of a built-in global that the language has, as `Math.max(..)`
 unfoldable pub is_built_callee : Outer → Frames → RawExpr → Bool
 unfolding is_string_use is_member_use variable_meant global_meant lookup
 is_built_callee W E (raw.var q n) = is_string_use (global_meant W (lookup W E n))
@@ -90,10 +100,12 @@ unfolding is_in
 repeated ns [] = []
 repeated ns (v ∷ vs) = pick (is_in v.name ns) (at redeclared v.place) none ++ repeated (v.name ∷ ns) vs
 
+-- in the body of a function
 unfoldable pub within : Option Named → List Named → RawStmts → Spot → Spot
 unfolding inner
 within own ps b X = record { frames = inner own ps b X.frames; caught = []; top = false }
 
+-- in a catch clause
 abbrev pub behind_catch : Name → Spot → Spot
 behind_catch n X = record { frames = (n ∷ []) ∷ X.frames; caught = n ∷ X.caught; top = X.top }
 
@@ -184,9 +196,11 @@ unfoldable mutual
   cases_refused W X raw.no_cases = []
   cases_refused W X (raw.more_cases t b cs) = maybe_refused W X t ++ (stmts_refused W X b ++ cases_refused W X cs)
 
+-- in a chunk's own statements
 abbrev pub outside : Spot
 outside = record { frames = []; caught = []; top = true }
 
+-- what is refused in all trees
 unfoldable pub all_refused : Outer → List RawStmts → List Refusal
 unfolding stmts_refused
 all_refused W [] = []
@@ -200,6 +214,7 @@ refusals_of S = all_refused (outer_of S) S.trees
 unfoldable pub before : Place → Place → Bool
 before a b = nat_lt a.file b.file || (nat_eq a.file b.file && nat_lt a.offset b.offset)
 
+-- the refusal at the least place
 unfoldable pub least_from : Refusal → List Refusal → Refusal
 unfolding before
 least_from r [] = r

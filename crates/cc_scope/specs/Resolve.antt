@@ -1,4 +1,6 @@
--- Resolution: from trees with names to a program. A name is the innermost variable that has it.
+-- Resolution: from trees with names to a program (ECMA-262 5.1, 10.2 to 10.5, 12.2, 12.14 and 13). Each
+-- call of a function, each catch clause and each own name of a function expression makes an environment
+-- record, here a frame with its list of names; a name is the innermost variable that has it.
 use Rattle.std.specs.Prelude.{ℕ, suc, ◌+◌, Bool, false, List, [], ◌∷◌, ◌++◌, length, map, Option, Some, None, is_some}
 use Rattle.cc_ast.specs.declared.place.Place.{Place}
 use Rattle.cc_ast.specs.declared.tree.Ref.{Ref}
@@ -17,20 +19,21 @@ use Rattle.cc_scope.specs.Lists.{Name, index_of, new_names, distinct, or_zero, o
 use Rattle.cc_meaning.specs.Monad.{pick}
 use Rattle.cc_scope.specs.Marks.{Mark, Counters, next, past, expr_marks, target_marks, maybe_marks, init_marks, heading_marks, stmt_marks, stmts_marks, catch_marks, key_marks, stmts_declare, names, places}
 
--- ---- what a name means
+-- ---- what a name means (10.2.2.1, 10.3.1)
 
--- what stands outside of all frames: the names of the externs, of the chunks' globals and of the
--- properties, each list in the order of their numbers, and the doc of what begins at a place
+-- The global environment (10.2.3): the names of the externs, of the chunks' globals and of the
+-- properties, each list in the order of their numbers, and the doc of what begins at a place.
 pub record Outer : Type 0 where
   pub externs : List Name
   pub globals : List Name
   pub props : List Name
   pub doc_at : Place → ℕ
 
--- the frames around a place, from the innermost on, each with its names
+-- the frames around a place, from the innermost on, each with its names (10.2: the lexical environment)
 abbrev pub Frames : Type 0
 Frames = List (List Name)
 
+-- the global that stands so far behind the number k
 unfoldable pub global_from : ℕ → Option ℕ → Option Ref
 global_from k None = None
 global_from k (Some n) = Some (Ref.Global (k + n))
@@ -42,17 +45,19 @@ unfolding global_from index_of or_else
 global_named W n = or_else (global_from (length W.externs) (index_of n builtin_globals))
     (or_else (global_from 0 (index_of n W.externs)) (global_from (length W.externs + 3) (index_of n W.globals)))
 
+-- the same variable, seen from one frame further in
 unfoldable pub outwards : Option Ref → Option Ref
 outwards None = None
 outwards (Some (Ref.Frame up n)) = Some (Ref.Frame (suc up) n)
 outwards (Some (Ref.Global n)) = Some (Ref.Global n)
 
+-- a frame has the name, or else what is around it (10.2.2.1)
 unfoldable pub in_frame : Option ℕ → Option Ref → Option Ref
 unfolding outwards
 in_frame (Some n) r = Some (Ref.Frame 0 n)
 in_frame None r = outwards r
 
--- none where the name is free and no global has it
+-- Identifier resolution (10.3.1): none where the name is free and no global has it.
 unfoldable pub lookup : Outer → Frames → Name → Option Ref
 unfolding global_named in_frame index_of
 lookup W [] n = global_named W n
@@ -63,48 +68,54 @@ unfoldable pub ref_by : Option Ref → Ref
 ref_by None = Ref.Global 0
 ref_by (Some r) = r
 
+-- the variable of a name that is declared or written to (11.1.2)
 unfoldable pub ref_of : Outer → Frames → Name → Ref
 unfolding ref_by lookup
 ref_of W E n = ref_by (lookup W E n)
 
--- the free name `undefined` is undefined
+-- a variable that is read (11.1.2); the free name `undefined` is undefined (15.1.1.3)
 unfoldable pub var_by : ℕ → Option Ref → Expr
 var_by i (Some r) = p.var i r
 var_by i None = p.lit i p.undefined
 
+-- the number of a property's name
 unfoldable pub prop_of : Outer → Name → ℕ
 unfolding index_of or_zero
 prop_of W n = or_zero (index_of n W.props)
 
+-- a key of an object literal: a number is the text of its decimal (11.1.5)
 unfoldable pub key_of : Outer → RawKey → Key
 unfolding prop_of decimal
 key_of W (raw.dotted n) = Key.Dotted (prop_of W n)
 key_of W (raw.quoted t) = Key.Quoted t
 key_of W (raw.numbered z) = Key.Quoted (decimal z)
 
--- ---- functions (10.2.3, 10.5, 13)
+-- ---- functions (10.4.3, 10.5, 13)
 
+-- the names of the parameters (10.5, step 4)
 unfoldable pub named : List Named → List Name
 named ps = map (λ v. v.name) ps
 
--- the declared names besides the parameters
+-- the declared names besides the parameters, each once (10.5, steps 5 and 8)
 unfoldable pub locals : List Named → RawStmts → List Name
 unfolding named new_names stmts_declare
 locals ps b = new_names (named ps) (stmts_declare b)
 
--- an own name has a frame of its own
+-- the own name of a function expression has a frame of its own (13)
 unfoldable pub with_own : Option Named → Frames → Frames
 with_own None E = E
 with_own (Some v) E = (v.name ∷ []) ∷ E
 
+-- the frames in the body of a function
 unfoldable pub inner : Option Named → List Named → RawStmts → Frames → Frames
 unfolding named locals with_own
 inner own ps b E = (named ps ++ locals ps b) ∷ with_own own E
 
+-- the numbers in the body of a function
 abbrev pub behind : Counters → Counters
 behind n = record { function = suc n.function; site = suc n.site }
 
--- ---- trees
+-- ---- trees, with the frames around them and the numbers that are due
 
 unfoldable mutual
   unfolding lookup ref_of var_by prop_of key_of inner expr_marks
@@ -181,7 +192,7 @@ unfoldable mutual
   stmts_of W E n raw.no_stmts = p.no_stmts
   stmts_of W E n (raw.more_stmts s ss) = p.more_stmts (stmt_of W E n s) (stmts_of W E (past n (stmt_marks s)) ss)
 
-  -- a catch clause has a frame of its own
+  -- a catch clause has a frame of its own, with its parameter alone (12.14)
   pub catch_of : Outer → Frames → Counters → RawCatch → MaybeStmts
   catch_of W E n raw.no_catch = p.absent
   catch_of W E n (raw.caught v b) = p.present (stmts_of W ((v.name ∷ []) ∷ E) n b)
@@ -194,7 +205,9 @@ unfoldable mutual
   cases_of W E n raw.no_cases = p.no_cases
   cases_of W E n (raw.more_cases t b cs) = p.more_cases (maybe_of W E n t) (stmts_of W E (past n (maybe_marks t)) b) (cases_of W E (past (past n (maybe_marks t)) (stmts_marks b)) cs)
 
--- ---- the functions that stand in a tree, in reading order
+-- ---- the functions that stand in a tree, in reading order: a function comes before those in its body
+
+-- the scope of a function (13.2)
 
 unfoldable pub scope_of : Outer → Frames → (parent : ℕ) → Counters → (own : Bool) → List Named → RawStmts → Place → Scope
 unfolding stmts_of locals
@@ -304,19 +317,23 @@ pub record Source : Type 0 where
   pub externs : List Name
   pub kept : List Name
 
+-- what stands in all trees
 unfoldable pub all_marks : List RawStmts → List Mark
 unfolding stmts_marks
 all_marks [] = []
 all_marks (t ∷ ts) = stmts_marks t ++ all_marks ts
 
+-- the names that the chunks declare
 unfoldable pub all_declared : List RawStmts → List Name
 unfolding stmts_declare
 all_declared [] = []
 all_declared (t ∷ ts) = stmts_declare t ++ all_declared ts
 
+-- where nothing is annotated
 unfoldable pub no_doc : Place → ℕ
 no_doc q = 0
 
+-- the global environment of a source
 unfoldable pub outer_of : Source → Outer
 unfolding distinct all_declared all_marks names no_doc
 outer_of S = record {
@@ -326,15 +343,18 @@ outer_of S = record {
   doc_at = no_doc;
 }
 
+-- the scope of a chunk, which has no frame: its variables are globals (10.4.1)
 unfoldable pub chunk_scope : Outer → Counters → RawStmts → Scope
 unfolding stmts_of
 chunk_scope W n t = record { params = 0; names = 0; own = false; body = stmts_of W [] n t; parent = None; doc = 0 }
 
+-- the chunks' scopes, in order
 unfoldable pub chunk_scopes : Outer → Counters → List RawStmts → List Scope
 unfolding chunk_scope stmts_marks
 chunk_scopes W n [] = []
 chunk_scopes W n (t ∷ ts) = chunk_scope W n t ∷ chunk_scopes W (past n (stmts_marks t)) ts
 
+-- the functions' scopes, in order
 unfoldable pub inner_scopes : Outer → (chunk : ℕ) → Counters → List RawStmts → List Scope
 unfolding stmts_scopes stmts_marks
 inner_scopes W c n [] = []
@@ -350,28 +370,35 @@ unfolding is_in stmts_declare
 chunk_by c n [] = c
 chunk_by c n (t ∷ ts) = pick (is_in n (stmts_declare t)) c (chunk_by (suc c) n ts)
 
+-- an extern or built-in global
 abbrev pub outer_info : Name → GlobalInfo
 outer_info n = record { name = n; chunk = None; doc = 0; flat = [] }
 
+-- a global of a chunk
 unfoldable pub chunk_info : List RawStmts → Name → GlobalInfo
 unfolding chunk_by
 chunk_info ts n = record { name = n; chunk = Some (chunk_by 0 n ts); doc = 0; flat = [] }
 
+-- the globals: externs, built-in ones, and those of the chunks by first declaration
 unfoldable pub globals_of : Source → List GlobalInfo
 unfolding chunk_info distinct all_declared
 globals_of S = map outer_info (S.externs ++ builtin_globals) ++ map (chunk_info S.trees) (distinct (all_declared S.trees))
 
+-- the property names that no phase renames
 unfoldable pub kept_of : Source → List Name
 unfolding distinct
 kept_of S = distinct (S.kept ++ always_kept)
 
+-- a property, with whether its name is kept
 unfoldable pub prop_info : List Name → Name → PropInfo
 unfolding is_in
 prop_info ks n = record { name = n; kept = is_in n ks }
 
+-- the doc of what is not annotated
 abbrev pub says_nothing : SiteDoc
 says_nothing = record { params = []; result = None; value = None; receiver = None; vars = []; constant = false; define = false; nocollapse = false; export = false }
 
+-- The program of a source. Where a name means nothing it has any number there, and the source is refused.
 unfoldable pub program_of : Source → Program
 unfolding outer_of begin chunk_scopes inner_scopes globals_of prop_info kept_of distinct all_marks names places
 program_of S = record {

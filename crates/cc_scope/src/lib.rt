@@ -2,7 +2,7 @@
 //! go into one table. The functions here state laws of it, and do nothing.
 #![tactic(auto)]
 
-ghost use Rattle.cc_scope.specs.Promises.{ReadsBack, TablesAreMade, AreCounted, IsExact, NoLoop, IsAnswered, IsWellMade};
+ghost use Rattle.cc_scope.specs.Promises.{ReadsBack, TablesAreMade, AreCounted, IsExact, NoLoop, IsAnswered, IsWellMade, IsLimited};
 
 /// What is written with names and resolved again is alike to what was written.
 pub fn reads_back()
@@ -29,4 +29,5 @@ pub fn resolution_is_exact()
     ensures of_refusals { IsExact }
     ensures of_counts { AreCounted }
     ensures of_parents { NoLoop }
+    ensures of_limits { IsLimited }
 {}
