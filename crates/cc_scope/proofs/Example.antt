@@ -1,5 +1,5 @@
 -- That a program can be written so: `function f(x){return x;}f(alert);` with names of the law's kind.
-use Rattle.std.proofs.Common.{◌≡◌, refl, sym, ap, ◌∙◌, subst, arith, ℕ, zero, suc, ◌<◌, ◌≤◌, lit<, lit≤, false, List, [], ◌∷◌, Some, None}
+use Rattle.std.proofs.Common.{◌≡◌, refl, sym, ap, ◌∙◌, subst, arith, ℕ, zero, suc, ◌<◌, ◌≤◌, lit<, lit≤, false, List, [], ◌∷◌, Option, Some, None}
 use Rattle.std.specs.Prelude.{slice_get, codes}
 use Rattle.cc_ast.specs.declared.place.Place.{Place}
 use Rattle.cc_ast.specs.declared.tree.Ref.{Ref}
@@ -22,6 +22,17 @@ use Rattle.cc_scope.specs.Written as n
 use Rattle.cc_scope.specs.Written.{Naming, Apart, ChunksN, FunN, own_global, seen_place, seen_global, frame_of}
 use Rattle.cc_scope.specs.Promises.{Outside, Meant, an_extern, a_global, declared_from}
 use Rattle.cc_scope.proofs.Globals.{reads_back}
+use Rattle.cc_ast.specs.declared.tables.ChunkInfo.{ChunkInfo}
+use Rattle.cc_meaning.specs.Names.{is_index}
+use Rattle.cc_meaning.specs.Operators as op
+use Rattle.cc_meaning.specs.Parts as pa
+use Rattle.cc_meaning.specs.Calls as ca
+use Rattle.cc_meaning.specs.WellMade as wm
+use Rattle.cc_scope.specs.Marks as m
+use Rattle.cc_scope.specs.Refusals as f
+use Rattle.cc_scope.specs.Grammatical as g
+use Rattle.cc_scope.specs.Promises.{Readable, Grammatical, AreFew}
+use Rattle.cc_scope.proofs.Made.{well_made}
 
 abbrev o : Place
 o = record { file = 0; offset = 0; line = 1; column = 1 }
@@ -151,3 +162,51 @@ written = n.more_chunks_n
 -- the law speaks of it
 alike : Alike small (program_of source)
 alike = reads_back v apart small source refl refl outside written
+
+-- ---- it is accepted, and what is resolved is well made
+
+unfoldable shut_source : ℕ
+unfolding builtin_globals ls.index_of ls.later ls.new_names ls.distinct ls.or_zero ls.or_else op.list_eq op.is_in m.expr_marks m.key_marks m.stmts_declare m.functions m.sites m.names r.global_from r.global_named r.outwards r.in_frame r.lookup r.named r.locals r.with_own r.inner r.all_marks r.all_declared r.no_doc r.outer_of f.global_of f.read_by f.write_by f.global_meant f.is_string_use f.is_member_use f.variable_meant f.is_built_callee f.declared_by f.repeated f.within f.expr_refused f.all_refused f.refusals_of outer_global st.built_number pa.is_no_built pa.is_own_global pa.is_string pa.has_use ca.member_use pa.exact_prim pa.assigns g.operand_fits g.statements g.loop_labels g.default_clauses g.has_catch g.has_finally g.stmts_fit wm.refused_names wm.may_break wm.may_continue
+shut_source = 0
+
+deps_in : Option ChunkInfo → List ℕ
+deps_in None = []
+deps_in (Some k) = k.deps
+
+lesser : (c d : ℕ) (k : ChunkInfo) → slice_get source.chunks c ≡ Some k → In d k.deps → d < c
+unfolding deps_in
+lesser zero d k e i = absurd (let j : In d [] = subst (λ l. In d l) (sym (ap deps_in e)) i in elim j [ ])
+lesser (suc c) d k e i = absurd (cc)
+
+one_extern : wm.IsDistinct source.externs
+one_extern zero zero x e d = refl
+one_extern zero (suc j) x e d = absurd (cc)
+one_extern (suc i) j x e d = absurd (cc)
+
+no_index : (x : Name) → In x (m.names (r.all_marks source.trees)) → is_index x ≡ false
+unfolding shut_source
+no_index x i = elim i [ ]
+
+no_refused : (x : Name) → In x (r.all_declared source.trees) → op.is_in x wm.refused_names ≡ false
+unfolding shut_source
+no_refused x here = refl
+no_refused x (there i) = elim i [ ]
+
+readable : Readable source
+readable = record { one_each = refl; lesser = lesser; externs_once = one_extern; no_index = no_index; no_refused = no_refused }
+
+grammatical : Grammatical source
+unfolding shut_source
+grammatical t here = refl
+grammatical t (there i) = elim i [ ]
+
+few : AreFew source
+unfolding shut_source
+few = lit< tt
+
+unrefused : f.refusals_of source ≡ []
+unfolding shut_source
+unrefused = refl
+
+made : wm.WellMade (program_of source)
+made = well_made source readable grammatical few unrefused

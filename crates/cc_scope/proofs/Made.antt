@@ -17,13 +17,13 @@ use Rattle.cc_grammar.specs.RawTree.{Named, RawStmts}
 use Rattle.cc_scope.specs.Lists.{Name, new_names, distinct, or_zero}
 use Rattle.cc_scope.specs.Marks.{Mark, a_site, a_name, a_function, names, sites, functions, Counters, stmts_marks, stmts_declare}
 use Rattle.cc_scope.specs.Resolve.{Outer, Frames, scope_of, chunk_scope, outer_info, chunk_info, globals_of, prop_info, kept_of, no_doc, Source, all_marks, all_declared, outer_of, program_of, stmts_of, stmts_scopes}
-use Rattle.cc_scope.specs.Refusals.{refusals_of, stmts_refused}
+use Rattle.cc_scope.specs.Refusals.{refusals_of, stmts_refused, resolve, answered}
 use Rattle.cc_scope.specs.Grammatical.{at_head, stmts_fit}
 use Rattle.cc_scope.specs.Promises.{Readable, Grammatical, AreFew}
 use Rattle.cc_scope.proofs.Declared.{in_left, in_right, in_either, length_map}
 use Rattle.cc_scope.proofs.Globals.{at_in}
 use Rattle.cc_scope.proofs.Numbers.{head_or}
-use Rattle.cc_scope.proofs.Counts.{scopes_counted, places_counted}
+use Rattle.cc_scope.proofs.Counts.{scopes_counted, places_counted, exact}
 use Rattle.cc_scope.proofs.Parents.{no_loop}
 use Rattle.cc_scope.proofs.Tables as tables
 use Rattle.cc_scope.proofs.Tables.{split_at}
@@ -298,3 +298,7 @@ module _ (S : Source) (R : Readable S) (fitting : Grammatical S) (few : AreFew S
     meant = meant S R fitting unrefused;
     counted = counted;
   }
+
+-- what is answered is the program, and nothing is refused
+pub answered_made : (S : Source) (Q : Program) → Readable S → Grammatical S → AreFew S → resolve S ≡ answered Q → WellMade Q
+answered_made S Q r g f e = let d = (exact S Q).0 e in subst (λ z. WellMade z) d.1 (well_made S r g f d.0)

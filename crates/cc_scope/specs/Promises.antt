@@ -73,9 +73,9 @@ Grammatical S = (t : RawStmts) → In t S.trees → IsTrue (stmts_fit (at_head f
 abbrev pub AreFew : Source → Type 0
 AreFew S = length S.trees + (length S.externs + 3) + length (all_declared S.trees) + length (all_marks S.trees) < 2 ^ 32
 
--- What is resolved without a refusal is well made, where nothing is annotated.
+-- What resolution answers is well made, where nothing is annotated.
 abbrev pub IsWellMade : Type 0
-IsWellMade = (S : Source) → Readable S → Grammatical S → AreFew S → refusals_of S ≡ [] → WellMade (program_of S)
+IsWellMade = (S : Source) (Q : Program) → Readable S → Grammatical S → AreFew S → resolve S ≡ answered Q → WellMade Q
 
 -- the clauses of a well made program that speak of its tables
 pub record HasTables (P : Program) : Type 0 where

@@ -19,12 +19,13 @@ pub fn tables_are_made()
     ensures { TablesAreMade }
 {}
 
-/// What is resolved without a refusal is a well made program, where nothing is annotated.
+/// What resolution answers is a well made program, where nothing is annotated.
 pub fn resolved_is_well_made()
     ensures { IsWellMade }
 {}
 
-/// A program is answered exactly where nothing is refused; its scopes and places are counted.
+/// A program is answered exactly where nothing is refused; its scopes and places are counted, and the
+/// function that is one too many is named exactly where the scopes are more than their limit.
 pub fn resolution_is_exact()
     ensures of_refusals { IsExact }
     ensures of_counts { AreCounted }
