@@ -1,21 +1,20 @@
 -- What is written with names is not refused: each name means what was meant, and no variable is declared again.
-use Rattle.std.proofs.Common.{◌≡◌, refl, sym, ap, ◌∙◌, subst, arith, ◌⊎◌, inl, inr, ℕ, zero, suc, ◌+◌, ◌<◌, ◌≤◌, Bool, true, false, ◌&&◌, ◌||◌, List, [], ◌∷◌, ◌++◌, map, length, Option, Some, None, cond}
+use Rattle.std.proofs.Common.{◌≡◌, refl, sym, ap, ◌∙◌, subst, arith, ℕ, zero, suc, ◌+◌, ◌<◌, ◌≤◌, Bool, true, false, ◌&&◌, ◌||◌, List, [], ◌∷◌, ◌++◌, Option, Some, None}
 use Rattle.std.specs.Prelude.{slice_get}
 use Rattle.cc_ast.specs.declared.place.Place.{Place}
 use Rattle.cc_ast.specs.declared.tree.Ref.{Ref}
 use Rattle.cc_ast.specs.Syntax.{Prim, Expr, Target, Exprs, Fields, Declarator, ForInit, ForTarget, Stmt, Stmts, MaybeStmts, Cases, Scope, Program}
 use Rattle.cc_ast.specs.Syntax as p
-use Rattle.cc_meaning.specs.Alike.{In, here, there, Paired}
+use Rattle.cc_meaning.specs.Alike.{In, here, there}
 use Rattle.cc_meaning.specs.Operators.{is_in}
 use Rattle.cc_meaning.specs.Names.{builtin_globals}
 use Rattle.cc_meaning.specs.Monad.{pick}
 use Rattle.cc_meaning.specs.State.{Tables, Path}
-use Rattle.cc_meaning.specs.Store.{Built, Global, extern, built_in, of_chunk, dotted, name_of, global_kind}
+use Rattle.cc_meaning.specs.Store.{Built, Global, extern, built_in, of_chunk, global_kind}
 use Rattle.cc_meaning.specs.Shapes.{tables_of, path_of, path_of_ref, longer}
 use Rattle.cc_meaning.specs.Parts.{is_own_global, is_no_built, is_string, has_use, may_write, may_read, built_callee, global_at, is_use, expr_well, target_well, exprs_well, fields_well}
-use Rattle.cc_meaning.specs.WellMade.{Open, opened, nested, in_loop, labels_for, option_well, vars_well, some_vars, init_well, name_well, stmt_well, stmts_well, maybe_well, cases_well}
+use Rattle.cc_meaning.specs.WellMade.{Open, opened, option_well, vars_well, some_vars, init_well, name_well, stmt_well, stmts_well, maybe_well, cases_well}
 use Rattle.cc_grammar.specs.RawTree.{Named, RawExpr, RawTarget, RawExprs, MaybeExpr, RawFields, RawDeclarators, RawInit, RawForTarget, RawStmt, RawStmts, RawCatch, RawFinally, RawCases}
-use Rattle.cc_grammar.specs.RawTree as raw
 use Rattle.cc_scope.specs.Lists.{Name}
 use Rattle.cc_scope.specs.Resolve.{Outer, Frames, lookup, global_named, inner, named}
 use Rattle.cc_scope.specs.Refusals.{Refusal, Spot, global_of, read_by, write_by, global_meant, is_string_use, is_member_use, variable_meant, is_built_callee, declared_by, repeated, within, expr_refused, target_refused, exprs_refused, maybe_refused, fields_refused, vars_refused, init_refused, heading_refused, stmt_refused, stmts_refused, catch_refused, finally_refused, cases_refused}

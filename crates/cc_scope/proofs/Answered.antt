@@ -1,24 +1,23 @@
 -- What is written with names and read again is answered, and is alike to what was written.
-use Rattle.std.proofs.Common.{◌≡◌, refl, sym, ap, ◌∙◌, subst, arith, ℕ, zero, suc, ◌+◌, ◌<◌, ◌≤◌, Bool, true, false, ◌||◌, nat_lt, List, [], ◌∷◌, ◌++◌, length, Option, Some, None, IsTrue}
+use Rattle.std.proofs.Common.{◌≡◌, refl, sym, ap, ◌∙◌, subst, arith, ℕ, suc, ◌+◌, ◌<◌, ◌≤◌, Bool, true, false, ◌||◌, nat_lt, List, [], ◌∷◌, ◌++◌, length, Option, Some, None}
 use Rattle.std.specs.Prelude.{slice_get}
 use Rattle.std.proofs.lemmas.Bool.Decides.{nat_tests}
 use Rattle.cc_ast.specs.declared.tree.Ref.{Ref}
-use Rattle.cc_ast.specs.Syntax.{Scope, Stmts, no_stmts, Program}
+use Rattle.cc_ast.specs.Syntax.{Scope, Program}
 use Rattle.cc_meaning.specs.Operators.{is_in}
 use Rattle.cc_meaning.specs.Names.{builtin_globals}
 use Rattle.cc_meaning.specs.Monad.{pick}
 use Rattle.cc_meaning.specs.Store.{Global, extern, built_in, of_chunk, outer_global, global_kind}
 use Rattle.cc_meaning.specs.Shapes.{tables_of, body_of, body_in}
 use Rattle.cc_meaning.specs.WellMade.{opened, stmts_well}
-use Rattle.cc_meaning.specs.Alike.{In, Alike}
+use Rattle.cc_meaning.specs.Alike.{In}
 use Rattle.cc_grammar.specs.RawTree.{RawStmts}
-use Rattle.cc_scope.specs.Lists.{Name}
 use Rattle.cc_scope.specs.Resolve.{Outer, Source, outer_of, global_named, program_of}
-use Rattle.cc_scope.specs.Refusals.{global_of, all_refused, refusals_of, answered, resolve, outside}
+use Rattle.cc_scope.specs.Refusals.{global_of, all_refused, refusals_of, answered, resolve}
 use Rattle.cc_scope.specs.Written.{Naming, Apart, stmts_in, ChunksN}
 use Rattle.cc_scope.specs.Written as n
 use Rattle.cc_scope.specs.Promises.{declared_from, Outside, Meant, HasStatements}
-use Rattle.cc_scope.proofs.Globals.{not_in, meaning, cases, Case, outer_case, inner_case, above_number, all_are, covered, reads_back}
+use Rattle.cc_scope.proofs.Globals.{not_in, meaning, cases, Case, outer_case, inner_case, above_number, all_are, covered}
 use Rattle.cc_scope.proofs.Declared.{in_left, in_right}
 use Rattle.cc_scope.proofs.Counts.{exact}
 use Rattle.cc_scope.proofs.Accepted.{SameSort, same_extern, same_built, same_chunk, no_caught, stmts}

@@ -1,5 +1,5 @@
 -- What is written with names and resolved again is alike to what was written.
-use Rattle.std.proofs.Common.{◌≡◌, refl, sym, ap, ◌∙◌, subst, arith, ◌⊎◌, inl, inr, ℕ, zero, suc, ◌+◌, ◌<◌, Bool, true, false, nat_eq, cond, List, [], ◌∷◌, ◌++◌, length, map, Option, Some, None, is_some, length-append}
+use Rattle.std.proofs.Common.{◌≡◌, refl, sym, ap, ◌∙◌, subst, arith, inl, inr, ℕ, suc, ◌+◌, ◌<◌, Bool, true, false, nat_eq, cond, List, [], ◌∷◌, ◌++◌, length, map, Option, Some, None, is_some, length-append}
 use Rattle.std.specs.Prelude.{slice_get}
 use Rattle.cc_ast.specs.declared.place.Place.{Place}
 use Rattle.cc_ast.specs.declared.tree.Ref.{Ref}
@@ -12,13 +12,13 @@ use Rattle.cc_meaning.specs.Shapes.{tables_of, body_of}
 use Rattle.cc_meaning.specs.Alike.{In, here, there, Nth, first, Paired, OneToOne, ListT, nil_t, cons_t, OptT, none_t, some_t, FramePair, call_pair, catch_pair, own_pair, Around, Numbering, PropA, KeyA, dotted_a, quoted_a, PlaceA, in_call, in_catch, in_own, FunA, RefA, frame_a, global_a, ExprA, TargetA, ExprsA, FieldsA, DeclA, InitA, NameA, StmtA, StmtsA, MaybeA, CasesA, inside}
 use Rattle.cc_meaning.specs.Alike as a
 use Rattle.cc_grammar.specs.RawTree.{Named, RawKey, RawExpr, RawTarget, RawExprs, MaybeExpr, RawFields, RawDeclarators, RawInit, RawForTarget, RawStmt, RawStmts, RawCatch, RawFinally, RawCases}
-use Rattle.cc_scope.specs.Lists.{Name, later, new_names}
+use Rattle.cc_scope.specs.Lists.{Name, later}
 use Rattle.std.proofs.lemmas.Bool.Decides.{nat_tests}
-use Rattle.cc_scope.specs.Marks.{Mark, a_site, a_name, a_function, functions, names, Counters, next, past, expr_marks, target_marks, exprs_marks, maybe_marks, fields_marks, vars_marks, init_marks, heading_marks, stmt_marks, stmts_marks, catch_marks, finally_marks, cases_marks, key_marks, stmts_declare, stmt_declares, vars_declare, init_declares, heading_declares, catch_declares, finally_declares, cases_declare}
-use Rattle.cc_scope.specs.Resolve.{Outer, Frames, lookup, ref_of, ref_by, var_by, global_named, prop_of, key_of, named, locals, with_own, inner, behind, scope_of, expr_of, target_of, exprs_of, maybe_of, fields_of, vars_of, init_of, heading_of, stmt_of, stmts_of, catch_of, finally_of, cases_of, expr_scopes, target_scopes, exprs_scopes, maybe_scopes, fields_scopes, vars_scopes, init_scopes, heading_scopes, stmt_scopes, stmts_scopes, catch_scopes, finally_scopes, cases_scopes, all_marks, inner_scopes}
+use Rattle.cc_scope.specs.Marks.{Mark, a_site, a_name, a_function, functions, names, Counters, next, past, expr_marks, target_marks, exprs_marks, maybe_marks, fields_marks, vars_marks, init_marks, heading_marks, stmt_marks, stmts_marks, catch_marks, finally_marks, cases_marks, key_marks}
+use Rattle.cc_scope.specs.Resolve.{Outer, Frames, lookup, ref_of, ref_by, var_by, global_named, prop_of, key_of, inner, behind, scope_of, expr_of, target_of, exprs_of, maybe_of, fields_of, vars_of, init_of, heading_of, stmt_of, stmts_of, catch_of, finally_of, cases_of, expr_scopes, target_scopes, exprs_scopes, maybe_scopes, fields_scopes, vars_scopes, init_scopes, heading_scopes, stmt_scopes, stmts_scopes, catch_scopes, finally_scopes, cases_scopes, all_marks, inner_scopes}
 use Rattle.cc_scope.specs.Written as n
 use Rattle.cc_scope.specs.Written.{Naming, Apart, Frame, sizes, base, slot, name_at, shown, rank, fresh, count_from, stmts_in, stmt_in, vars_in, init_in, heading_in, maybe_in, cases_in, number_of, order_of, frame_of, single, owned, base_at, own_name, IsOwn, own_global, own_place, Seen, seen_place, seen_global, OwnN, KeyN, FunN, ExprN, TargetN, ExprsN, FieldsN, MaybeN, VarsN, InitN, HeadingN, StmtN, StmtsN, CatchN, FinallyN, CasesN, ChunksN}
-use Rattle.cc_scope.proofs.Names.{env, resolves, resolves_global, shown_append, shown_news}
+use Rattle.cc_scope.proofs.Names.{env, resolves, resolves_global}
 pub use Rattle.cc_scope.proofs.Declared.{in_left, in_right, in_either, map_append, length_map, length_count, stmts_declared, shown_map}
 use Rattle.cc_scope.proofs.Declared.{frame_is, locals_count, params_count, own_is_some}
 

@@ -1,25 +1,24 @@
 -- The pieces of variables, declarations and functions.
-use Rattle.std.proofs.Common.{◌≡◌, refl, sym, ap, ◌∙◌, subst, arith, ℕ, zero, suc, ◌+◌, ◌<◌, ◌≤◌, Bool, true, false, ◌&&◌, ◌||◌, List, [], ◌∷◌, ◌++◌, length, Option, Some, None, is_some}
+use Rattle.std.proofs.Common.{◌≡◌, refl, sym, ap, subst, arith, ℕ, zero, suc, ◌+◌, Bool, true, false, ◌&&◌, ◌||◌, List, [], ◌∷◌, ◌++◌, Option, Some, None, is_some}
 use Rattle.std.specs.Prelude.{slice_get}
 use Rattle.cc_ast.specs.declared.place.Place.{Place}
 use Rattle.cc_ast.specs.declared.tree.Ref.{Ref}
-use Rattle.cc_ast.specs.Syntax.{Scope, Stmts}
-use Rattle.cc_ast.specs.Syntax as p
+use Rattle.cc_ast.specs.Syntax.{Scope}
 use Rattle.cc_meaning.specs.Operators.{is_in}
 use Rattle.cc_meaning.specs.Names.{builtin_globals}
 use Rattle.cc_meaning.specs.Monad.{pick}
 use Rattle.cc_meaning.specs.Shapes.{tables_of}
 use Rattle.cc_meaning.specs.Alike.{In, here, there}
-use Rattle.cc_meaning.specs.Parts.{Part, has_site, mentions, declares, makes, expr_parts, target_parts, stmts_parts}
+use Rattle.cc_meaning.specs.Parts.{Part, has_site, mentions, declares, makes, expr_parts, stmts_parts}
 use Rattle.cc_meaning.specs.WellMade.{parts_of, functions_in}
 use Rattle.cc_grammar.specs.RawTree.{Named, RawStmts}
 use Rattle.cc_scope.specs.Lists.{Name}
 use Rattle.cc_scope.specs.Marks.{Mark, a_site, a_function, functions, sites, names, Counters, next, stmts_marks, stmts_declare}
-use Rattle.cc_scope.specs.Resolve.{Outer, Frames, lookup, ref_of, ref_by, var_by, inner, behind, scope_of, stmts_of, stmts_scopes, Source, all_marks, outer_of, program_of}
-use Rattle.cc_scope.specs.Refusals.{Refusal, Spot, read_by, write_by, declared_by, repeated, within, stmts_refused}
+use Rattle.cc_scope.specs.Resolve.{Frames, lookup, ref_of, ref_by, var_by, inner, behind, scope_of, stmts_of, stmts_scopes, Source, outer_of, program_of}
+use Rattle.cc_scope.specs.Refusals.{Refusal, write_by, declared_by, repeated, stmts_refused}
 use Rattle.cc_scope.specs.Grammatical.{at_head, stmts_fit}
 use Rattle.cc_scope.proofs.Whole.{body_is}
-use Rattle.cc_scope.proofs.Pieces.{Rising, no_more, one_more, both_empty, over, depth, spot, IsFree, Plain, plain_site, plain_mention, plain_declaration, plain_function, Given, Body, Stands, function_stands, StandsAt, Shown, Piece, leaf, with_site}
+use Rattle.cc_scope.proofs.Pieces.{no_more, one_more, both_empty, over, depth, spot, IsFree, Plain, plain_site, plain_mention, plain_declaration, plain_function, Given, Body, Stands, function_stands, StandsAt, Shown, Piece, leaf, with_site}
 
 unpicked : (c : Bool) (r : Refusal) → pick c (r ∷ []) [] ≡ [] → c ≡ false
 unpicked true r e = absurd (cc)

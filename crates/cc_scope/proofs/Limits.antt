@@ -1,5 +1,5 @@
 -- A function is one too many exactly where the scopes are more than their limit.
-use Rattle.std.proofs.Common.{◌≡◌, refl, arith, ℕ, zero, suc, ◌+◌, ◌-◌, ◌≤◌, List, [], ◌∷◌, length, Option, Some, None}
+use Rattle.std.proofs.Common.{◌≡◌, refl, arith, ℕ, zero, suc, ◌-◌, ◌≤◌, List, [], ◌∷◌, length, None}
 use Rattle.std.specs.Prelude.{◌↔◌}
 use Rattle.cc_ast.specs.declared.place.Place.{Place}
 use Rattle.cc_grammar.specs.Symbols.{nowhere}
@@ -27,6 +27,6 @@ few_none (a_function ∷ ms) (suc k) p h = few_none ms k p (omega arith)
 pub limited : (S : Source) → length S.trees ≤ most_scopes → (too_many S ≡ None) ↔ (length (program_of S).scopes ≤ most_scopes)
 unfolding too_many most_scopes
 limited S h = (
-    λ e. let a = none_few (all_marks S.trees) (262144 - length S.trees) nowhere e in let b = scopes_counted S in omega arith,
-    λ l. few_none (all_marks S.trees) (262144 - length S.trees) nowhere (let b = scopes_counted S in omega arith),
-  )
+  λ e. let a = none_few (all_marks S.trees) (262144 - length S.trees) nowhere e in let b = scopes_counted S in omega arith,
+  λ l. few_none (all_marks S.trees) (262144 - length S.trees) nowhere (let b = scopes_counted S in omega arith),
+)

@@ -1,25 +1,20 @@
 -- What a name that is found means: a place of a frame, or a global with its entry in the table.
-use Rattle.std.proofs.Common.{◌≡◌, refl, sym, ap, ◌∙◌, subst, arith, ◌⊎◌, inl, inr, ℕ, zero, suc, ◌+◌, ◌-◌, ◌<◌, ◌≤◌, Bool, true, false, ◌||◌, nat_lt, cond, List, [], ◌∷◌, ◌++◌, length, map, Option, Some, None, option_map, length-append}
+use Rattle.std.proofs.Common.{◌≡◌, refl, sym, ap, ◌∙◌, subst, arith, ◌⊎◌, inl, inr, ℕ, suc, ◌+◌, ◌-◌, ◌<◌, ◌≤◌, Bool, true, false, ◌||◌, cond, List, [], ◌∷◌, ◌++◌, length, map, Option, Some, None, option_map, length-append}
 use Rattle.std.specs.Prelude.{slice_get}
 use Rattle.std.proofs.lemmas.Option.{slice_get-map, slice_get_within}
-use Rattle.std.proofs.lemmas.Bool.Decides.{nat_tests}
 use Rattle.cc_ast.specs.declared.tree.Ref.{Ref}
 use Rattle.cc_ast.specs.declared.tables.GlobalInfo.{GlobalInfo}
-use Rattle.cc_ast.specs.Syntax.{Program}
 use Rattle.cc_meaning.specs.Operators.{list_eq, is_in}
 use Rattle.cc_meaning.specs.Names.{builtin_globals}
-use Rattle.cc_meaning.specs.Monad.{pick}
-use Rattle.cc_meaning.specs.Store.{Global, of_chunk, outer_global, without_chunk, global_by, chunk_in, global_kind}
+use Rattle.cc_meaning.specs.Store.{of_chunk, outer_global, without_chunk, global_by, chunk_in, global_kind}
 use Rattle.cc_meaning.specs.Shapes.{tables_of}
-use Rattle.cc_meaning.specs.Alike.{In, here, there}
-use Rattle.cc_scope.specs.Lists.{Name, index_of, later, new_names, distinct, or_zero, or_else}
+use Rattle.cc_scope.specs.Lists.{Name, index_of, later, new_names, distinct, or_else}
 use Rattle.cc_scope.specs.Resolve.{Outer, Frames, lookup, in_frame, outwards, global_from, global_named, Source, outer_of, all_declared, chunk_by, chunk_info, outer_info, globals_of, program_of}
 use Rattle.cc_scope.specs.Refusals.{global_of}
-use Rattle.cc_scope.proofs.Names.{eq_self, eq_equal}
 use Rattle.cc_scope.proofs.Declared.{length_map}
 use Rattle.cc_scope.proofs.Numbers.{first_part, indexed}
-use Rattle.cc_scope.proofs.Globals.{index_in, at_in, not_index, in_is_in, not_in, without_outer, after}
-use Rattle.cc_scope.proofs.Accepted.{SameSort, same_extern, same_built, same_chunk}
+use Rattle.cc_scope.proofs.Globals.{index_in, at_in, in_is_in, without_outer, after}
+use Rattle.cc_scope.proofs.Accepted.{SameSort, same_chunk}
 use Rattle.cc_scope.proofs.Answered.{sort_self, first, later_chunk}
 use Rattle.cc_scope.proofs.Pieces.{over, depth}
 

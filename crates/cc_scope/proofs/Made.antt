@@ -1,33 +1,31 @@
 -- What is resolved without a refusal is well made, where nothing is annotated.
-use Rattle.std.proofs.Common.{◌≡◌, refl, sym, ap, ◌∙◌, subst, arith, ◌⊎◌, inl, inr, ℕ, zero, suc, ◌+◌, ◌^◌, ◌<◌, ◌≤◌, lit<, Bool, true, false, not, cond, List, [], ◌∷◌, ◌++◌, length, map, Option, Some, None, is_some, length-append}
+use Rattle.std.proofs.Common.{◌≡◌, refl, sym, ap, ◌∙◌, subst, arith, ◌⊎◌, inl, inr, ℕ, zero, suc, ◌+◌, ◌^◌, ◌<◌, ◌≤◌, lit<, Bool, true, false, not, cond, List, [], ◌∷◌, ◌++◌, length, map, Option, Some, None, length-append}
 use Rattle.std.specs.Prelude.{slice_get}
-use Rattle.std.proofs.lemmas.Option.{slice_get_within}
 use Rattle.cc_ast.specs.declared.place.Place.{Place}
 use Rattle.cc_ast.specs.declared.tables.GlobalInfo.{GlobalInfo}
 use Rattle.cc_ast.specs.Syntax.{Scope, Program}
 use Rattle.cc_meaning.specs.Operators.{is_in}
 use Rattle.cc_meaning.specs.Names.{builtin_globals}
-use Rattle.cc_meaning.specs.State.{Tables}
 use Rattle.cc_meaning.specs.Shapes.{tables_of}
 use Rattle.cc_meaning.specs.Alike.{In, here, there}
 use Rattle.cc_meaning.specs.Parts.{Part, has_site, uses_prop, uses_doc, mentions, declares, makes, sets_method, stmts_parts}
 use Rattle.cc_meaning.specs.WellMade.{parts_of, is_chunk, opened, functions_in, all_functions, IsDistinct, IsScope, IsMade, IsPart, IsCounted, path_count, method_count, WellMade, stmts_well}
 use Rattle.cc_meaning.specs.WellMade as w
-use Rattle.cc_grammar.specs.RawTree.{Named, RawStmts}
-use Rattle.cc_scope.specs.Lists.{Name, new_names, distinct, or_zero}
-use Rattle.cc_scope.specs.Marks.{Mark, a_site, a_name, a_function, names, sites, functions, Counters, stmts_marks, stmts_declare}
-use Rattle.cc_scope.specs.Resolve.{Outer, Frames, scope_of, chunk_scope, outer_info, chunk_info, globals_of, prop_info, kept_of, no_doc, Source, all_marks, all_declared, outer_of, program_of, stmts_of, stmts_scopes}
-use Rattle.cc_scope.specs.Refusals.{refusals_of, stmts_refused, resolve, answered}
-use Rattle.cc_scope.specs.Grammatical.{at_head, stmts_fit}
+use Rattle.cc_grammar.specs.RawTree.{RawStmts}
+use Rattle.cc_scope.specs.Lists.{Name, new_names, distinct}
+use Rattle.cc_scope.specs.Marks.{Mark, a_site, a_name, a_function, names, sites, functions, Counters}
+use Rattle.cc_scope.specs.Resolve.{Frames, scope_of, chunk_scope, outer_info, chunk_info, globals_of, prop_info, kept_of, no_doc, Source, all_marks, all_declared, outer_of, program_of, stmts_of}
+use Rattle.cc_scope.specs.Refusals.{refusals_of, resolve, answered}
+use Rattle.cc_scope.specs.Grammatical.{at_head}
 use Rattle.cc_scope.specs.Promises.{Readable, Grammatical, AreFew}
-use Rattle.cc_scope.proofs.Declared.{in_left, in_right, in_either, length_map}
+use Rattle.cc_scope.proofs.Declared.{in_either, length_map}
 use Rattle.cc_scope.proofs.Globals.{at_in}
 use Rattle.cc_scope.proofs.Numbers.{head_or}
 use Rattle.cc_scope.proofs.Counts.{scopes_counted, places_counted, exact}
 use Rattle.cc_scope.proofs.Parents.{no_loop}
 use Rattle.cc_scope.proofs.Tables as tables
 use Rattle.cc_scope.proofs.Tables.{split_at}
-use Rattle.cc_scope.proofs.Pieces.{Rising, no_more, one_more, spot, Stands, chunk_stands, function_stands, StandsAt}
+use Rattle.cc_scope.proofs.Pieces.{Rising, no_more, one_more, spot, Stands, chunk_stands, function_stands}
 use Rattle.cc_scope.proofs.Parts.{stmts}
 use Rattle.cc_scope.proofs.Standing.{each_stands, given, the_parts, top_is}
 use Rattle.cc_scope.proofs.Sound.{part, meant}

@@ -1,5 +1,5 @@
 -- The pieces of all trees.
-use Rattle.std.proofs.Common.{◌≡◌, refl, ℕ, suc, Bool, true, false, not, ◌&&◌, ◌||◌, nat_lt, List, [], ◌∷◌, ◌++◌, Option, Some, None, is_some}
+use Rattle.std.proofs.Common.{◌≡◌, refl, ℕ, suc, Bool, true, false, not, ◌||◌, nat_lt, List, [], ◌∷◌, Option, Some, None, is_some}
 use Rattle.cc_ast.specs.Syntax.{Expr, Target}
 use Rattle.cc_ast.specs.Syntax as p
 use Rattle.cc_meaning.specs.State.{Path, Tables}
@@ -14,7 +14,7 @@ use Rattle.cc_grammar.specs.RawTree.{Named, RawExpr, RawTarget, RawExprs, MaybeE
 use Rattle.cc_grammar.specs.RawTree as raw
 use Rattle.cc_scope.specs.Lists.{Name}
 use Rattle.cc_scope.specs.Marks.{Counters, next, past, expr_marks, target_marks, exprs_marks, maybe_marks, fields_marks, vars_marks, init_marks, heading_marks, stmt_marks, stmts_marks, catch_marks, finally_marks, cases_marks, key_marks, vars_declare, init_declares, heading_declares, stmt_declares, stmts_declare, catch_declares, finally_declares, cases_declare}
-use Rattle.cc_scope.specs.Resolve.{Outer, Frames, lookup, inner, behind, expr_of, target_of, exprs_of, maybe_of, fields_of, vars_of, init_of, heading_of, stmt_of, stmts_of, catch_of, finally_of, cases_of, expr_scopes, target_scopes, exprs_scopes, maybe_scopes, fields_scopes, vars_scopes, init_scopes, heading_scopes, stmt_scopes, stmts_scopes, catch_scopes, finally_scopes, cases_scopes, Source, outer_of, program_of}
+use Rattle.cc_scope.specs.Resolve.{Outer, Frames, inner, behind, expr_of, target_of, exprs_of, maybe_of, fields_of, vars_of, init_of, heading_of, stmt_of, stmts_of, catch_of, finally_of, cases_of, expr_scopes, target_scopes, exprs_scopes, maybe_scopes, fields_scopes, vars_scopes, init_scopes, heading_scopes, stmt_scopes, stmts_scopes, catch_scopes, finally_scopes, cases_scopes, Source, outer_of, program_of}
 use Rattle.cc_scope.specs.Refusals.{is_built_callee, is_member_use, variable_meant, within, expr_refused, target_refused, exprs_refused, maybe_refused, fields_refused, vars_refused, init_refused, heading_refused, stmt_refused, stmts_refused, catch_refused, finally_refused, cases_refused}
 use Rattle.cc_scope.specs.Grammatical.{operand_fits, loop_labels, default_clauses, has_catch, has_finally, at_head, expr_fits, target_fits, exprs_fit, maybe_fits, fields_fit, vars_fit, some_vars_fit, init_fits, heading_fits, stmt_fits, stmts_fit, catch_fits, finally_fits, cases_fit}
 use Rattle.cc_scope.proofs.Pieces.{over, depth, spot, Piece, leaf, with_site, with_name, with_doc, key, also, both, three, four, with_assigned, then_expression, alone}

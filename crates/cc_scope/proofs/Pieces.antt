@@ -1,32 +1,29 @@
 -- What a part of a tree becomes, part by part: the parts of its scope, the functions in it, and the names that it
 -- declares. One record is made along the trees, and joined as lists are.
-use Rattle.std.proofs.Common.{◌≡◌, refl, sym, ap, ◌∙◌, subst, arith, ◌⊎◌, inl, inr, ℕ, zero, suc, ◌+◌, ◌<◌, ◌≤◌, Bool, true, false, ◌&&◌, ◌||◌, List, [], ◌∷◌, ◌++◌, length, Option, Some, None, append_assoc, append-nil, length-append}
+use Rattle.std.proofs.Common.{◌≡◌, refl, sym, ap, ◌∙◌, subst, arith, inl, inr, ℕ, suc, ◌+◌, ◌<◌, ◌≤◌, Bool, true, false, ◌&&◌, ◌||◌, List, [], ◌∷◌, ◌++◌, length, Option, Some, append_assoc, append-nil, length-append}
 use Rattle.std.specs.Prelude.{slice_get}
 use Rattle.cc_ast.specs.declared.place.Place.{Place}
 use Rattle.cc_ast.specs.declared.tree.Ref.{Ref}
 use Rattle.cc_ast.specs.Syntax.{Scope, Program}
-use Rattle.cc_ast.specs.Syntax as p
 use Rattle.cc_meaning.specs.State.{Path, Tables}
 use Rattle.cc_meaning.specs.Operators.{is_in}
 use Rattle.cc_meaning.specs.Names.{builtin_globals}
-use Rattle.cc_meaning.specs.Monad.{pick}
 use Rattle.cc_meaning.specs.Shapes.{tables_of}
 use Rattle.cc_meaning.specs.Alike.{In, here, there}
-use Rattle.cc_meaning.specs.Parts.{Part, has_site, uses_prop, uses_doc, mentions, declares, makes, sets_method, expr_parts, target_parts, key_parts, stmts_parts}
+use Rattle.cc_meaning.specs.Parts.{Part, has_site, uses_prop, uses_doc, mentions, declares, makes, sets_method, key_parts, stmts_parts}
 use Rattle.cc_meaning.specs.WellMade.{parts_of, functions_in}
 use Rattle.cc_grammar.specs.RawTree.{Named, RawKey, RawStmts}
 use Rattle.cc_grammar.specs.RawTree as raw
 use Rattle.cc_scope.specs.Lists.{Name}
 use Rattle.cc_scope.specs.Marks.{Mark, a_site, a_name, a_function, functions, sites, names, Counters, next, past, key_marks, stmts_marks, stmts_declare}
-use Rattle.cc_scope.specs.Resolve.{Outer, Frames, lookup, ref_of, ref_by, var_by, prop_of, key_of, inner, behind, scope_of, stmts_of, stmts_scopes, chunk_scope, Source, all_marks, outer_of, program_of}
-use Rattle.cc_scope.specs.Refusals.{Refusal, Spot, read_by, write_by, declared_by, repeated, stmts_refused}
+use Rattle.cc_scope.specs.Resolve.{Outer, Frames, lookup, ref_of, prop_of, key_of, inner, behind, scope_of, stmts_of, stmts_scopes, chunk_scope, Source, all_marks, outer_of, program_of}
+use Rattle.cc_scope.specs.Refusals.{Refusal, Spot, stmts_refused}
 use Rattle.cc_scope.specs.Grammatical.{at_head, stmts_fit}
 use Rattle.cc_scope.proofs.Declared.{in_left, in_right, in_either}
 use Rattle.cc_scope.proofs.Law.{functions_append, names_append}
 use Rattle.cc_scope.proofs.Numbers.{first_part}
 use Rattle.cc_scope.proofs.Globals.{after}
 use Rattle.cc_scope.proofs.Tables.{split_at}
-use Rattle.cc_scope.proofs.Whole.{body_is}
 
 -- ---- lists
 

@@ -1,26 +1,23 @@
 -- Each part of each scope of what is resolved is sound.
-use Rattle.std.proofs.Common.{◌≡◌, refl, sym, ap, ◌∙◌, subst, arith, ◌⊎◌, inl, inr, ℕ, zero, suc, ◌+◌, ◌<◌, ◌≤◌, lit<, Bool, true, false, not, ◌||◌, nat_eq, nat_lt, cond, List, [], ◌∷◌, ◌++◌, length, map, Option, Some, None, is_some, length-append}
+use Rattle.std.proofs.Common.{◌≡◌, refl, sym, ap, ◌∙◌, subst, arith, inl, inr, ℕ, zero, suc, ◌+◌, ◌<◌, ◌≤◌, lit<, Bool, true, false, ◌||◌, nat_lt, List, [], ◌∷◌, ◌++◌, length, map, Option, Some, None, length-append}
 use Rattle.std.specs.Prelude.{slice_get}
-use Rattle.std.proofs.lemmas.Option.{slice_get_within, slice_get-get_or}
+use Rattle.std.proofs.lemmas.Option.{slice_get_within}
 use Rattle.std.proofs.lemmas.Bool.Decides.{nat_tests}
 use Rattle.cc_ast.specs.declared.place.Place.{Place}
 use Rattle.cc_ast.specs.declared.tree.Ref.{Ref}
-use Rattle.cc_ast.specs.declared.tables.Class.{Class}
 use Rattle.cc_ast.specs.declared.tables.GlobalInfo.{GlobalInfo}
-use Rattle.cc_ast.specs.Syntax.{Scope, Program, Stmts, no_stmts}
+use Rattle.cc_ast.specs.Syntax.{Scope, Program}
 use Rattle.cc_meaning.specs.Operators.{is_in}
 use Rattle.cc_meaning.specs.Names.{builtin_globals}
-use Rattle.cc_meaning.specs.Monad.{pick}
 use Rattle.cc_meaning.specs.State.{Path}
-use Rattle.cc_meaning.specs.Store.{of_chunk, global_kind, without_chunk}
+use Rattle.cc_meaning.specs.Store.{without_chunk}
 use Rattle.cc_meaning.specs.Shapes.{tables_of, body_of, body_in}
-use Rattle.cc_meaning.specs.Alike.{In, here, there}
-use Rattle.cc_meaning.specs.Parts.{Part, has_site, uses_prop, uses_doc, mentions, declares, makes, sets_method, stmts_parts}
-use Rattle.cc_meaning.specs.WellMade.{parts_of, is_chunk, Reached, Holds, of_frame, IsOwn, IsDeclared, IsSound, sound_place, sound_global, sound_outer, IsNumbered, numbered_place, numbered_global, IsPlaced, placed_global, placed_local, IsMade, HasMethod, IsPart, a_site, a_prop, a_doc, a_mention, a_declaration, a_function, a_method, IsMeant, functions_in}
-use Rattle.cc_meaning.specs.WellMade as w
-use Rattle.cc_grammar.specs.RawTree.{Named, RawStmts}
-use Rattle.cc_scope.specs.Lists.{Name, index_of, later, new_names, distinct, or_zero, or_else}
-use Rattle.cc_scope.specs.Marks.{Mark, names, sites, Counters, stmts_declare}
+use Rattle.cc_meaning.specs.Alike.{In}
+use Rattle.cc_meaning.specs.Parts.{Part, uses_prop, uses_doc, mentions, declares, sets_method, stmts_parts}
+use Rattle.cc_meaning.specs.WellMade.{parts_of, is_chunk, Reached, of_frame, IsDeclared, IsSound, sound_place, sound_global, sound_outer, IsNumbered, numbered_place, numbered_global, placed_global, placed_local, IsPart, a_site, a_prop, a_doc, a_mention, a_declaration, a_function, a_method, IsMeant}
+use Rattle.cc_grammar.specs.RawTree.{RawStmts}
+use Rattle.cc_scope.specs.Lists.{Name, index_of, new_names, distinct, or_zero, or_else}
+use Rattle.cc_scope.specs.Marks.{names, Counters, stmts_declare}
 use Rattle.cc_scope.specs.Resolve.{Outer, Frames, lookup, in_frame, global_from, global_named, ref_of, ref_by, prop_of, named, locals, with_own, inner, behind, scope_of, chunk_scope, chunk_by, chunk_info, outer_info, globals_of, no_doc, Source, all_marks, all_declared, outer_of, program_of}
 use Rattle.cc_scope.specs.Refusals.{refusals_of}
 use Rattle.cc_scope.specs.Promises.{Readable, Grammatical}
@@ -29,10 +26,9 @@ use Rattle.cc_scope.proofs.Numbers.{indexed, news_have, is_in_in}
 use Rattle.cc_scope.proofs.Globals.{at_in, not_index, in_is_in, index_in}
 use Rattle.cc_scope.proofs.Tables.{news_in, news_once}
 use Rattle.cc_scope.proofs.Counts.{places_counted}
-use Rattle.cc_scope.proofs.Whole.{body_is}
-use Rattle.cc_scope.proofs.Pieces.{over, depth, IsFree, Plain, plain_site, plain_prop, plain_doc, plain_mention, plain_declaration, plain_function, plain_method, Stands, chunk_stands, function_stands, StandsAt, Shown}
-use Rattle.cc_scope.proofs.Lookups.{same_global, global_found, free_global, free_place, GlobalFact, outer_fact, inner_fact, global_fact, inner_entry, inner_kind}
-use Rattle.cc_scope.proofs.Standing.{each_stands, each_chunk, ChunkAt, plain, shown, top_is, own_variable, found}
+use Rattle.cc_scope.proofs.Pieces.{over, depth, IsFree, Plain, plain_site, plain_prop, plain_doc, plain_mention, plain_declaration, plain_function, plain_method, Stands, chunk_stands, function_stands}
+use Rattle.cc_scope.proofs.Lookups.{global_found, free_global, free_place, GlobalFact, outer_fact, inner_fact, global_fact, inner_entry, inner_kind}
+use Rattle.cc_scope.proofs.Standing.{each_stands, each_chunk, plain, shown, top_is, own_variable, found}
 
 -- ---- the least chunk that declares a name
 

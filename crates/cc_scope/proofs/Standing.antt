@@ -1,19 +1,18 @@
 -- Each scope of what is resolved has its frames and its text, and a variable that is found in them is there.
-use Rattle.std.proofs.Common.{◌≡◌, refl, sym, ap, ◌∙◌, subst, arith, ◌⊎◌, inl, inr, ℕ, zero, suc, ◌+◌, ◌<◌, ◌≤◌, Bool, true, false, not, nat_lt, List, [], ◌∷◌, ◌++◌, length, map, Option, Some, None, is_some, length-append}
+use Rattle.std.proofs.Common.{◌≡◌, refl, sym, ap, ◌∙◌, subst, arith, ◌⊎◌, inl, inr, ℕ, zero, suc, ◌+◌, ◌<◌, ◌≤◌, Bool, true, false, not, nat_lt, List, [], ◌∷◌, ◌++◌, length, Option, Some, None, is_some, length-append}
 use Rattle.std.specs.Prelude.{slice_get}
 use Rattle.std.proofs.lemmas.Option.{slice_get_within}
 use Rattle.std.proofs.lemmas.Bool.Decides.{nat_tests}
-use Rattle.cc_ast.specs.declared.place.Place.{Place}
 use Rattle.cc_ast.specs.declared.tree.Ref.{Ref}
-use Rattle.cc_ast.specs.Syntax.{Scope, Program}
+use Rattle.cc_ast.specs.Syntax.{Scope}
 use Rattle.cc_meaning.specs.Shapes.{tables_of}
 use Rattle.cc_meaning.specs.Alike.{In, here, there}
-use Rattle.cc_meaning.specs.Parts.{Part, declares, makes, stmts_parts}
+use Rattle.cc_meaning.specs.Parts.{Part, declares, stmts_parts}
 use Rattle.cc_meaning.specs.WellMade.{parts_of, is_chunk, Holds, of_catch, of_frame, of_own, of_outer, of_outer_own, IsOwn, is_param, is_declared}
 use Rattle.cc_grammar.specs.RawTree.{Named, RawStmts}
 use Rattle.cc_scope.specs.Lists.{Name, index_of, or_else}
-use Rattle.cc_scope.specs.Marks.{Mark, functions, sites, names, Counters, past, stmts_marks, stmts_declare}
-use Rattle.cc_scope.specs.Resolve.{Outer, Frames, lookup, in_frame, outwards, global_from, global_named, ref_of, ref_by, named, locals, with_own, inner, behind, scope_of, stmts_of, stmts_scopes, chunk_scope, chunk_scopes, inner_scopes, begin, Source, all_marks, outer_of, program_of}
+use Rattle.cc_scope.specs.Marks.{sites, names, Counters, past, stmts_marks, stmts_declare}
+use Rattle.cc_scope.specs.Resolve.{Frames, lookup, in_frame, global_from, global_named, ref_of, ref_by, named, locals, with_own, inner, behind, scope_of, stmts_of, stmts_scopes, chunk_scope, chunk_scopes, inner_scopes, begin, Source, all_marks, outer_of, program_of}
 use Rattle.cc_scope.specs.Refusals.{all_refused, refusals_of, stmts_refused}
 use Rattle.cc_scope.specs.Grammatical.{at_head, stmts_fit}
 use Rattle.cc_scope.specs.Promises.{Readable, Grammatical}
@@ -24,7 +23,7 @@ use Rattle.cc_scope.proofs.Globals.{after, index_in}
 use Rattle.cc_scope.proofs.Tables.{split_at, news_in}
 use Rattle.cc_scope.proofs.Whole.{body_is, length_chunks}
 use Rattle.cc_scope.proofs.Counts.{stmts_counts}
-use Rattle.cc_scope.proofs.Pieces.{both_empty, sites_append, over, depth, spot, IsFree, Plain, Given, Body, Stands, chunk_stands, function_stands, StandsAt, Shown, Piece}
+use Rattle.cc_scope.proofs.Pieces.{both_empty, sites_append, over, depth, spot, Plain, Body, Stands, chunk_stands, function_stands, StandsAt, Shown}
 use Rattle.cc_scope.proofs.Parts.{stmts}
 use Rattle.cc_scope.proofs.Lookups.{same_place, outwards_place, single_index, free_place}
 

@@ -11,7 +11,6 @@ use Rattle.cc_meaning.specs.Operators.{is_in}
 use Rattle.cc_meaning.specs.Names.{builtin_globals, always_kept}
 use Rattle.cc_meaning.specs.Monad.{pick}
 use Rattle.cc_meaning.specs.Store.{without_chunk}
-use Rattle.cc_meaning.specs.Shapes.{tables_of}
 use Rattle.cc_meaning.specs.Alike.{In, here, there}
 use Rattle.cc_meaning.specs.WellMade.{IsDistinct, IsProp, IsClass, IsOrdered, IsGlobal, ArePaths, IsDoc, types_in, type_in, types_in_all, outer_names}
 use Rattle.cc_grammar.specs.RawTree.{RawStmts}

@@ -1,25 +1,21 @@
 -- The statements of what is resolved are of the language: what is read is, and no name is refused.
-use Rattle.std.proofs.Common.{◌≡◌, refl, sym, ap, ◌∙◌, subst, arith, ℕ, zero, suc, ◌+◌, Bool, true, false, not, ◌&&◌, ◌||◌, nat_eq, nat_lt, List, [], ◌∷◌, ◌++◌, Option, Some, None}
+use Rattle.std.proofs.Common.{◌≡◌, refl, sym, ap, ◌∙◌, subst, ℕ, suc, Bool, true, false, not, ◌&&◌, ◌||◌, nat_eq, nat_lt, List, [], ◌∷◌, ◌++◌, Option, Some, None}
 use Rattle.cc_ast.specs.declared.operator.UnOp.{UnOp}
 use Rattle.cc_ast.specs.declared.operator.UnOp.TheVariants.{Delete}
-use Rattle.cc_ast.specs.declared.operator.UnOp.TheVariants as un
 use Rattle.cc_ast.specs.declared.place.Place.{Place}
 use Rattle.cc_ast.specs.declared.tree.Ref.{Ref}
-use Rattle.cc_ast.specs.Syntax.{Expr}
-use Rattle.cc_ast.specs.Syntax as p
-use Rattle.cc_meaning.specs.State.{Tables, Path}
+use Rattle.cc_meaning.specs.State.{Tables}
 use Rattle.cc_meaning.specs.Monad.{pick}
-use Rattle.cc_meaning.specs.Operators.{is_in}
-use Rattle.cc_meaning.specs.Store.{Global, dotted, name_of, global_kind}
+use Rattle.cc_meaning.specs.Store.{global_kind}
 use Rattle.cc_meaning.specs.Shapes.{tables_of, path_of, path_of_ref}
-use Rattle.cc_meaning.specs.Alike.{In, here, there}
-use Rattle.cc_meaning.specs.Parts.{exact_prim, assigns, may_read, may_write, is_no_built, is_own_global, is_string, has_use, is_use, global_at, built_callee, is_variable, takes_operand, expr_well, target_well, exprs_well, fields_well}
-use Rattle.cc_meaning.specs.WellMade.{Open, nested, in_loop, may_break, may_continue, counted, labels_for, defaults, is_there, option_well, vars_well, some_vars, init_well, name_well, stmt_well, stmts_well, maybe_well, cases_well}
+use Rattle.cc_meaning.specs.Alike.{In, here}
+use Rattle.cc_meaning.specs.Parts.{exact_prim, may_read, may_write, is_no_built, is_own_global, is_use, global_at, built_callee, is_variable, takes_operand, expr_well, target_well, exprs_well, fields_well}
+use Rattle.cc_meaning.specs.WellMade.{Open, nested, in_loop, counted, labels_for, defaults, is_there, option_well, vars_well, some_vars, init_well, name_well, stmt_well, stmts_well, maybe_well, cases_well}
 use Rattle.cc_grammar.specs.RawTree.{Named, RawExpr, RawTarget, RawExprs, MaybeExpr, RawFields, RawDeclarators, RawInit, RawForTarget, RawStmt, RawStmts, RawCatch, RawFinally, RawCases}
 use Rattle.cc_grammar.specs.RawTree as raw
 use Rattle.cc_scope.specs.Lists.{Name}
 use Rattle.cc_scope.specs.Marks.{Mark, a_site, a_name, names, Counters, next, past, expr_marks, target_marks, exprs_marks, maybe_marks, fields_marks, vars_marks, init_marks, heading_marks, stmt_marks, stmts_marks, catch_marks, finally_marks, cases_marks, key_marks}
-use Rattle.cc_scope.specs.Resolve.{Outer, Frames, lookup, ref_of, ref_by, var_by, prop_of, expr_of, target_of, exprs_of, maybe_of, fields_of, vars_of, init_of, heading_of, stmt_of, stmts_of, catch_of, finally_of, cases_of, Source, all_marks, outer_of, program_of}
+use Rattle.cc_scope.specs.Resolve.{Outer, Frames, lookup, ref_of, ref_by, var_by, expr_of, target_of, exprs_of, maybe_of, fields_of, vars_of, init_of, heading_of, stmt_of, stmts_of, catch_of, finally_of, cases_of, Source, all_marks, outer_of, program_of}
 use Rattle.cc_scope.specs.Refusals.{Refusal, Spot, global_of, read_by, write_by, global_meant, is_string_use, is_member_use, variable_meant, is_built_callee, declared_by, repeated, within, behind_catch, expr_refused, target_refused, exprs_refused, maybe_refused, fields_refused, vars_refused, init_refused, heading_refused, stmt_refused, stmts_refused, catch_refused, finally_refused, cases_refused}
 use Rattle.cc_scope.specs.Grammatical.{names_variable, operand_fits, statements, loop_labels, default_clauses, has_catch, has_finally, expr_fits, target_fits, exprs_fit, maybe_fits, fields_fit, vars_fit, some_vars_fit, init_fits, heading_fits, stmt_fits, stmts_fit, catch_fits, finally_fits, cases_fit}
 use Rattle.cc_scope.proofs.Declared.{in_left, in_right}

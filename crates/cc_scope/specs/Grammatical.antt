@@ -1,7 +1,6 @@
 -- Trees of the language, as they are read: what the grammar and the refused constructs leave (ECMA-262
 -- 5.1, 11 to 13). The reader answers no other tree.
-use Rattle.std.specs.Prelude.{ℕ, suc, Bool, true, false, not, ◌&&◌, ◌||◌, nat_eq, nat_lt, List, [], ◌∷◌, ◌++◌, Option, Some, None}
-use Rattle.cc_ast.specs.declared.operator.BinOp.{BinOp}
+use Rattle.std.specs.Prelude.{ℕ, suc, Bool, true, false, not, ◌&&◌, ◌||◌, nat_eq, nat_lt, List, [], ◌∷◌}
 use Rattle.cc_ast.specs.declared.operator.UnOp.{UnOp}
 use Rattle.cc_ast.specs.declared.operator.UnOp.TheVariants.{Delete}
 use Rattle.cc_meaning.specs.Operators.{is_in}
