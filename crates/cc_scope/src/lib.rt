@@ -1,0 +1,34 @@
+//! Resolution as a pure definition: names become places of frames, globals by number, and functions
+//! go into one table. The functions here state laws of it, and do nothing.
+#![tactic(auto)]
+
+ghost use Rattle.cc_scope.specs.Promises.{ReadsBack, TablesAreMade, AreCounted, IsExact, NoLoop, IsAnswered, IsWellMade, IsLimited};
+
+/// What is written with names and resolved again is alike to what was written.
+pub fn reads_back()
+    ensures { ReadsBack }
+{}
+
+/// What is written with names is not refused: resolution answers it.
+pub fn written_is_answered()
+    ensures { IsAnswered }
+{}
+
+/// The tables of what is resolved are those of a well made program.
+pub fn tables_are_made()
+    ensures { TablesAreMade }
+{}
+
+/// What resolution answers is a well made program, where nothing is annotated.
+pub fn resolved_is_well_made()
+    ensures { IsWellMade }
+{}
+
+/// A program is answered exactly where nothing is refused; its scopes and places are counted, and the
+/// function that is one too many is named exactly where the scopes are more than their limit.
+pub fn resolution_is_exact()
+    ensures of_refusals { IsExact }
+    ensures of_counts { AreCounted }
+    ensures of_parents { NoLoop }
+    ensures of_limits { IsLimited }
+{}
