@@ -1,6 +1,7 @@
 -- What the laws of resolution say.
-use Rattle.std.specs.Prelude.{◌≡◌, ◌↔◌, ℕ, zero, suc, ◌+◌, ◌^◌, ◌<◌, ◌≤◌, false, List, [], ◌++◌, length, map, slice_get, Some, None, IsTrue, IsFalse}
+use Rattle.std.specs.Prelude.{◌≡◌, ◌↔◌, ℕ, zero, suc, ◌+◌, ◌^◌, ◌<◌, ◌≤◌, false, List, [], ◌∷◌, ◌++◌, length, map, slice_get, Some, None, IsTrue, IsFalse}
 use Rattle.cc_ast.specs.Syntax.{Scope, Program}
+use Rattle.cc_ast.specs.declared.place.Place.{Place}
 use Rattle.cc_ast.specs.declared.tables.ChunkInfo.{ChunkInfo}
 use Rattle.cc_ast.specs.declared.tables.GlobalInfo.{GlobalInfo}
 use Rattle.cc_ast.specs.declared.tables.PropInfo.{PropInfo}
@@ -14,11 +15,12 @@ use Rattle.cc_meaning.specs.Shapes.{tables_of, body_of}
 use Rattle.cc_meaning.specs.Alike.{In, Alike}
 use Rattle.cc_scope.specs.Lists.{Name}
 use Rattle.cc_scope.specs.Resolve.{Source, program_of, all_marks, all_declared}
-use Rattle.cc_scope.specs.Marks.{names, functions, sites}
+use Rattle.cc_scope.specs.Marks.{names, functions, sites, stmts_declare}
 use Rattle.cc_scope.specs.Refusals.{answered, refusals_of, resolve}
 use Rattle.cc_grammar.specs.RawTree.{RawStmts}
 use Rattle.cc_scope.specs.Grammatical.{at_head, stmts_fit}
 use Rattle.cc_scope.specs.Limits.{most_scopes, too_many}
+use Rattle.cc_scope.specs.Annotations.{Comment, is_at, comment_at, Declaration, stmts_at, comment_on}
 use Rattle.cc_scope.specs.Written.{Naming, Apart, stmts_in, ChunksN}
 
 -- the numbers that chunks declare, from a chunk on
@@ -110,3 +112,15 @@ NoLoop = (S : Source) (f : ℕ) → Encloses (program_of S) f f → ⊥
 -- A function is one too many exactly where the scopes are more than their limit.
 abbrev pub IsLimited : Type 0
 IsLimited = (S : Source) → length S.trees ≤ most_scopes → (too_many S ≡ None) ↔ (length (program_of S).scopes ≤ most_scopes)
+
+-- of several comments before one token the last counts
+abbrev pub LastCounts : Type 0
+LastCounts = (q : Place) (cs ds : List Comment) (c : Comment) → IsTrue (is_at q c.next) → comment_at q ds ≡ None → comment_at q (cs ++ c ∷ ds) ≡ Some c.text
+
+-- of several annotated declarations of one variable the last counts
+abbrev pub LastDeclarationCounts : Type 0
+LastDeclarationCounts = (x : Name) (ds es : List Declaration) (d : Declaration) (cs : List Comment) (t : List ℕ) → d.variable ≡ x → comment_at d.place cs ≡ Some t → comment_on x es cs ≡ None → comment_on x (ds ++ d ∷ es) cs ≡ Some t
+
+-- what is annotated as a variable of statements, they declare
+abbrev pub AnnotatedAreDeclared : Type 0
+AnnotatedAreDeclared = (t : RawStmts) (d : Declaration) → In d (stmts_at t) → In d.variable (stmts_declare t)

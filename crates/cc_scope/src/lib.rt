@@ -2,7 +2,7 @@
 //! go into one table. The functions here state laws of it, and do nothing.
 #![tactic(auto)]
 
-ghost use Rattle.cc_scope.specs.Promises.{ReadsBack, TablesAreMade, AreCounted, IsExact, NoLoop, IsAnswered, IsWellMade, IsLimited};
+ghost use Rattle.cc_scope.specs.Promises.{ReadsBack, TablesAreMade, AreCounted, IsExact, NoLoop, IsAnswered, IsWellMade, IsLimited, LastCounts, LastDeclarationCounts, AnnotatedAreDeclared};
 
 /// What is written with names and resolved again is alike to what was written.
 pub fn reads_back()
@@ -31,4 +31,11 @@ pub fn resolution_is_exact()
     ensures of_counts { AreCounted }
     ensures of_parents { NoLoop }
     ensures of_limits { IsLimited }
+{}
+
+/// Of several annotation comments before one token, and of several on one variable, the last counts.
+pub fn the_last_comment_counts()
+    ensures of_places { LastCounts }
+    ensures of_variables { LastDeclarationCounts }
+    ensures of_declarations { AnnotatedAreDeclared }
 {}
