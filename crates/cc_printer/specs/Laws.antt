@@ -1,0 +1,81 @@
+-- The laws of printing.
+use Rattle.std.specs.Prelude.{◌≡◌, ℕ, ◌<◌, ◌≤◌, ◌⊎◌, List, [], ◌∷◌, length, true, false, encode_utf8_all, Option, None}
+use Rattle.std.specs.List.{list_all}
+use Rattle.cc_ast.specs.declared.place.Place.{Place}
+use Rattle.cc_ast.specs.declared.reading.Refusal.{Refusal}
+use Rattle.cc_lexer.specs.declared.token.Token.{Token}
+use Rattle.cc_text.specs.Characters.{first_is}
+use Rattle.cc_text.specs.Utf16.{utf16}
+use Rattle.cc_lexer.specs.Characters.{is_start, is_part}
+use Rattle.cc_lexer.specs.Items.{is_reserved}
+use Rattle.cc_lexer.specs.Lexes.{Lexed}
+use Rattle.cc_grammar.specs.Symbols.{Kind, Symbols, lexemes}
+use Rattle.cc_grammar.specs.RawTree.{RawExpr, RawStmt, RawStmts, stmts}
+use Rattle.cc_grammar.specs.Grammar.{E, of_program}
+use Rattle.cc_grammar.specs.Fronts.{Derives, ReadsWithin}
+use Rattle.cc_grammar.specs.Laws.{IsRead}
+use Rattle.cc_printer.specs.Printing.{needs, parens, expr, tokens}
+use Rattle.cc_printer.specs.Bare.{bare, bare_stmts}
+use Rattle.cc_printer.specs.Printable.{Printable, PrintableStmts, weight, weight_stmts}
+use Rattle.cc_printer.specs.Placed.{symbols, at_places}
+use Rattle.cc_printer.specs.Spelling.{glue, AllSound, IsName}
+use Rattle.cc_printer.specs.Spellable.{SpellableStmts}
+
+-- a tree that is derived, and is the printed one up to places
+pub record FoundExpr (d : ℕ) (l : ℕ) (xs : Symbols) (a : RawExpr) (ys : Symbols) : Type 0 where
+  pub tree : RawExpr
+  pub derives : E d false l xs tree ys
+  pub same : bare tree ≡ bare a
+
+pub record Found (h : ℕ) (xs : Symbols) (ss : RawStmts) : Type 0 where
+  pub tree : List RawStmt
+  pub derives : Derives h xs tree
+  pub same : bare_stmts (stmts tree) ≡ bare_stmts ss
+
+-- What is printed at a level is derived at that level, also where no `in` may stand, whatever follows and wherever the tokens stand.
+abbrev pub DerivesAtLevel : Type 0
+DerivesAtLevel = (f : List Kind → Place) (a : RawExpr) (d l : ℕ) (ks : List Kind) → Printable a → weight a < d
+    → FoundExpr d l (symbols f (parens (needs l false a) (expr a) false ks)) a (symbols f ks)
+
+-- The tokens of a tree derive it, with no insertion.
+abbrev pub TokensDerive : Type 0
+TokensDerive = (f : List Kind → Place) (ss : RawStmts) → PrintableStmts of_program ss → Found (weight_stmts ss) (symbols f (tokens ss)) ss
+
+-- the text has tokens of these kinds, on one line and with no annotations
+pub record HasTokens (text : List ℕ) (file : ℕ) (ks : List Kind) : Type 0 where
+  pub tokens : List Token
+  pub lexed : Lexed text file tokens None
+  pub places : List Place
+  pub same : lexemes false tokens None ≡ at_places places ks
+  pub long : length places ≡ length ks
+
+-- The text of tokens has exactly these tokens.
+abbrev pub TextHasTokens : Type 0
+TextHasTokens = (ks : List Kind) (file : ℕ) → AllSound ks → HasTokens (glue ks) file ks
+
+-- The text has tokens, and they are read as a tree that is the printed one up to places: by the grammar, as no other tree, and by
+-- the reading function.
+pub record Back (h : ℕ) (text : List ℕ) (file : ℕ) (ss : RawStmts) : Type 0 where
+  pub tokens : List Token
+  pub lexed : Lexed text file tokens None
+  pub tree : List RawStmt
+  pub reads : ReadsWithin h (lexemes false tokens None) tree
+  pub same : bare_stmts (stmts tree) ≡ bare_stmts ss
+  pub only : (ts : List Token) (s : Option Refusal) (i : ℕ) (b : List RawStmt) → Lexed text file ts s → ReadsWithin i (lexemes false ts s) b → b ≡ tree
+  pub read : (turns d : ℕ) → length (lexemes false tokens None) < turns → h ≤ d → IsRead turns d h (lexemes false tokens None) tree
+
+-- The text of a tree reads back to it, and to no other.
+abbrev pub ReadsBack : Type 0
+ReadsBack = (ss : RawStmts) (file : ℕ) → PrintableStmts of_program ss → SpellableStmts ss → Back (weight_stmts ss) (glue (tokens ss)) file ss
+
+abbrev pub AreScalars : List ℕ → Type 0
+AreScalars [] = Unit {0}
+AreScalars (c ∷ cs) = ((c < 0xD800) ⊎ ((0xDFFF < c) × (c < 0x110000))) × AreScalars cs
+
+-- The units of what the lexer reads as a name are a name.
+abbrev pub NamesAreNames : Type 0
+NamesAreNames = (cs : List ℕ) → AreScalars cs → first_is is_start cs ≡ true → list_all is_part cs ≡ true → is_reserved (encode_utf8_all cs) ≡ false → IsName (utf16 cs)
+
+-- Trees that are the same up to places and casts have the same tokens, so what is read back has the same text.
+abbrev pub SameTokens : Type 0
+SameTokens = (a b : RawStmts) → bare_stmts a ≡ bare_stmts b → tokens a ≡ tokens b

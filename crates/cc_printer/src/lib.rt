@@ -1,0 +1,35 @@
+//! Printing: the tokens of a tree and the text of tokens, as definitions, and their laws. The
+//! functions here state the laws, and do nothing.
+#![tactic(auto)]
+
+ghost use Rattle.cc_printer.specs.Laws.{DerivesAtLevel, TokensDerive, TextHasTokens, ReadsBack, NamesAreNames, SameTokens};
+
+/// What is printed at a level is derived at that level, whatever follows.
+pub fn derives_at_level()
+    ensures { DerivesAtLevel }
+{}
+
+/// The tokens of a tree derive it, with no inserted semicolon.
+pub fn tokens_derive()
+    ensures { TokensDerive }
+{}
+
+/// The text of tokens has exactly these tokens.
+pub fn text_has_tokens()
+    ensures { TextHasTokens }
+{}
+
+/// The text of a tree reads back to it, and to no other.
+pub fn text_reads_back()
+    ensures { ReadsBack }
+{}
+
+/// The units of what the lexer reads as a name are a name.
+pub fn names_are_names()
+    ensures { NamesAreNames }
+{}
+
+/// Trees that are the same up to places and casts have the same tokens.
+pub fn same_tokens()
+    ensures { SameTokens }
+{}
