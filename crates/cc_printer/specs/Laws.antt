@@ -1,5 +1,5 @@
 -- The laws of printing.
-use Rattle.std.specs.Prelude.{◌≡◌, ℕ, ◌<◌, ◌≤◌, ◌⊎◌, List, [], ◌∷◌, length, true, false, encode_utf8_all, Option, None}
+use Rattle.std.specs.Prelude.{◌≡◌, ℕ, ◌<◌, ◌≤◌, ◌⊎◌, List, [], ◌∷◌, length, true, false, encode_utf8_all, Option, None, IsTrue}
 use Rattle.std.specs.List.{list_all}
 use Rattle.cc_ast.specs.declared.place.Place.{Place}
 use Rattle.cc_ast.specs.declared.reading.Refusal.{Refusal}
@@ -14,6 +14,12 @@ use Rattle.cc_grammar.specs.RawTree.{RawExpr, RawStmt, RawStmts, stmts}
 use Rattle.cc_grammar.specs.Grammar.{E, of_program}
 use Rattle.cc_grammar.specs.Fronts.{Derives, ReadsWithin}
 use Rattle.cc_grammar.specs.Laws.{IsRead}
+use Rattle.cc_ast.specs.Syntax.{Program, Names}
+use Rattle.cc_meaning.specs.WellMade.{WellMade, is_chunk}
+use Rattle.cc_meaning.specs.Spelled.{IsSpelled}
+use Rattle.cc_printer.specs.RawOf.{raw_of}
+use Rattle.cc_printer.specs.Naming.{IsPropertyName, AreNames}
+use Rattle.cc_printer.specs.Texts.{HasUnits}
 use Rattle.cc_printer.specs.Printing.{needs, parens, expr, tokens}
 use Rattle.cc_printer.specs.Bare.{bare, bare_stmts}
 use Rattle.cc_printer.specs.Printable.{Printable, PrintableStmts, weight, weight_stmts}
@@ -79,3 +85,13 @@ NamesAreNames = (cs : List ℕ) → AreScalars cs → first_is is_start cs ≡ t
 -- Trees that are the same up to places and casts have the same tokens, so what is read back has the same text.
 abbrev pub SameTokens : Type 0
 SameTokens = (a b : RawStmts) → bare_stmts a ≡ bare_stmts b → tokens a ≡ tokens b
+
+-- Each chunk of a well made program, whose labels, properties and texts can be written, has a text under names of variables.
+abbrev pub ProgramsAreWritten : Type 0
+ProgramsAreWritten = (P : Program) (ns : Names) (chunk : ℕ) → WellMade P → IsSpelled IsName IsPropertyName P → HasUnits P → AreNames P ns → IsTrue (is_chunk P chunk)
+    → PrintableStmts of_program (raw_of P ns chunk) × SpellableStmts (raw_of P ns chunk)
+
+-- So the text of a chunk reads back to it, and to nothing else.
+abbrev pub ProgramsReadBack : Type 0
+ProgramsReadBack = (P : Program) (ns : Names) (chunk file : ℕ) → WellMade P → IsSpelled IsName IsPropertyName P → HasUnits P → AreNames P ns → IsTrue (is_chunk P chunk)
+    → Back (weight_stmts (raw_of P ns chunk)) (glue (tokens (raw_of P ns chunk))) file (raw_of P ns chunk)

@@ -2,7 +2,7 @@
 //! functions here state the laws, and do nothing.
 #![tactic(auto)]
 
-ghost use Rattle.cc_printer.specs.Laws.{DerivesAtLevel, TokensDerive, TextHasTokens, ReadsBack, NamesAreNames, SameTokens};
+ghost use Rattle.cc_printer.specs.Laws.{DerivesAtLevel, TokensDerive, TextHasTokens, ReadsBack, NamesAreNames, SameTokens, ProgramsAreWritten, ProgramsReadBack};
 
 /// What is printed at a level is derived at that level, whatever follows.
 pub fn derives_at_level()
@@ -32,4 +32,15 @@ pub fn names_are_names()
 /// Trees that are the same up to places and casts have the same tokens.
 pub fn same_tokens()
     ensures { SameTokens }
+{}
+
+/// Each chunk of a well made program, whose labels, properties and texts can be written, has a
+/// text under names of variables.
+pub fn programs_are_written()
+    ensures { ProgramsAreWritten }
+{}
+
+/// The text of such a chunk reads back to it, and to nothing else.
+pub fn programs_read_back()
+    ensures { ProgramsReadBack }
 {}
