@@ -10,7 +10,7 @@ use Rattle.cc_grammar.specs.Symbols as k
 use Rattle.cc_grammar.specs.RawTree.{RawExpr, RawTarget, RawExprs, MaybeExpr, RawFields, RawDeclarators, RawInit, RawForTarget, RawStmt, RawStmts, RawCatch, RawFinally, RawCases, Named}
 use Rattle.cc_grammar.specs.RawTree as raw
 use Rattle.cc_grammar.specs.Signs as sign
-use Rattle.cc_printer.specs.Printing.{Text, operator, prefix, stepping, assigning, identifier, key, level_of, chain, is_whole, is_has, needs, needs_before_dot, parens, braces, is_simple, is_loop_or_label, is_if, is_one, is_bare, is_bare_label, is_bare_else, first_opens, names, own_name, otherwise, expr, target, exprs, fields, maybe, initial, declarators, init, for_target, stmt, stmts, catch, finally, cases}
+use Rattle.cc_printer.specs.Printing.{TokensBefore, operator, prefix, stepping, assigning, identifier, key, level_of, chain, is_whole, is_has, needs, needs_before_dot, parens, braces, is_simple, is_loop_or_label, is_if, is_one, is_bare, is_bare_label, is_bare_else, first_opens, names, own_name, otherwise, expr, target, exprs, fields, maybe, initial, declarators, init, for_target, stmt, stmts, catch, finally, cases}
 use Rattle.cc_printer.specs.Bare.{bare_names, bare_own, bare, bare_target, bare_exprs, bare_maybe, bare_fields, bare_declarators, bare_init, bare_for_target, bare_stmt, bare_stmts, bare_catch, bare_finally, bare_cases}
 use Rattle.cc_printer.specs.Laws.{SameTokens}
 
@@ -76,7 +76,7 @@ owned : (o : Option Named) → own_name (bare_own o) ≡ own_name o
 owned None = refl
 owned (Some v) = refl
 
-other : (ss : RawStmts) (f g : Text) → f ≡ g → otherwise (bare_stmts ss) f ≡ otherwise ss g
+other : (ss : RawStmts) (f g : TokensBefore) → f ≡ g → otherwise (bare_stmts ss) f ≡ otherwise ss g
 other raw.no_stmts f g h = refl
 other (raw.more_stmts s ss) f g h = λ i ks. k.word w.Else ∷ braces (not (elses (raw.more_stmts s ss) i)) (h i) ks
 

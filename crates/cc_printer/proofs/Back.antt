@@ -15,7 +15,7 @@ use Rattle.cc_grammar.proofs.OneReading.{one}
 use Rattle.cc_grammar.proofs.CompleteTokens.{complete}
 use Rattle.cc_grammar.proofs.TextTokens.{has_text}
 use Rattle.cc_printer.specs.Printing.{tokens}
-use Rattle.cc_printer.specs.Printable.{weight_stmts}
+use Rattle.cc_printer.specs.Heights.{height_stmts}
 use Rattle.cc_printer.specs.Placed.{symbols, at_places}
 use Rattle.cc_printer.specs.Spelling.{glue, last}
 use Rattle.cc_printer.specs.Laws.{DerivesAtLevel, TokensDerive, Found, HasTokens, TextHasTokens, Back, ReadsBack}
@@ -28,7 +28,7 @@ pub at_level : DerivesAtLevel
 at_level f a d l ks ga w = let x = operand f a d l false ks (derive f a ga) w in record { tree = x.tree; derives = x.is; same = x.same }
 
 pub tokens_derive : TokensDerive
-tokens_derive f ss gs = let x = derive_stmts f ss of_program (weight_stmts ss) (k.end ∷ []) gs (omega arith) (refl, refl) in
+tokens_derive f ss gs = let x = derive_stmts f ss of_program (height_stmts ss) (k.end ∷ []) gs (omega arith) (refl, refl) in
     record { tree = x.list; derives = record { last = symbols f (k.end ∷ []); body = x.is; ends = here }; same = x.same }
 
 pub text_has : TextHasTokens
@@ -64,10 +64,10 @@ no_insertion f [] (b ∷ before) after e = cc
 no_insertion f (x ∷ ks) [] after e = cc
 no_insertion f (x ∷ ks) (b ∷ before) after e = let t : symbols f ks ≡ before ++ inserted ∷ after = cc in no_insertion f ks before after t
 
-back_with : (ss : RawStmts) (file : ℕ) (f : List Kind → Place) (x : HasTokens (glue (tokens ss)) file (tokens ss)) → lexemes_of (symbols f (tokens ss)) ≡ lexemes false x.tokens None → Found (weight_stmts ss) (symbols f (tokens ss)) ss
-    → Back (weight_stmts ss) (glue (tokens ss)) file ss
+back_with : (ss : RawStmts) (file : ℕ) (f : List Kind → Place) (x : HasTokens (glue (tokens ss)) file (tokens ss)) → lexemes_of (symbols f (tokens ss)) ≡ lexemes false x.tokens None → Found (height_stmts ss) (symbols f (tokens ss)) ss
+    → Back (height_stmts ss) (glue (tokens ss)) file ss
 back_with ss file f x e y =
-    let r : ReadsWithin (weight_stmts ss) (lexemes false x.tokens None) y.tree = record { symbols = symbols f (tokens ss); tokens = e; justified = λ before after q. absurd (no_insertion f (tokens ss) before after q); derives = y.derives } in
+    let r : ReadsWithin (height_stmts ss) (lexemes false x.tokens None) y.tree = record { symbols = symbols f (tokens ss); tokens = e; justified = λ before after q. absurd (no_insertion f (tokens ss) before after q); derives = y.derives } in
     let t : IsText (lexemes false x.tokens None) = has_text (glue (tokens ss)) file x.tokens None x.lexed in
     record {
       tokens = x.tokens;
@@ -75,8 +75,8 @@ back_with ss file f x e y =
       tree = y.tree;
       reads = r;
       same = y.same;
-      only = λ ts s i b l q. let o = lexes_once l x.lexed in one i (weight_stmts ss) (lexemes false ts s) b y.tree (has_text (glue (tokens ss)) file ts s l) q (subst (λ us. ReadsWithin (weight_stmts ss) us y.tree) (sym (ap₂ (λ v w. lexemes false v w) o.0 o.1)) r);
-      read = λ turns d l m. complete turns d (weight_stmts ss) (lexemes false x.tokens None) y.tree t l r m;
+      only = λ ts s i b l q. let o = lexes_once l x.lexed in one i (height_stmts ss) (lexemes false ts s) b y.tree (has_text (glue (tokens ss)) file ts s l) q (subst (λ us. ReadsWithin (height_stmts ss) us y.tree) (sym (ap₂ (λ v w. lexemes false v w) o.0 o.1)) r);
+      read = λ turns d l m. complete turns d (height_stmts ss) (lexemes false x.tokens None) y.tree t l r m;
     }
 
 pub reads_back : ReadsBack

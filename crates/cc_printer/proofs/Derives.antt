@@ -1,7 +1,7 @@
 -- The tokens of a tree derive it.
 use Rattle.std.specs.Prelude.{max, ◌≡◌, ℕ, zero, suc, pos, negsuc, ◌+◌, ◌-◌, ◌<◌, ◌≤◌, List, [], ◌∷◌, Bool, true, false, not, ◌||◌, ◌&&◌, cond, ◌⊎◌, Option, Some, None}
 use Rattle.std.specs.Option.{option_map}
-use Rattle.std.proofs.Common.{refl, inl, inr, sym, ap, ◌∙◌, arith, ap₂}
+use Rattle.std.proofs.Common.{refl, inl, inr, sym, ap, subst, ◌∙◌, arith, ap₂}
 use Rattle.cc_ast.specs.declared.operator.UnOp.{UnOp}
 use Rattle.cc_ast.specs.declared.operator.UnOp.TheVariants as u
 use Rattle.cc_ast.specs.declared.place.Place.{Place}
@@ -17,11 +17,13 @@ use Rattle.cc_grammar.specs.Grammar.{At, Chain, E, T, Body, Elements, Field, Fie
 use Rattle.cc_grammar.specs.Grammar as g
 use Rattle.cc_printer.specs.Printing.{operator, prefix, stepping, assigning, identifier, literal, level_of, is_has, is_whole, needs, parens, braces, is_simple, is_loop_or_label, is_if, is_one, is_bare, is_bare_label, first_opens, names, own_name, otherwise, expr, target, exprs, fields, maybe, initial, declarators, init, stmt, stmts, catch, finally, cases}
 use Rattle.cc_printer.specs.Bare.{bare, bare_named, bare_names, bare_own, bare_target, bare_exprs, bare_maybe, bare_fields, bare_declarators, bare_init, bare_stmt, bare_stmts, bare_catch, bare_finally, bare_cases}
-use Rattle.cc_printer.specs.Printable.{stays_unary, PrintableNames, PrintableOwn, under_label, Printable, PrintableTarget, PrintableExprs, PrintableMaybe, PrintableFields, PrintableDeclarators, PrintableInit, PrintableStmt, PrintableStmts, PrintableCatch, PrintableCases, weight, weight_target, weight_exprs, weight_maybe, weight_fields, weight_declarators, weight_init, weight_stmt, weight_stmts, weight_cases}
+use Rattle.cc_printer.specs.Printable.{stays_unary, PrintableNames, PrintableOwn, under_label, Printable, PrintableTarget, PrintableExprs, PrintableMaybe, PrintableFields, PrintableDeclarators, PrintableInit, PrintableStmt, PrintableStmts, PrintableCatch, PrintableCases}
+use Rattle.cc_printer.specs.Heights.{enclosed_height, body_height, literal_height, height_initial, height_else, height, height_target, height_exprs, height_maybe, height_fields, height_declarators, height_init, height_stmt, height_stmts, height_cases}
 use Rattle.cc_printer.specs.Placed.{symbols}
 use Rattle.cc_printer.proofs.Kit.{here, infix_back, prefix_back, step_back, prefix_step_back, is_cast, stays_bare, tree_stays, free, levels, links, ap₃, ap₄}
 use Rattle.cc_printer.proofs.Derived.{DerivedExpr, DerivedTarget, DerivedExprs, DerivedArguments, DerivedElements, DerivedFields, DerivedNames, DerivedMore, DerivedOwn, DerivedBody, DerivedOne, DerivedStmt, DerivedFunction, DerivedDeclarator, DerivedDeclarators, DerivedInit, DerivedMaybe, DerivedCases, DerivedCatch, DerivedFinally}
 use Rattle.cc_printer.proofs.Words.{property_back, key_back}
+use Rattle.cc_printer.proofs.Opens.{opens_expr}
 
 no_cast : (a : RawExpr) → Printable a → is_cast a ≡ false
 no_cast (raw.cast p a) h = absurd h
@@ -118,18 +120,18 @@ module _ (f : List Kind → Place) where
   -- ---- operands
 
   abbrev Derives : RawExpr → Type 0
-  Derives a = (d l : ℕ) (n : Bool) (ks : List Kind) → weight a ≤ d → l ≤ level_of a → (not n && is_has a) ≡ false → DerivedExpr d n l (symbols f (expr a n ks)) a (symbols f ks)
+  Derives a = (d l : ℕ) (n : Bool) (ks : List Kind) → height a n ≤ d → l ≤ level_of a → (not n && is_has a) ≡ false → DerivedExpr d n l (symbols f (expr a n ks)) a (symbols f ks)
 
   -- in parentheses where it's asked, else where the level allows it
-  wrapped : (a : RawExpr) (v : Bool) (d l : ℕ) (n : Bool) (ks : List Kind) → Derives a → weight a < d → (v ≡ false → (l ≤ level_of a) × ((not n && is_has a) ≡ false)) → DerivedExpr d n l (symbols f (parens v (expr a) n ks)) a (symbols f ks)
+  wrapped : (a : RawExpr) (v : Bool) (d l : ℕ) (n : Bool) (ks : List Kind) → Derives a → enclosed_height v (height a) n ≤ d → (v ≡ false → (l ≤ level_of a) × ((not n && is_has a) ≡ false)) → DerivedExpr d n l (symbols f (parens v (expr a) n ks)) a (symbols f ks)
   wrapped a true d l n ks h w q = let x = h (d - 1) 0 true (k.mark m.CloseParen ∷ ks) (omega arith) (omega arith) refl in record { tree = x.tree; is = g.paren {h = d - 1} (omega arith) here x.is here; same = x.same; plain = x.plain }
   wrapped a false d l n ks h w q = h d l n ks (omega arith) (q refl).0 (q refl).1
 
-  pub operand : (a : RawExpr) (d l : ℕ) (n : Bool) (ks : List Kind) → Derives a → weight a < d → DerivedExpr d n l (symbols f (parens (needs l n a) (expr a) n ks)) a (symbols f ks)
+  pub operand : (a : RawExpr) (d l : ℕ) (n : Bool) (ks : List Kind) → Derives a → enclosed_height (needs l n a) (height a) n ≤ d → DerivedExpr d n l (symbols f (parens (needs l n a) (expr a) n ks)) a (symbols f ks)
   operand a d l n ks h w = wrapped a (needs l n a) d l n ks h w (λ e. free (level_of a) l (not n && is_has a) e)
 
   -- where a chain goes on, perhaps with more reasons for parentheses
-  linked : (a : RawExpr) (v : Bool) (d : ℕ) (n : Bool) (ks : List Kind) → Derives a → weight a < d → DerivedExpr d n (links (level_of a) (levels a)).level (symbols f (parens (needs 16 n a || v) (expr a) n ks)) a (symbols f ks)
+  linked : (a : RawExpr) (v : Bool) (d : ℕ) (n : Bool) (ks : List Kind) → Derives a → enclosed_height (needs 16 n a || v) (height a) n ≤ d → DerivedExpr d n (links (level_of a) (levels a)).level (symbols f (parens (needs 16 n a || v) (expr a) n ks)) a (symbols f ks)
   linked a v d n ks h w = wrapped a (needs 16 n a || v) d (links (level_of a) (levels a)).level n ks h w (λ e. let y = free (level_of a) 16 (not n && is_has a) (first e) in ((links (level_of a) (levels a)).high y.0, y.1)) where
     first : (needs 16 n a || v) ≡ false → needs 16 n a ≡ false
     first e = by (needs 16 n a) e where
@@ -137,10 +139,10 @@ module _ (f : List Kind → Place) where
       by true e = e
       by false e = refl
 
-  linked_plain : (a : RawExpr) (d : ℕ) (n : Bool) (ks : List Kind) → Derives a → weight a < d → DerivedExpr d n (links (level_of a) (levels a)).level (symbols f (parens (needs 16 n a) (expr a) n ks)) a (symbols f ks)
+  linked_plain : (a : RawExpr) (d : ℕ) (n : Bool) (ks : List Kind) → Derives a → enclosed_height (needs 16 n a) (height a) n ≤ d → DerivedExpr d n (links (level_of a) (levels a)).level (symbols f (parens (needs 16 n a) (expr a) n ks)) a (symbols f ks)
   linked_plain a d n ks h w = wrapped a (needs 16 n a) d (links (level_of a) (levels a)).level n ks h w (λ e. let y = free (level_of a) 16 (not n && is_has a) e in ((links (level_of a) (levels a)).high y.0, y.1))
 
-  literal_derives : (v : Prim) (p : Place) (d l : ℕ) (n : Bool) (ks : List Kind) → 1 ≤ d → l ≤ level_of (raw.lit p v) → DerivedExpr d n l (symbols f (literal v ks)) (raw.lit p v) (symbols f ks)
+  literal_derives : (v : Prim) (p : Place) (d l : ℕ) (n : Bool) (ks : List Kind) → literal_height v ≤ d → l ≤ level_of (raw.lit p v) → DerivedExpr d n l (symbols f (literal v ks)) (raw.lit p v) (symbols f ks)
   literal_derives undefined p d l n ks w q = record { tree = _; is = g.prefix {h = d - 1} q (omega arith) here refl (g.literal here refl) refl; same = refl; plain = refl }
   literal_derives null p d l n ks w q = record { tree = _; is = g.literal here refl; same = refl; plain = refl }
   literal_derives (truth true) p d l n ks w q = record { tree = _; is = g.literal here refl; same = refl; plain = refl }
@@ -152,7 +154,7 @@ module _ (f : List Kind → Place) where
   -- ---- bodies
 
   -- a body in braces, or as it stands
-  enclosed : (x : RawStmts) (v : Bool) (c : Context) (d : ℕ) (ks : List Kind) → 1 ≤ d
+  enclosed : (x : RawStmts) (v : Bool) (c : Context) (d : ℕ) (ks : List Kind) → body_height v (height_stmts x) ≤ d
       → (v ≡ true → DerivedBody (inside c) (d - 1) (symbols f (stmts x (k.mark m.CloseBrace ∷ ks))) x (symbols f (k.mark m.CloseBrace ∷ ks)))
       → (v ≡ false → DerivedOne c d (symbols f (stmts x ks)) x (symbols f ks)) → DerivedOne c d (symbols f (braces v (stmts x) ks)) x (symbols f ks)
   enclosed x true c d ks w h i = let y = h refl in record { list = y.list; is = g.block {h = d - 1} (omega arith) here y.is here; same = y.same }
@@ -173,19 +175,19 @@ module _ (f : List Kind → Place) where
   Follows v ks = (v ≡ true) ⊎ NoTail ks
 
   abbrev DerivesStmts : RawStmts → Type 0
-  DerivesStmts ss = (c : Context) (d : ℕ) (ks : List Kind) → PrintableStmts c ss → weight_stmts ss ≤ d → NoTail ks → DerivedBody c d (symbols f (stmts ss ks)) ss (symbols f ks)
+  DerivesStmts ss = (c : Context) (d : ℕ) (ks : List Kind) → PrintableStmts c ss → height_stmts ss ≤ d → NoTail ks → DerivedBody c d (symbols f (stmts ss ks)) ss (symbols f ks)
 
   abbrev DerivesOne : RawStmts → Type 0
-  DerivesOne ss = (c : Context) (d : ℕ) (p : RawStmt → Bool) (ks : List Kind) → PrintableStmts c ss → weight_stmts ss ≤ d → is_one p ss ≡ true → Follows (is_bare ss) ks → DerivedOne c d (symbols f (stmts ss ks)) ss (symbols f ks)
+  DerivesOne ss = (c : Context) (d : ℕ) (p : RawStmt → Bool) (ks : List Kind) → PrintableStmts c ss → height_stmts ss ≤ d → is_one p ss ≡ true → Follows (is_bare ss) ks → DerivedOne c d (symbols f (stmts ss ks)) ss (symbols f ks)
 
   -- a body whose context takes no declaration and no label
-  inner : (x : RawStmts) (p : RawStmt → Bool) (c : Context) (d : ℕ) (ks : List Kind) → DerivesStmts x → DerivesOne x → PrintableStmts (inside c) x → PrintableStmts c x → weight_stmts x < d
+  inner : (x : RawStmts) (p : RawStmt → Bool) (c : Context) (d : ℕ) (ks : List Kind) → DerivesStmts x → DerivesOne x → PrintableStmts (inside c) x → PrintableStmts c x → body_height (not (is_one p x)) (height_stmts x) ≤ d
       → (is_one p x ≡ true → Follows (is_bare x) ks) → DerivedOne c d (symbols f (braces (not (is_one p x)) (stmts x) ks)) x (symbols f ks)
-  inner x p c d ks h i gs gt w t = enclosed x (not (is_one p x)) c d ks (omega arith) (λ e. h (inside c) (d - 1) (k.mark m.CloseBrace ∷ ks) gs (omega arith) (refl, refl))
-      (λ e. i c d p ks gt (omega arith) (opposite (is_one p x) e) (t (opposite (is_one p x) e)))
+  inner x p c d ks h i gs gt w t = enclosed x (not (is_one p x)) c d ks w (λ e. let b = subst (λ v. body_height v (height_stmts x) ≤ d) e w in h (inside c) (d - 1) (k.mark m.CloseBrace ∷ ks) gs (omega (arith, b)) (refl, refl))
+      (λ e. i c d p ks gt (subst (λ v. body_height v (height_stmts x) ≤ d) e w) (opposite (is_one p x) e) (t (opposite (is_one p x) e)))
 
   if_derives : (q : Place) (a : RawExpr) (x y : RawStmts) → Derives a → DerivesStmts x → DerivesOne x → DerivesStmts y → DerivesOne y → (c : Context) (d : ℕ) (ks : List Kind) → PrintableStmts (inside c) x → PrintableStmts (inside c) y
-      → weight_stmt (raw.if q a x y) ≤ d → NoTail ks → DerivedStmt c d (symbols f (stmt (raw.if q a x y) ks)) (raw.if q a x y) (symbols f ks)
+      → height_stmt (raw.if q a x y) ≤ d → NoTail ks → DerivedStmt c d (symbols f (stmt (raw.if q a x y) ks)) (raw.if q a x y) (symbols f ks)
   unfolding stmt
   if_derives q a x raw.no_stmts ha hx ox hy oy c d ks gx gy w t =
       let e = ha (d - 1) 0 true (k.mark m.CloseParen ∷ braces (not (is_bare x)) (stmts x) ks) (omega arith) (omega arith) refl in
@@ -199,12 +201,12 @@ module _ (f : List Kind → Place) where
       record { tree = raw.if _ e.tree (raw.stmts b.list) (raw.stmts o.list); is = g.if_else {h = d - 1} {i = d - 1} {j = d - 1} (omega arith) (omega arith) (omega arith) here here e.is here b.is here o.is; same = ap₃ (λ x y z. raw.if k.nowhere x y z) e.same b.same o.same }
 
 
-  catch_derives : (v : Named) (b : RawStmts) (c : Context) → PrintableCatch (inside c) (raw.caught v b) → (d : ℕ) (ks : List Kind) → weight_stmts b < d → DerivesStmts b → DerivedCatch c d (symbols f (catch (raw.caught v b) ks)) (raw.caught v b) (symbols f ks)
+  catch_derives : (v : Named) (b : RawStmts) (c : Context) → PrintableCatch (inside c) (raw.caught v b) → (d : ℕ) (ks : List Kind) → height_stmts b < d → DerivesStmts b → DerivedCatch c d (symbols f (catch (raw.caught v b) ks)) (raw.caught v b) (symbols f ks)
   unfolding catch
   catch_derives v b c gs d ks w h = let x = h (inside c) (d - 1) (k.mark m.CloseBrace ∷ ks) gs.1 (omega arith) (refl, refl) in
       record { tree = raw.caught _ (raw.stmts x.list); is = g.caught here here (g.variable here gs.0) here refl (g.block {h = d - 1} (omega arith) here x.is here); same = ap (λ x. raw.caught (bare_named v) x) x.same }
 
-  finally_derives : (b : RawStmts) (c : Context) → PrintableStmts (inside c) b → (d : ℕ) (ks : List Kind) → weight_stmts b < d → DerivesStmts b → DerivedFinally c d (symbols f (finally (raw.finally b) ks)) (raw.finally b) (symbols f ks)
+  finally_derives : (b : RawStmts) (c : Context) → PrintableStmts (inside c) b → (d : ℕ) (ks : List Kind) → height_stmts b < d → DerivesStmts b → DerivedFinally c d (symbols f (finally (raw.finally b) ks)) (raw.finally b) (symbols f ks)
   unfolding finally
   finally_derives b c gs d ks w h = let x = h (inside c) (d - 1) (k.mark m.CloseBrace ∷ ks) gs (omega arith) (refl, refl) in
       record { tree = raw.finally (raw.stmts x.list); is = g.finally here refl (g.block {h = d - 1} (omega arith) here x.is here); same = ap (λ x. raw.finally x) x.same }
@@ -214,15 +216,15 @@ module _ (f : List Kind → Place) where
   below l o g.member_chain h = omega arith
 
   -- a body in braces has lost its label; what stands bare keeps it
-  labelled_body : (x : RawStmts) (v : List ℕ) (c : Context) → PrintableStmts (under_label v c x) x → (d : ℕ) (ks : List Kind) → weight_stmts x < d → DerivesStmts x → DerivesOne x → NoTail ks
+  labelled_body : (x : RawStmts) (v : List ℕ) (c : Context) → PrintableStmts (under_label v c x) x → (d : ℕ) (ks : List Kind) → body_height (not (is_bare_label x)) (height_stmts x) ≤ d → DerivesStmts x → DerivesOne x → NoTail ks
       → DerivedOne (labelled v c) d (symbols f (braces (not (is_bare_label x)) (stmts x) ks)) x (symbols f ks)
-  labelled_body x v c gs d ks w h i t = by (is_bare_label x) refl gs where
-    by : (u : Bool) → is_bare_label x ≡ u → PrintableStmts (cond u (labelled v c) (inside (labelled v c))) x → DerivedOne (labelled v c) d (symbols f (braces (not u) (stmts x) ks)) x (symbols f ks)
-    by true e gx = i (labelled v c) d (λ s. is_simple s || is_loop_or_label s) ks gx (omega (arith, w)) e (inr t)
-    by false e gx = let y = h (inside (labelled v c)) (d - 1) (k.mark m.CloseBrace ∷ ks) gx (omega (arith, w)) (refl, refl) in record { list = y.list; is = g.block {h = d - 1} (omega (arith, w)) here y.is here; same = y.same }
+  labelled_body x v c gs d ks w h i t = by (is_bare_label x) refl w gs where
+    by : (u : Bool) → is_bare_label x ≡ u → body_height (not u) (height_stmts x) ≤ d → PrintableStmts (cond u (labelled v c) (inside (labelled v c))) x → DerivedOne (labelled v c) d (symbols f (braces (not u) (stmts x) ks)) x (symbols f ks)
+    by true e w gx = i (labelled v c) d (λ s. is_simple s || is_loop_or_label s) ks gx w e (inr t)
+    by false e w gx = let y = h (inside (labelled v c)) (d - 1) (k.mark m.CloseBrace ∷ ks) gx (omega (arith, w)) (refl, refl) in record { list = y.list; is = g.block {h = d - 1} (omega (arith, w)) here y.is here; same = y.same }
 
 
-  function_derives : (vs : List Named) (ss : RawStmts) (d : ℕ) (ks : List Kind) → PrintableNames vs → PrintableStmts of_function ss → DerivesStmts ss → weight_stmts ss ≤ d
+  function_derives : (vs : List Named) (ss : RawStmts) (d : ℕ) (ks : List Kind) → PrintableNames vs → PrintableStmts of_function ss → DerivesStmts ss → height_stmts ss ≤ d
       → DerivedFunction d (symbols f (k.mark m.OpenParen ∷ names vs (k.mark m.OpenBrace ∷ stmts ss (k.mark m.CloseBrace ∷ ks)))) vs ss (symbols f ks)
   function_derives vs ss d ks gv gs h w =
       let x = some_names vs (k.mark m.OpenBrace ∷ stmts ss (k.mark m.CloseBrace ∷ ks)) gv in
@@ -296,7 +298,7 @@ module _ (f : List Kind → Place) where
     derive (raw.comma p a b) ga d (suc l) n ks w q o = absurd (omega (arith, q))
     derive (raw.cast p a) ga d l n ks w q o = absurd ga
 
-    derive_target : (t : RawTarget) → PrintableTarget t → (d l : ℕ) (n : Bool) (ks : List Kind) → weight_target t ≤ d → l ≤ 15 → DerivedTarget d n l (symbols f (target t n ks)) t (symbols f ks)
+    derive_target : (t : RawTarget) → PrintableTarget t → (d l : ℕ) (n : Bool) (ks : List Kind) → height_target t n ≤ d → l ≤ 15 → DerivedTarget d n l (symbols f (target t n ks)) t (symbols f ks)
     derive_target (raw.to_var p v) gt d l n ks w q = record { tree = _; goal = _; is = g.name (g.variable here gt); aims = refl; same = refl }
     derive_target (raw.to_member p a i v) gt d l n ks w r =
         let x = linked a (is_whole a) (d - 1) n (k.mark m.Dot ∷ identifier v ∷ ks) (derive a gt) (omega arith) in
@@ -308,7 +310,7 @@ module _ (f : List Kind → Place) where
         let e = links (level_of a) (levels a) in let le : l ≤ e.level = below l e.level e.is r in
         record { tree = raw.index _ x.tree y.tree; goal = raw.to_index _ x.tree y.tree; is = g.bracketed {h = d - 1} {i = d - 1} e.is le (omega arith) (omega arith) x.is here y.is here; aims = refl; same = ap₂ (λ x y. raw.to_index k.nowhere x y) x.same y.same }
 
-    derive_elements : (es : RawExprs) → PrintableExprs es → (d : ℕ) (ks : List Kind) → weight_exprs es ≤ d → DerivedElements d (symbols f (exprs es (k.mark m.CloseBracket) ks)) es (symbols f ks)
+    derive_elements : (es : RawExprs) → PrintableExprs es → (d : ℕ) (ks : List Kind) → height_exprs es ≤ d → DerivedElements d (symbols f (exprs es (k.mark m.CloseBracket) ks)) es (symbols f ks)
     derive_elements raw.no_exprs ge d ks w = record { list = []; is = g.no_element here; same = refl }
     derive_elements (raw.more_exprs a raw.no_exprs) ge d ks w = let x = operand a d 1 true (k.mark m.CloseBracket ∷ ks) (derive a ge.0) (omega arith) in record { list = x.tree ∷ []; is = g.last_element x.is here; same = ap (λ x. raw.more_exprs x raw.no_exprs) x.same }
     derive_elements (raw.more_exprs a (raw.more_exprs b es)) ge d ks w =
@@ -316,18 +318,18 @@ module _ (f : List Kind → Place) where
         let y = derive_elements (raw.more_exprs b es) ge.1 d ks (omega arith) in
         record { list = x.tree ∷ y.list; is = g.more_elements x.is here y.is; same = ap₂ (λ x y. raw.more_exprs x y) x.same y.same }
 
-    derive_arguments : (es : RawExprs) → PrintableExprs es → (d : ℕ) (ks : List Kind) → weight_exprs es ≤ d → DerivedArguments d (symbols f (exprs es (k.mark m.CloseParen) ks)) es (symbols f ks)
+    derive_arguments : (es : RawExprs) → PrintableExprs es → (d : ℕ) (ks : List Kind) → height_exprs es ≤ d → DerivedArguments d (symbols f (exprs es (k.mark m.CloseParen) ks)) es (symbols f ks)
     derive_arguments raw.no_exprs ge d ks w = record { list = []; is = g.no_argument here; same = refl }
     derive_arguments (raw.more_exprs a es) ge d ks w = let x = derive_more es ge.1 a (derive a ge.0) d ks w in record { list = x.list; is = g.some_arguments x.is; same = x.same }
 
-    derive_more : (es : RawExprs) → PrintableExprs es → (a : RawExpr) → Derives a → (d : ℕ) (ks : List Kind) → max (weight a + 1) (weight_exprs es) ≤ d → DerivedExprs d (symbols f (exprs (raw.more_exprs a es) (k.mark m.CloseParen) ks)) (raw.more_exprs a es) (symbols f ks)
+    derive_more : (es : RawExprs) → PrintableExprs es → (a : RawExpr) → Derives a → (d : ℕ) (ks : List Kind) → max (enclosed_height (needs 1 true a) (height a) true) (height_exprs es) ≤ d → DerivedExprs d (symbols f (exprs (raw.more_exprs a es) (k.mark m.CloseParen) ks)) (raw.more_exprs a es) (symbols f ks)
     derive_more raw.no_exprs ge a h d ks w = let x = operand a d 1 true (k.mark m.CloseParen ∷ ks) h (omega arith) in record { list = x.tree ∷ []; is = g.last_argument x.is here; same = ap (λ x. raw.more_exprs x raw.no_exprs) x.same }
     derive_more (raw.more_exprs b es) ge a h d ks w =
         let x = operand a d 1 true (k.mark m.Comma ∷ exprs (raw.more_exprs b es) (k.mark m.CloseParen) ks) h (omega arith) in
         let y = derive_more es ge.1 b (derive b ge.0) d ks (omega arith) in
         record { list = x.tree ∷ y.list; is = g.more_arguments x.is here y.is; same = ap₂ (λ x y. raw.more_exprs x y) x.same y.same }
 
-    derive_fields : (fs : RawFields) → PrintableFields fs → (d : ℕ) (ks : List Kind) → weight_fields fs ≤ d → DerivedFields d (symbols f (fields fs ks)) fs (symbols f ks)
+    derive_fields : (fs : RawFields) → PrintableFields fs → (d : ℕ) (ks : List Kind) → height_fields fs ≤ d → DerivedFields d (symbols f (fields fs ks)) fs (symbols f ks)
     derive_fields raw.no_fields gf d ks w = record { list = []; is = g.no_field here; same = refl }
     derive_fields (raw.more_fields p i a raw.no_fields) gf d ks w = let x = operand a d 1 true (k.mark m.CloseBrace ∷ ks) (derive a gf.1) (omega arith) in
         record { list = record { place = _; key = i; value = x.tree } ∷ []; is = g.last_field (g.field here (key_back i gf.0) here x.is) here; same = ap (λ x. raw.more_fields k.nowhere i x raw.no_fields) x.same }
@@ -336,15 +338,15 @@ module _ (f : List Kind → Place) where
         let y = derive_fields (raw.more_fields r j b fs) gf.2 d ks (omega arith) in
         record { list = record { place = _; key = i; value = x.tree } ∷ y.list; is = g.more_fields (g.field here (key_back i gf.0) here x.is) here y.is; same = ap₂ (λ x y. raw.more_fields k.nowhere i x y) x.same y.same }
 
-    derive_maybe : (a : MaybeExpr) → PrintableMaybe a → (d : ℕ) (ks : List Kind) → weight_maybe a ≤ d → DerivedMaybe d (symbols f (maybe a ks)) a (symbols f ks)
+    derive_maybe : (a : MaybeExpr) → PrintableMaybe a → (d : ℕ) (ks : List Kind) → height_maybe a ≤ d → DerivedMaybe d (symbols f (maybe a ks)) a (symbols f ks)
     derive_maybe raw.no_expr ge d ks w = record { tree = raw.no_expr; is = g.absent; same = refl }
     derive_maybe (raw.one_expr a) ge d ks w = let x = derive a ge d 0 true ks (omega arith) (omega arith) refl in record { tree = raw.one_expr x.tree; is = g.present x.is; same = ap (λ x. raw.one_expr x) x.same }
 
-    derive_declarator : (v : Named) (a : MaybeExpr) → sign.refused_name v.name ≡ None → PrintableMaybe a → (d : ℕ) (n : Bool) (ks : List Kind) → weight_maybe a ≤ d → DerivedDeclarator d n (symbols f (k.name v.name ∷ initial a n ks)) v a (symbols f ks)
+    derive_declarator : (v : Named) (a : MaybeExpr) → sign.refused_name v.name ≡ None → PrintableMaybe a → (d : ℕ) (n : Bool) (ks : List Kind) → height_initial a n ≤ d → DerivedDeclarator d n (symbols f (k.name v.name ∷ initial a n ks)) v a (symbols f ks)
     derive_declarator v raw.no_expr gv ge d n ks w = record { tree = _; is = g.unset (g.variable here gv); named = refl; same = refl }
     derive_declarator v (raw.one_expr a) gv ge d n ks w = let x = operand a d 1 n ks (derive a ge) (omega arith) in record { tree = _; is = g.set (g.variable here gv) here x.is; named = refl; same = ap (λ x. raw.one_expr x) x.same }
 
-    derive_declarators : (ds : RawDeclarators) → PrintableDeclarators ds → (d : ℕ) (n : Bool) (ks : List Kind) → weight_declarators ds ≤ d → DerivedDeclarators d n (symbols f (declarators ds n ks)) ds (symbols f ks)
+    derive_declarators : (ds : RawDeclarators) → PrintableDeclarators ds → (d : ℕ) (n : Bool) (ks : List Kind) → height_declarators ds n ≤ d → DerivedDeclarators d n (symbols f (declarators ds n ks)) ds (symbols f ks)
     derive_declarators raw.no_declarators gd d n ks w = absurd gd
     derive_declarators (raw.more_declarators v a raw.no_declarators) gd d n ks w = let x = derive_declarator v a gd.0 gd.1 d n ks (omega arith) in
         record { list = x.tree ∷ []; is = g.last_declarator x.is; same = ap₂ (λ x y. raw.more_declarators x y raw.no_declarators) x.named x.same }
@@ -353,14 +355,14 @@ module _ (f : List Kind → Place) where
         let y = derive_declarators (raw.more_declarators u b ds) gd.2 d n ks (omega arith) in
         record { list = x.tree ∷ y.list; is = g.more_declarators x.is here y.is; same = ap₃ (λ x y z. raw.more_declarators x y z) x.named x.same y.same }
 
-    derive_init : (i : RawInit) → PrintableInit i → (d : ℕ) (ks : List Kind) → weight_init i ≤ d → DerivedInit d (symbols f (init i ks)) i (symbols f ks)
+    derive_init : (i : RawInit) → PrintableInit i → (d : ℕ) (ks : List Kind) → height_init i ≤ d → DerivedInit d (symbols f (init i ks)) i (symbols f ks)
     derive_init raw.no_init gi d ks w = record { tree = raw.no_init; is = g.no_init; same = refl }
     derive_init (raw.init_value a) gi d ks w = let x = operand a d 0 false ks (derive a gi) (omega arith) in record { tree = raw.init_value x.tree; is = g.init_value x.is; same = ap (λ x. raw.init_value x) x.same }
     derive_init (raw.init_vars ds) gi d ks w = let x = derive_declarators ds gi d false ks (omega arith) in record { tree = raw.init_vars (raw.declarators x.list); is = g.init_vars here x.is; same = ap (λ x. raw.init_vars x) x.same }
 
-    derive_stmt : (s : RawStmt) (c : Context) → PrintableStmt c s → (d : ℕ) (ks : List Kind) → weight_stmt s ≤ d → Follows (is_simple s) ks → DerivedStmt c d (symbols f (stmt s ks)) s (symbols f ks)
+    derive_stmt : (s : RawStmt) (c : Context) → PrintableStmt c s → (d : ℕ) (ks : List Kind) → height_stmt s ≤ d → Follows (is_simple s) ks → DerivedStmt c d (symbols f (stmt s ks)) s (symbols f ks)
     derive_stmt (raw.simple p a) c gs d ks w t =
-        let x = wrapped a (first_opens (expr a true (k.mark m.Semicolon ∷ ks))) d 0 true (k.mark m.Semicolon ∷ ks) (derive a gs) (omega arith) (λ e. (omega arith, refl)) in
+        let x = wrapped a (first_opens (expr a true (k.mark m.Semicolon ∷ ks))) d 0 true (k.mark m.Semicolon ∷ ks) (derive a gs) (subst (λ v. enclosed_height v (height a) true ≤ d) (opens_expr a true [] (k.mark m.Semicolon ∷ ks)) w) (λ e. (omega arith, refl)) in
         record { tree = raw.simple _ x.tree; is = g.simple (opened a (k.mark m.Semicolon ∷ ks) (first_opens (expr a true (k.mark m.Semicolon ∷ ks))) refl) x.is (g.written here); same = ap (λ x. raw.simple k.nowhere x) x.same }
     derive_stmt (raw.vars p ds) c gs d ks w t = let x = derive_declarators ds gs d true (k.mark m.Semicolon ∷ ks) (omega arith) in
         record { tree = raw.vars _ (raw.declarators x.list); is = g.vars here x.is (g.written here); same = ap (λ x. raw.vars k.nowhere x) x.same }
@@ -443,7 +445,7 @@ module _ (f : List Kind → Place) where
         let y = derive_stmts ss c d ks gs.1 (omega arith) t in
         record { list = x.tree ∷ y.list; is = g.next x.is y.is; same = ap₂ (λ x y. raw.more_stmts x y) x.same y.same }
 
-    derive_cases : (cs : RawCases) (c : Context) (s : Bool) → PrintableCases c s cs → (d : ℕ) (ks : List Kind) → weight_cases cs ≤ d → DerivedCases c d s (symbols f (cases cs ks)) cs (symbols f ks)
+    derive_cases : (cs : RawCases) (c : Context) (s : Bool) → PrintableCases c s cs → (d : ℕ) (ks : List Kind) → height_cases cs ≤ d → DerivedCases c d s (symbols f (cases cs ks)) cs (symbols f ks)
     derive_cases raw.no_cases c s gs d ks w = record { list = []; is = g.no_case here; same = refl }
     derive_cases (raw.more_cases raw.no_expr body cs) c true gs d ks w = cc gs.0
     derive_cases (raw.more_cases raw.no_expr body cs) c false gs d ks w =

@@ -8,7 +8,8 @@ use Rattle.cc_grammar.specs.RawTree.{RawExpr, RawStmt, RawStmts}
 use Rattle.cc_grammar.specs.RawTree as raw
 use Rattle.cc_grammar.specs.Grammar.{of_program}
 use Rattle.cc_printer.specs.Printing.{tokens}
-use Rattle.cc_printer.specs.Printable.{PrintableStmts, weight_stmts}
+use Rattle.cc_printer.specs.Printable.{PrintableStmts}
+use Rattle.cc_printer.specs.Heights.{height_stmts}
 use Rattle.cc_printer.specs.Spelling.{glue, IsName}
 use Rattle.cc_printer.specs.Spellable.{SpellableStmts}
 use Rattle.cc_printer.specs.Laws.{Back}
@@ -29,11 +30,11 @@ tree = raw.stmts (raw.if nowhere a run run ∷ [])
 
 name_a : IsName (codes "a")
 unfolding unicode_ident is_reserved reserved lib.Utf8.encode
-name_a = record { begins = refl; goes_on = refl; units = refl; free = refl }
+name_a = record { begins = refl; goes_on = refl; units = refl; scalars = refl; free = refl }
 
 name_b : IsName (codes "b")
 unfolding unicode_ident is_reserved reserved lib.Utf8.encode
-name_b = record { begins = refl; goes_on = refl; units = refl; free = refl }
+name_b = record { begins = refl; goes_on = refl; units = refl; scalars = refl; free = refl }
 
 printable : PrintableStmts of_program tree
 printable = ((refl, ((refl, tt), tt), ((refl, tt), tt)), tt)
@@ -41,5 +42,5 @@ printable = ((refl, ((refl, tt), tt), ((refl, tt), tt)), tt)
 spellable : SpellableStmts tree
 spellable = ((name_a, ((name_b, tt), tt), ((name_b, tt), tt)), tt)
 
-it_reads_back : Back (weight_stmts tree) (glue (tokens tree)) 0 tree
+it_reads_back : Back (height_stmts tree) (glue (tokens tree)) 0 tree
 it_reads_back = reads_back tree 0 printable spellable

@@ -13,7 +13,8 @@ use Rattle.cc_lexer.specs.Marks as marks
 use Rattle.cc_lexer.specs.Items.{Item, token, item, longest, word_or_name, Begins, other, is_reserved, reserved}
 use Rattle.cc_grammar.specs.declared.word.Word.{Word}
 use Rattle.cc_grammar.specs.declared.word.Word.TheVariants as w
-use Rattle.cc_grammar.specs.Symbols.{Kind, word_of, words, spelling}
+use Rattle.cc_grammar.specs.Symbols.{word_of, words, spelling}
+use Rattle.cc_grammar.specs.Symbols.{Kind}
 use Rattle.cc_grammar.specs.Symbols as k
 use Rattle.cc_printer.specs.Spelling.{runs_on}
 

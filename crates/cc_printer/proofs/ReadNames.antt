@@ -8,8 +8,10 @@ use Rattle.cc_text.specs.Characters.{first_is}
 use Rattle.cc_text.specs.Utf16.{utf16}
 use Rattle.cc_lexer.specs.Characters.{is_start, is_part}
 use Rattle.cc_lexer.specs.Items.{is_reserved}
+use lib.Utf8.{scalar, scalars, scalar_cases}
 use Rattle.cc_printer.specs.Spelling.{is_high, is_low, join, characters}
-use Rattle.cc_printer.specs.Laws.{AreScalars, NamesAreNames}
+use Rattle.cc_printer.specs.Laws.{NamesAreNames}
+use Rattle.cc_printer.proofs.Runs.{both}
 
 no_high : (c : ℕ) → (c < 0xD800) ⊎ (0xDBFF < c) → is_high c ≡ false
 no_high c (inl h) = grind (arith, nat_tests)
@@ -50,14 +52,19 @@ one_back c us cs (inr h) e = by (nat_lt c 0x10000) refl where
          ∙ two (0xD800 + (c - 0x10000) / 0x400) (0xDC00 + (c - 0x10000) % 0x400) cs (is_first c l h.1) (is_second c)
          ∙ ap (λ d. d ∷ cs) (halves c l h.1))
 
-back : (cs : List ℕ) → AreScalars cs → characters (utf16 cs) ≡ cs
+ranges : (c : ℕ) → (c < 55296) ⊎ ((57344 ≤ c) × (c < 1114112)) → (c < 0xD800) ⊎ ((0xDFFF < c) × (c < 0x110000))
+ranges c (inl h) = inl h
+ranges c (inr h) = inr (omega (arith, h), h.1)
+
+back : (cs : List ℕ) → scalars cs ≡ true → characters (utf16 cs) ≡ cs
 back [] h = refl
-back (c ∷ cs) h = one_back c (utf16 cs) cs h.0 (back cs h.1)
+back (c ∷ cs) h = let x = both (scalar c) (scalars cs) h in one_back c (utf16 cs) cs (ranges c (scalar_cases c x.0)) (back cs x.1)
 
 pub names_are_names : NamesAreNames
 names_are_names cs s b g f = let e = back cs s in record {
   begins = ap (first_is is_start) e ∙ b;
   goes_on = ap (list_all is_part) e ∙ g;
   units = ap utf16 e;
+  scalars = ap (λ x. scalars x) e ∙ s;
   free = ap (λ x. is_reserved (encode_utf8_all x)) e ∙ f;
 }

@@ -17,7 +17,7 @@ use Rattle.cc_printer.proofs.Lists.{some_one}
 no_both : (b : Bool) → b ≡ true → b ≡ false → ⊥
 no_both b h k = let e = sym h ∙ k in cc
 
-in_cons : {A : Type 0} (x y : A) (xs : List A) → In x (y ∷ xs) → (x ≡ y) ⊎ In x xs
+pub in_cons : {A : Type 0} (x y : A) (xs : List A) → In x (y ∷ xs) → (x ≡ y) ⊎ In x xs
 in_cons x _ xs here = inl refl
 in_cons x y xs (there i) = inr i
 

@@ -12,7 +12,7 @@ use Rattle.cc_grammar.specs.Symbols.{Kind}
 use Rattle.cc_grammar.specs.Symbols as k
 use Rattle.cc_grammar.specs.RawTree.{RawExpr, RawTarget, RawExprs, MaybeExpr, RawFields, RawKey, RawDeclarators, RawInit, RawForTarget, RawStmt, RawStmts, RawCatch, RawFinally, RawCases, Named}
 use Rattle.cc_grammar.specs.RawTree as raw
-use Rattle.cc_printer.specs.Printing.{Text, operator, prefix, stepping, truth_word, literal, parens, braces, names, own_name, label, otherwise, expr, target, exprs, fields, maybe, initial, declarators, init, for_target, stmt, stmts, catch, finally, cases}
+use Rattle.cc_printer.specs.Printing.{TokensBefore, operator, prefix, stepping, truth_word, literal, parens, braces, names, own_name, label, otherwise, expr, target, exprs, fields, maybe, initial, declarators, init, for_target, stmt, stmts, catch, finally, cases}
 use Rattle.cc_printer.specs.Spelling.{IsName, Sound, AllSound, before}
 use Rattle.cc_printer.specs.Spellable.{SpellableLiteral, SpellableNames, SpellableOwn, SpellableLabel, Spellable, SpellableTarget, SpellableExprs, SpellableMaybe, SpellableFields, SpellableDeclarators, SpellableInit, SpellableForTarget, SpellableStmt, SpellableStmts, SpellableCatch, SpellableFinally, SpellableCases}
 
@@ -63,18 +63,18 @@ of_label : (o : Option (List ℕ)) (ks : List Kind) → SpellableLabel o → All
 of_label None ks h a = a
 of_label (Some n) ks h a = v h a
 
-abbrev Keeps : Text → Type 0
+abbrev Keeps : TokensBefore → Type 0
 Keeps f = (ks : List Kind) → AllSound ks → AllSound (f ks)
 
-of_parens : (t : Bool) (f : Bool → Text) (n : Bool) → ((n : Bool) → Keeps (f n)) → Keeps (parens t f n)
+of_parens : (t : Bool) (f : Bool → TokensBefore) (n : Bool) → ((n : Bool) → Keeps (f n)) → Keeps (parens t f n)
 of_parens true f n h ks a = m (h true (k.mark _ ∷ ks) (m a))
 of_parens false f n h ks a = h n ks a
 
-of_braces : (t : Bool) (f : Text) → Keeps f → Keeps (braces t f)
+of_braces : (t : Bool) (f : TokensBefore) → Keeps f → Keeps (braces t f)
 of_braces true f h ks a = m (h (k.mark _ ∷ ks) (m a))
 of_braces false f h ks a = h ks a
 
-of_otherwise : (ss : RawStmts) (f : Text) → Keeps f → Keeps (otherwise ss f)
+of_otherwise : (ss : RawStmts) (f : TokensBefore) → Keeps f → Keeps (otherwise ss f)
 of_otherwise raw.no_stmts f h ks a = a
 of_otherwise (raw.more_stmts s ss) f h ks a = w (of_braces _ f h ks a)
 

@@ -9,7 +9,7 @@ use Rattle.cc_meaning.specs.Alike.{In}
 use Rattle.cc_meaning.specs.Parts.{Part, has_site, uses_prop, uses_doc, mentions, declares, makes, sets_method, stmts_parts}
 use Rattle.cc_meaning.specs.Spelled.{IsSpelled, stmts_labels}
 use Rattle.cc_meaning.specs.WellMade.{WellMade, parts_of, is_chunk, opened, Reached, Holds, IsSound, sound_place, IsPart, a_prop, a_mention, a_declaration}
-use Rattle.cc_grammar.specs.RawTree as raw
+use Rattle.cc_grammar.specs.Symbols as k
 use Rattle.cc_grammar.specs.Grammar.{Context, of_program, of_function, is_among}
 use Rattle.cc_printer.specs.Printable.{PrintableNames, PrintableOwn, PrintableStmt, PrintableStmts}
 use Rattle.cc_printer.specs.Spelling.{IsName}
@@ -17,12 +17,17 @@ use Rattle.cc_printer.specs.Spellable.{SpellableNames, SpellableOwn, SpellableSt
 use Rattle.cc_printer.specs.RawOf.{Frames, Bodies, name_at, places, property_name, params, outside, own_name, function, declaration, raw_stmts, body_in, raw_bodies, raw_of}
 use Rattle.cc_printer.specs.Texts.{HasUnits}
 use Rattle.cc_printer.specs.Naming.{IsVariableName, IsPropertyName, AreNames, Around, around_chunk, around_function, inside_catches, inside_function, stmts_catches}
-use Rattle.cc_printer.specs.Laws.{ProgramsAreWritten, ProgramsReadBack}
+use Rattle.cc_printer.specs.Printing.{tokens}
+use Rattle.cc_printer.specs.Heights.{height_stmts}
+use Rattle.cc_printer.specs.Spelling.{glue, last}
+use Rattle.cc_printer.specs.Laws.{ProgramsAreWritten, ProgramsReadBack, Back}
 use Rattle.cc_printer.proofs.Lists.{every, there_is}
 use Rattle.cc_printer.proofs.WrittenExpressions.{FineExpr, Fine, Room}
 use Rattle.cc_printer.proofs.WrittenStatements.{context, FineStmts, fine_stmts}
 use Rattle.cc_printer.proofs.Slots.{scope_of, is_made, held, is_reached}
+use Rattle.cc_printer.proofs.Spells.{of_stmts}
 use Rattle.cc_printer.proofs.Back.{reads_back}
+use Rattle.cc_printer.proofs.Bytes.{is_utf8}
 
 chunk_context : (P : S.Program) (f : ℕ) → is_chunk P f ≡ true → context (opened P f) [] ≡ of_program
 chunk_context P f e = ap (λ b. record of_program { returns = not b }) e
@@ -127,4 +132,8 @@ are_written P ns chunk W spelled units names c =
     (subst (λ k. PrintableStmts k (raw_of P ns chunk)) (chunk_context P chunk c) x.0, x.1)
 
 pub read_back : ProgramsReadBack
-read_back P ns chunk file W spelled units names c = let x = are_written P ns chunk W spelled units names c in reads_back (raw_of P ns chunk) file x.0 x.1
+read_back P ns chunk file W spelled units names c = 
+    let tree = raw_of P ns chunk in
+    let x = are_written P ns chunk W spelled units names c in
+    let u = is_utf8 (tokens tree) (of_stmts tree x.1 (k.end ∷ []) last) in
+    (u.0, subst (λ text. Back (height_stmts tree) text file tree) (sym u.1) (reads_back tree file x.0 x.1))

@@ -36,7 +36,7 @@ pub data Around (P : S.Program) : ℕ → Frames → Type 0 where
       → Around P g (inside_function s (inside_catches c fs))
 
 abbrev mutual
-  -- how many `catch` clauses stand in one another
+  -- how many `catch` clauses stand in one another, in a statement
   pub stmt_catches : S.Stmt → ℕ
   stmt_catches (S.simple s e) = 0
   stmt_catches (S.vars s ds) = 0
@@ -55,18 +55,22 @@ abbrev mutual
   stmt_catches (S.try s b k f) = max (stmts_catches b) (max (catch_catches k) (finally_catches f))
   stmt_catches (S.pay_stmt s n) = 0
 
+  -- in a list of statements
   pub stmts_catches : S.Stmts → ℕ
   stmts_catches S.no_stmts = 0
   stmts_catches (S.more_stmts s ss) = max (stmt_catches s) (stmts_catches ss)
 
+  -- in a `catch` clause, which counts itself
   pub catch_catches : S.MaybeStmts → ℕ
   catch_catches S.absent = 0
   catch_catches (S.present ss) = suc (stmts_catches ss)
 
+  -- in a `finally` clause
   pub finally_catches : S.MaybeStmts → ℕ
   finally_catches S.absent = 0
   finally_catches (S.present ss) = stmts_catches ss
 
+  -- in the clauses of a `switch`
   pub cases_catches : S.Cases → ℕ
   cases_catches S.no_cases = 0
   cases_catches (S.more_cases t b cs) = max (stmts_catches b) (cases_catches cs)

@@ -39,32 +39,39 @@ abbrev mutual
   ExprUnits (S.cast s d e) = ExprUnits e
   ExprUnits (S.tick s n e) = ExprUnits e
 
+  -- what is written to (11.13)
   pub TargetUnits : S.Target → Type 0
   TargetUnits (S.to_var s v) = Unit {0}
   TargetUnits (S.to_member s e p) = ExprUnits e
   TargetUnits (S.to_index s e f) = ExprUnits e × ExprUnits f
 
+  -- arguments or elements (11.1.4 and 11.2.4)
   pub ExprsUnits : S.Exprs → Type 0
   ExprsUnits S.no_exprs = Unit {0}
   ExprsUnits (S.more_exprs e es) = ExprUnits e × ExprsUnits es
 
+  -- properties, with their keys (11.1.5)
   pub FieldsUnits : S.Fields → Type 0
   FieldsUnits S.no_fields = Unit {0}
   FieldsUnits (S.more_fields k e xs) = KeyUnits k × ExprUnits e × FieldsUnits xs
 
+-- an expression that may be absent
 abbrev pub OptionUnits : Option S.Expr → Type 0
 OptionUnits None = Unit {0}
 OptionUnits (Some e) = ExprUnits e
 
+-- variable declarations (12.2)
 abbrev pub VarsUnits : List S.Declarator → Type 0
 VarsUnits [] = Unit {0}
 VarsUnits (d ∷ ds) = OptionUnits d.value × VarsUnits ds
 
+-- what a `for` begins with (12.6.3)
 abbrev pub InitUnits : S.ForInit → Type 0
 InitUnits S.no_init = Unit {0}
 InitUnits (S.init_value e) = ExprUnits e
 InitUnits (S.init_vars ds) = VarsUnits ds
 
+-- what a `for` with `in` writes each name to (12.6.4)
 abbrev pub ForTargetUnits : S.ForTarget → Type 0
 ForTargetUnits (S.in_target t) = TargetUnits t
 ForTargetUnits (S.in_declared d) = OptionUnits d.value
@@ -89,14 +96,17 @@ abbrev mutual
   StmtUnits (S.try s b k f) = StmtsUnits b × MaybeUnits k × MaybeUnits f
   StmtUnits (S.pay_stmt s n) = Unit {0}
 
+  -- a list of statements
   pub StmtsUnits : S.Stmts → Type 0
   StmtsUnits S.no_stmts = Unit {0}
   StmtsUnits (S.more_stmts s ss) = StmtUnits s × StmtsUnits ss
 
+  -- the body of a clause that may be absent (12.14)
   pub MaybeUnits : S.MaybeStmts → Type 0
   MaybeUnits S.absent = Unit {0}
   MaybeUnits (S.present ss) = StmtsUnits ss
 
+  -- the clauses of a `switch` (12.11)
   pub CasesUnits : S.Cases → Type 0
   CasesUnits S.no_cases = Unit {0}
   CasesUnits (S.more_cases t b cs) = OptionUnits t × StmtsUnits b × CasesUnits cs

@@ -2,7 +2,7 @@
 //! functions here state the laws, and do nothing.
 #![tactic(auto)]
 
-ghost use Rattle.cc_printer.specs.Laws.{DerivesAtLevel, TokensDerive, TextHasTokens, ReadsBack, NamesAreNames, SameTokens, ProgramsAreWritten, ProgramsReadBack};
+ghost use Rattle.cc_printer.specs.Laws.{DerivesAtLevel, TokensDerive, TextHasTokens, ReadsBack, NamesAreNames, SameTokens, TextIsUtf8, NoneLeftOut, ProgramsAreWritten, ProgramsReadBack};
 
 /// What is printed at a level is derived at that level, whatever follows.
 pub fn derives_at_level()
@@ -34,13 +34,23 @@ pub fn same_tokens()
     ensures { SameTokens }
 {}
 
+/// The bytes of the text of tokens are UTF-8, and give its characters back.
+pub fn text_is_utf8()
+    ensures { TextIsUtf8 }
+{}
+
+/// The tree of a chunk has all its functions.
+pub fn none_left_out()
+    ensures { NoneLeftOut }
+{}
+
 /// Each chunk of a well made program, whose labels, properties and texts can be written, has a
 /// text under names of variables.
 pub fn programs_are_written()
     ensures { ProgramsAreWritten }
 {}
 
-/// The text of such a chunk reads back to it, and to nothing else.
+/// The bytes of such a chunk are UTF-8, and read back to it, and to nothing else.
 pub fn programs_read_back()
     ensures { ProgramsReadBack }
 {}
