@@ -82,6 +82,7 @@ other (raw.more_stmts s ss) f g h = λ i ks. k.word w.Else ∷ braces (not (else
 
 mutual
   unfolding expr
+
   of_expr : (a : RawExpr) → expr (bare a) ≡ expr a
   of_expr (raw.lit p v) = refl
   of_expr (raw.var p v) = refl

@@ -54,7 +54,7 @@ placed g (p ∷ ps) (x ∷ ks) e h =
     let shorter : length ps ≡ length ks = omega (arith, e) in
     let first : g (suc (length ks)) ≡ p = h (suc (length ks)) (omega arith) ∙ ap (λ b. cond b p (from_end ps (suc (length ks)))) (same_test (suc (length ks)) (suc (length ps)) (omega (arith, e))) in
     ap₂ (λ q ys. record { kind = x; place = q; after_line = false; noted = false } ∷ ys) first
-      (placed g ps ks shorter (λ n l. h n (omega (arith, l)) ∙ ap (λ b. cond b p (from_end ps n)) (other_test n (suc (length ps)) (omega (arith, l, e)))))
+    (placed g ps ks shorter (λ n l. h n (omega (arith, l)) ∙ ap (λ b. cond b p (from_end ps n)) (other_test n (suc (length ps)) (omega (arith, l, e)))))
 
 -- ---- nothing is inserted
 

@@ -1,8 +1,8 @@
 -- The text of tokens is one of Unicode scalar values, so its bytes give its characters back.
-use Rattle.std.specs.Prelude.{◌≡◌, ℕ, suc, pos, negsuc, ◌+◌, ◌/◌, ◌%◌, ◌<◌, ◌^◌, List, [], ◌∷◌, ◌++◌, Bool, true, false, ◌||◌, ◌&&◌, ◌==◌, nat_lt, cond, encode_utf8_all}
+use Rattle.std.specs.Prelude.{◌≡◌, ℕ, pos, negsuc, ◌+◌, ◌/◌, ◌%◌, ◌<◌, ◌^◌, List, [], ◌∷◌, ◌++◌, Bool, true, false, ◌||◌, ◌&&◌, ◌==◌, nat_lt, cond}
 use Rattle.std.specs.Fmt.{decimal}
 use Rattle.std.specs.Str.Parse.{AllDigits}
-use Rattle.std.proofs.Common.{refl, sym, ap, ap₂, ◌∙◌, subst, arith}
+use Rattle.std.proofs.Common.{refl, ap₂, arith}
 use Rattle.std.proofs.lemmas.Bool.Decides.{nat_tests}
 use Rattle.std.proofs.lemmas.Fmt.{decimal_is_IsNumeral}
 use Rattle.std.proofs.lemmas.Str.{chars-encodes}
@@ -68,8 +68,8 @@ low_unit : (q c : ℕ) → q < 128 → c < 65536 → Low (unit q c)
 low_unit q c h g = either Low (c == q || c == 92) (92 ∷ c ∷ []) _ (λ e. (omega arith, (low_same q c h e, tt))) (λ e.
     either Low (nat_lt 7 c && nat_lt c 14) (92 ∷ letter c ∷ []) _ (λ e. (omega arith, (low_letter c, tt))) (λ e.
     either Low (nat_lt c 32 || nat_lt 126 c) (92 ∷ 117 ∷ glyph (c / 4096) ∷ glyph (c / 256 % 16) ∷ glyph (c / 16 % 16) ∷ glyph (c % 16) ∷ []) (c ∷ [])
-      (λ e. (omega arith, (omega arith, (low_glyph (c / 4096) (omega (arith, g)), (low_glyph (c / 256 % 16) (omega arith), (low_glyph (c / 16 % 16) (omega arith), (low_glyph (c % 16) (omega arith), tt)))))))
-      (λ e. (low_plain c e, tt))))
+    (λ e. (omega arith, (omega arith, (low_glyph (c / 4096) (omega (arith, g)), (low_glyph (c / 256 % 16) (omega arith), (low_glyph (c / 16 % 16) (omega arith), (low_glyph (c % 16) (omega arith), tt)))))))
+    (λ e. (low_plain c e, tt))))
 
 low_units : (q : ℕ) (us : List ℕ) → q < 128 → Units us → Low (units q us)
 low_units q [] h a = (h, tt)

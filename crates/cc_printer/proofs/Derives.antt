@@ -16,9 +16,9 @@ use Rattle.cc_grammar.specs.Signs as sign
 use Rattle.cc_grammar.specs.Grammar.{At, Chain, E, T, Body, Elements, Field, Fields, Arguments, MoreArguments, Function, Declarator, Declarators, Init, Optional, Cases, Catch, Finally, OwnName, MoreParams, Params, Variable, Context, of_function, inside, in_loop, in_switch, labelled, opens_no_expression}
 use Rattle.cc_grammar.specs.Grammar as g
 use Rattle.cc_printer.specs.Printing.{operator, prefix, stepping, assigning, identifier, literal, level_of, is_has, is_whole, needs, parens, braces, is_simple, is_loop_or_label, is_if, is_one, is_bare, is_bare_label, first_opens, names, own_name, otherwise, expr, target, exprs, fields, maybe, initial, declarators, init, stmt, stmts, catch, finally, cases}
-use Rattle.cc_printer.specs.Bare.{bare, bare_named, bare_names, bare_own, bare_target, bare_exprs, bare_maybe, bare_fields, bare_declarators, bare_init, bare_stmt, bare_stmts, bare_catch, bare_finally, bare_cases}
+use Rattle.cc_printer.specs.Bare.{bare_named}
 use Rattle.cc_printer.specs.Printable.{stays_unary, PrintableNames, PrintableOwn, under_label, Printable, PrintableTarget, PrintableExprs, PrintableMaybe, PrintableFields, PrintableDeclarators, PrintableInit, PrintableStmt, PrintableStmts, PrintableCatch, PrintableCases}
-use Rattle.cc_printer.specs.Heights.{enclosed_height, body_height, literal_height, height_initial, height_else, height, height_target, height_exprs, height_maybe, height_fields, height_declarators, height_init, height_stmt, height_stmts, height_cases}
+use Rattle.cc_printer.specs.Heights.{enclosed_height, body_height, literal_height, height_initial, height, height_target, height_exprs, height_maybe, height_fields, height_declarators, height_init, height_stmt, height_stmts, height_cases}
 use Rattle.cc_printer.specs.Placed.{symbols}
 use Rattle.cc_printer.proofs.Kit.{here, infix_back, prefix_back, step_back, prefix_step_back, is_cast, stays_bare, tree_stays, free, levels, links, ap₃, ap₄}
 use Rattle.cc_printer.proofs.Derived.{DerivedExpr, DerivedTarget, DerivedExprs, DerivedArguments, DerivedElements, DerivedFields, DerivedNames, DerivedMore, DerivedOwn, DerivedBody, DerivedOne, DerivedStmt, DerivedFunction, DerivedDeclarator, DerivedDeclarators, DerivedInit, DerivedMaybe, DerivedCases, DerivedCatch, DerivedFinally}
@@ -58,6 +58,7 @@ module _ (f : List Kind → Place) where
 
   mutual
     unfolding expr
+
     tail_expr : (a : RawExpr) (n : Bool) (ks : List Kind) → NoTail (expr a n ks)
     tail_expr (raw.lit p v) n ks = tail_literal v ks
     tail_expr (raw.var p v) n ks = (refl, refl)
@@ -200,7 +201,6 @@ module _ (f : List Kind → Place) where
       let o = inner y (λ s. is_simple s || is_if s) (inside c) (d - 1) ks hy oy gy gy (omega arith) (λ z. inr t) in
       record { tree = raw.if _ e.tree (raw.stmts b.list) (raw.stmts o.list); is = g.if_else {h = d - 1} {i = d - 1} {j = d - 1} (omega arith) (omega arith) (omega arith) here here e.is here b.is here o.is; same = ap₃ (λ x y z. raw.if k.nowhere x y z) e.same b.same o.same }
 
-
   catch_derives : (v : Named) (b : RawStmts) (c : Context) → PrintableCatch (inside c) (raw.caught v b) → (d : ℕ) (ks : List Kind) → height_stmts b < d → DerivesStmts b → DerivedCatch c d (symbols f (catch (raw.caught v b) ks)) (raw.caught v b) (symbols f ks)
   unfolding catch
   catch_derives v b c gs d ks w h = let x = h (inside c) (d - 1) (k.mark m.CloseBrace ∷ ks) gs.1 (omega arith) (refl, refl) in
@@ -223,7 +223,6 @@ module _ (f : List Kind → Place) where
     by true e w gx = i (labelled v c) d (λ s. is_simple s || is_loop_or_label s) ks gx w e (inr t)
     by false e w gx = let y = h (inside (labelled v c)) (d - 1) (k.mark m.CloseBrace ∷ ks) gx (omega (arith, w)) (refl, refl) in record { list = y.list; is = g.block {h = d - 1} (omega (arith, w)) here y.is here; same = y.same }
 
-
   function_derives : (vs : List Named) (ss : RawStmts) (d : ℕ) (ks : List Kind) → PrintableNames vs → PrintableStmts of_function ss → DerivesStmts ss → height_stmts ss ≤ d
       → DerivedFunction d (symbols f (k.mark m.OpenParen ∷ names vs (k.mark m.OpenBrace ∷ stmts ss (k.mark m.CloseBrace ∷ ks)))) vs ss (symbols f ks)
   function_derives vs ss d ks gv gs h w =
@@ -233,6 +232,7 @@ module _ (f : List Kind → Place) where
 
   mutual
     unfolding expr
+
     pub derive : (a : RawExpr) → Printable a → Derives a
     derive (raw.lit p v) ga d l n ks w q o = literal_derives v p d l n ks w q
     derive (raw.var p v) ga d l n ks w q o = record { tree = _; is = g.name (g.variable here ga); same = refl; plain = refl }

@@ -147,7 +147,6 @@ links l (inl e) = record { level = 18; is = g.member_chain; low = by (l == 16); 
   by true = omega arith
   by false = omega arith
 
-
 -- ---- equal parts
 
 pub ap₃ : {A B C D : Type 0} {a a' : A} {b b' : B} {c c' : C} (f : A → B → C → D) → a ≡ a' → b ≡ b' → c ≡ c' → f a b c ≡ f a' b' c'

@@ -1,5 +1,5 @@
 -- No function is left out of a chunk's tree, since functions stand at most as deep as there are scopes.
-use Rattle.std.specs.Prelude.{◌≡◌, ℕ, zero, suc, ◌+◌, ◌<◌, ◌≤◌, ◌⊎◌, List, [], ◌∷◌, Bool, true, false, ◌==◌, cond, IsTrue, length, Option, Some, None, slice_get}
+use Rattle.std.specs.Prelude.{◌≡◌, ℕ, zero, suc, ◌+◌, ◌<◌, ◌≤◌, ◌⊎◌, List, [], ◌∷◌, Bool, true, false, ◌==◌, cond, length, Option, Some, None, slice_get}
 use Rattle.std.proofs.Common.{refl, sym, ap, ◌∙◌, subst, arith, inl, inr}
 use Rattle.std.proofs.lemmas.Bool.Decides.{nat_tests}
 use Rattle.std.proofs.lemmas.Option.{slice_get_within}
@@ -11,7 +11,7 @@ use Rattle.cc_meaning.specs.Parts.{Part, has_site, uses_prop, uses_doc, mentions
 use Rattle.cc_meaning.specs.WellMade.{WellMade, parts_of, is_chunk, Encloses, directly, further}
 use Rattle.cc_grammar.specs.Symbols.{nowhere}
 use Rattle.cc_grammar.specs.RawTree as raw
-use Rattle.cc_printer.specs.RawOf.{Frames, Bodies, named, places, params, outside, own_name, function, declaration, raw_stmts, body_in, raw_bodies, raw_of}
+use Rattle.cc_printer.specs.RawOf.{Frames, Bodies, named, places, params, outside, own_name, function, declaration, raw_stmts, body_in, raw_bodies}
 use Rattle.cc_printer.specs.Naming.{inside_catches}
 use Rattle.cc_printer.specs.Laws.{NoneLeftOut}
 use Rattle.cc_printer.proofs.Lists.{every}

@@ -1,13 +1,11 @@
 -- Whether an expression begins with `{` or `function` doesn't depend on what follows it.
-use Rattle.std.specs.Prelude.{◌≡◌, List, [], ◌∷◌, Bool, true, false, pos, negsuc}
+use Rattle.std.specs.Prelude.{◌≡◌, List, Bool, true, false, pos, negsuc}
 use Rattle.std.proofs.Common.{refl}
-use Rattle.cc_ast.specs.declared.operator.UnOp.{UnOp}
-use Rattle.cc_ast.specs.declared.operator.UnOp.TheVariants as u
 use Rattle.cc_ast.specs.Syntax.{Prim, undefined, null, truth, whole, text}
 use Rattle.cc_grammar.specs.Symbols.{Kind}
 use Rattle.cc_grammar.specs.RawTree.{RawExpr, RawTarget}
 use Rattle.cc_grammar.specs.RawTree as raw
-use Rattle.cc_printer.specs.Printing.{literal, prefix, parens, first_opens, expr, target}
+use Rattle.cc_printer.specs.Printing.{literal, parens, first_opens, expr, target}
 
 behind : (v : Bool) (a : RawExpr) (n : Bool) (ks qs : List Kind) → ((n : Bool) (ks qs : List Kind) → first_opens (expr a n ks) ≡ first_opens (expr a n qs)) → first_opens (parens v (expr a) n ks) ≡ first_opens (parens v (expr a) n qs)
 behind true a n ks qs h = refl
@@ -23,6 +21,7 @@ opens_literal (text t) ks qs = refl
 
 mutual
   unfolding expr
+
   pub opens_expr : (a : RawExpr) (n : Bool) (ks qs : List Kind) → first_opens (expr a n ks) ≡ first_opens (expr a n qs)
   opens_expr (raw.lit p v) n ks qs = opens_literal v ks qs
   opens_expr (raw.var p v) n ks qs = refl

@@ -30,9 +30,16 @@ abbrev program : S.Program
 program = record {
   scopes =
       record { params = 0; names = 0; own = false; parent = None; doc = 0; body = list (S.pay_stmt 0 3 ∷ S.vars 0 (record { site = 0; variable = Global 1; value = Some (S.tick 0 2 (S.fun 0 1)) } ∷ []) ∷ []) } ∷
-      record { params = 2; names = 2; own = true; parent = Some 0; doc = 0; body = list (S.vars 0 (record { site = 0; variable = Frame 0 3; value = None } ∷ [])
-          ∷ S.try 0 (list (S.simple 0 (S.call 0 (local 1 0) (args (local 0 0 ∷ local 0 1 ∷ []))) ∷ [])) (S.present (list (S.simple 0 (S.assign 0 None (S.to_var 0 (Frame 1 3)) (local 0 0)) ∷ []))) S.absent
-          ∷ S.return 0 (Some (S.unary 0 u.Minus (S.cast 0 0 (S.lit 0 (S.whole (pos 1)))))) ∷ []) } ∷ [];
+      record {
+        params = 2;
+        names = 2;
+        own = true;
+        parent = Some 0;
+        doc = 0;
+        body = list (S.vars 0 (record { site = 0; variable = Frame 0 3; value = None } ∷ [])
+            ∷ S.try 0 (list (S.simple 0 (S.call 0 (local 1 0) (args (local 0 0 ∷ local 0 1 ∷ []))) ∷ [])) (S.present (list (S.simple 0 (S.assign 0 None (S.to_var 0 (Frame 1 3)) (local 0 0)) ∷ []))) S.absent
+            ∷ S.return 0 (Some (S.unary 0 u.Minus (S.cast 0 0 (S.lit 0 (S.whole (pos 1)))))) ∷ []);
+      } ∷ [];
   chunks = [];
   globals = [];
   props = [];

@@ -47,10 +47,10 @@ one_back c us cs (inr h) e = by (nat_lt c 0x10000) refl where
   by false t = let l : 0x10000 ≤ c = grind (arith, nat_tests) in
       let o : 0xDBFF < 0xDC00 + (c - 0x10000) % 0x400 = omega arith in
       subst (λ ws. characters (ws ++ us) ≡ c ∷ cs) (sym (large c l))
-        (ap (λ zs. join (0xD800 + (c - 0x10000) / 0x400) (join (0xDC00 + (c - 0x10000) % 0x400) zs)) e
-         ∙ ap (join (0xD800 + (c - 0x10000) / 0x400)) (alone (0xDC00 + (c - 0x10000) % 0x400) cs (no_high (0xDC00 + (c - 0x10000) % 0x400) (inr o)))
-         ∙ two (0xD800 + (c - 0x10000) / 0x400) (0xDC00 + (c - 0x10000) % 0x400) cs (is_first c l h.1) (is_second c)
-         ∙ ap (λ d. d ∷ cs) (halves c l h.1))
+      (ap (λ zs. join (0xD800 + (c - 0x10000) / 0x400) (join (0xDC00 + (c - 0x10000) % 0x400) zs)) e
+      ∙ ap (join (0xD800 + (c - 0x10000) / 0x400)) (alone (0xDC00 + (c - 0x10000) % 0x400) cs (no_high (0xDC00 + (c - 0x10000) % 0x400) (inr o)))
+      ∙ two (0xD800 + (c - 0x10000) / 0x400) (0xDC00 + (c - 0x10000) % 0x400) cs (is_first c l h.1) (is_second c)
+      ∙ ap (λ d. d ∷ cs) (halves c l h.1))
 
 ranges : (c : ℕ) → (c < 55296) ⊎ ((57344 ≤ c) × (c < 1114112)) → (c < 0xD800) ⊎ ((0xDFFF < c) × (c < 0x110000))
 ranges c (inl h) = inl h

@@ -1,11 +1,9 @@
 -- A tree is the same where the bodies of the functions that are made in it are.
-use Rattle.std.specs.Prelude.{◌≡◌, ℕ, suc, List, [], ◌∷◌, ◌++◌, Bool, true, false, Option, Some, None, slice_get}
+use Rattle.std.specs.Prelude.{◌≡◌, ℕ, suc, List, [], ◌∷◌, ◌++◌, Option, Some, None, slice_get}
 use Rattle.std.proofs.Common.{refl, ap, ap₂}
-use Rattle.cc_ast.specs.declared.tree.Key.{Key}
-use Rattle.cc_ast.specs.declared.tree.Key.TheVariants.{Dotted, Quoted}
 use Rattle.cc_ast.specs.Syntax as S
 use Rattle.cc_meaning.specs.State.{Tables}
-use Rattle.cc_meaning.specs.Parts.{Part, has_site, uses_prop, uses_doc, mentions, declares, makes, sets_method, key_parts, method_in, expr_parts, target_parts, exprs_parts, fields_parts, option_parts, vars_parts, init_parts, name_parts, stmt_parts, stmts_parts, maybe_parts, cases_parts}
+use Rattle.cc_meaning.specs.Parts.{Part, makes, key_parts, method_in, expr_parts, target_parts, exprs_parts, fields_parts, option_parts, vars_parts, init_parts, name_parts, stmt_parts, stmts_parts, maybe_parts, cases_parts}
 use Rattle.cc_grammar.specs.Symbols.{nowhere}
 use Rattle.cc_grammar.specs.RawTree as raw
 use Rattle.cc_grammar.specs.Signs.{unary_tree}
@@ -31,6 +29,7 @@ module _ (P : S.Program) (ns : S.Names) (A B : Bodies) (gs : Frames) (T : Tables
 
   mutual
     unfolding expr_parts
+
     same_expr : (e : S.Expr) (c : ℕ) → All (expr_parts T c e) → raw_expr P ns A (fr c) e ≡ raw_expr P ns B (fr c) e
     same_expr (S.lit s v) c h = refl
     same_expr (S.var s r) c h = refl
@@ -102,6 +101,7 @@ module _ (P : S.Program) (ns : S.Names) (A B : Bodies) (gs : Frames) (T : Tables
 
   mutual
     unfolding stmt_parts
+
     same_stmt : (s : S.Stmt) (c : ℕ) → All (stmt_parts T c s) → raw_stmt P ns A (fr c) s ≡ raw_stmt P ns B (fr c) s
     same_stmt (S.simple i e) c h = ap (λ x. raw.simple nowhere x) (same_expr e c h.1)
     same_stmt (S.vars i ds) c h = ap (λ x. raw.vars nowhere x) (same_vars c ds h.1)

@@ -80,6 +80,7 @@ of_otherwise (raw.more_stmts s ss) f h ks a = w (of_braces _ f h ks a)
 
 mutual
   unfolding expr
+
   of_expr : (a : RawExpr) → Spellable a → (n : Bool) → Keeps (expr a n)
   of_expr (raw.lit p x) h n ks a = of_literal x ks h a
   of_expr (raw.var p x) h n ks a = v h a

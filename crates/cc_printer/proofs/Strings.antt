@@ -91,10 +91,10 @@ one_unit : (q c : ℕ) (xs us ys : List ℕ) → is_quote q ≡ true → nat_lt 
 one_unit q c xs us ys h k u = either (λ w. InString q (w ++ xs) (closes (c ∷ us) ys)) (c == q || c == 92) _ _ (λ e. is_escaped q c xs us ys (quoted q c h e) u)
     (λ e. either (λ w. InString q (w ++ xs) (closes (c ∷ us) ys)) (nat_lt 7 c && nat_lt c 14) _ _ (λ f. lettered q c xs us ys (grind (arith, nat_tests)) (grind (arith, nat_tests)) u)
     (λ f. either (λ w. InString q (w ++ xs) (closes (c ∷ us) ys)) (nat_lt c 32 || nat_lt 126 c) _ _
-      (λ g. let l : c < 0x10000 = grind (arith, nat_tests) in subst (λ d. InString q (92 ∷ 117 ∷ glyph (c / 4096) ∷ glyph (c / 256 % 16) ∷ glyph (c / 16 % 16) ∷ glyph (c % 16) ∷ xs) (closes (d ∷ us) ys)) (pieces c l)
-         (escape refl (quad (c / 4096) (c / 256 % 16) (c / 16 % 16) (c % 16) xs (omega arith) (omega arith) (omega arith) (omega arith)) u))
-      (λ g. let p : encode_utf16 c ≡ c ∷ [] = ap (λ b. cond b (c ∷ []) ((0xD800 + (c - 0x1_0000) / 0x400) ∷ (0xDC00 + (c - 0x1_0000) % 0x400) ∷ [])) k in
-          subst (λ vs. InString q (c ∷ xs) (closes (vs ++ us) ys)) p (plain (is_itself q c e g) u))))
+    (λ g. let l : c < 0x10000 = grind (arith, nat_tests) in subst (λ d. InString q (92 ∷ 117 ∷ glyph (c / 4096) ∷ glyph (c / 256 % 16) ∷ glyph (c / 16 % 16) ∷ glyph (c % 16) ∷ xs) (closes (d ∷ us) ys)) (pieces c l)
+    (escape refl (quad (c / 4096) (c / 256 % 16) (c / 16 % 16) (c % 16) xs (omega arith) (omega arith) (omega arith) (omega arith)) u))
+    (λ g. let p : encode_utf16 c ≡ c ∷ [] = ap (λ b. cond b (c ∷ []) ((0xD800 + (c - 0x1_0000) / 0x400) ∷ (0xDC00 + (c - 0x1_0000) % 0x400) ∷ [])) k in
+    subst (λ vs. InString q (c ∷ xs) (closes (vs ++ us) ys)) p (plain (is_itself q c e g) u))))
 
 all_units : (q : ℕ) (us ys : List ℕ) → is_quote q ≡ true → Units us → InString q (units q us ++ ys) (closes us ys)
 all_units q [] ys h a = quote refl

@@ -1,6 +1,6 @@
 -- The expressions of a program are written, where the parts that stand in them are.
-use Rattle.std.specs.Prelude.{◌≡◌, ℕ, zero, suc, pos, negsuc, ◌+◌, ◌<◌, ◌≤◌, List, [], ◌∷◌, ◌++◌, Bool, true, false, not, ◌&&◌, ◌||◌, length, Option, Some, None, slice_get, nat_lt, nat_le, ◌^◌}
-use Rattle.std.proofs.Common.{refl, sym, ap, ◌∙◌, subst, arith}
+use Rattle.std.specs.Prelude.{◌≡◌, ℕ, zero, suc, pos, negsuc, ◌+◌, ◌≤◌, List, [], ◌∷◌, ◌++◌, Bool, true, false, not, ◌&&◌, ◌||◌, length, Option, Some, None, slice_get}
+use Rattle.std.proofs.Common.{refl, ap, ◌∙◌, arith}
 use Rattle.std.proofs.lemmas.Bool.Decides.{nat_tests}
 use Rattle.cc_ast.specs.declared.operator.BinOp.{BinOp}
 use Rattle.cc_ast.specs.declared.operator.BinOp.TheVariants as b
@@ -22,8 +22,8 @@ use Rattle.cc_grammar.specs.Signs as sign
 use Rattle.cc_grammar.specs.Grammar.{Context}
 use Rattle.cc_printer.specs.Printing.{assigning}
 use Rattle.cc_printer.specs.Printing as printed
-use Rattle.cc_printer.specs.Printable.{stays_unary, is_key, Printable, PrintableTarget, PrintableExprs, PrintableFields, PrintableStmt}
-use Rattle.cc_printer.specs.Spelling.{IsName, Sound}
+use Rattle.cc_printer.specs.Printable.{is_key, Printable, PrintableTarget, PrintableExprs, PrintableFields, PrintableStmt}
+use Rattle.cc_printer.specs.Spelling.{Sound}
 use Rattle.cc_printer.specs.Spellable.{SpellableLiteral, Spellable, SpellableTarget, SpellableExprs, SpellableFields, SpellableStmt}
 use Rattle.cc_printer.specs.RawOf.{Frames, Bodies, places, variable, property, key, function, declaration, raw_expr, raw_target, raw_exprs, raw_fields}
 use Rattle.cc_printer.specs.Texts.{LiteralUnits, KeyUnits, ExprUnits, TargetUnits, ExprsUnits, FieldsUnits}
@@ -156,6 +156,7 @@ module _ (P : S.Program) (ns : S.Names) (B : Bodies) (gs : Frames) where
 
     mutual
       unfolding expr_parts expr_well
+
       pub fine_expr : (e : S.Expr) → expr_well T e ≡ true → AllFine (expr_parts T c e) → ExprUnits e → FineExpr (tree e)
       fine_expr (S.lit s v) w h t = (tt, literal_fine v w t)
       fine_expr (S.var s r) w h t = let v = h.1.0 room in (v.allowed, v.identifier)

@@ -1,6 +1,6 @@
 -- A chunk of a well made program is written under names of variables, and its text reads back.
-use Rattle.std.specs.Prelude.{◌≡◌, ℕ, zero, suc, ◌+◌, ◌<◌, ◌≤◌, List, [], ◌∷◌, Bool, true, false, not, IsTrue, IsFalse, length, Option, Some, None, slice_get, drop}
-use Rattle.std.proofs.Common.{refl, sym, ap, ◌∙◌, subst, arith}
+use Rattle.std.specs.Prelude.{◌≡◌, ℕ, zero, suc, ◌+◌, ◌<◌, ◌≤◌, List, [], ◌∷◌, Bool, true, false, not, length, Option, Some, None, slice_get, drop}
+use Rattle.std.proofs.Common.{refl, sym, ap, subst, arith}
 use Rattle.cc_ast.specs.declared.tree.Ref.{Ref}
 use Rattle.cc_ast.specs.Syntax as S
 use Rattle.cc_meaning.specs.Shapes.{tables_of, body_of}
@@ -10,7 +10,7 @@ use Rattle.cc_meaning.specs.Parts.{Part, has_site, uses_prop, uses_doc, mentions
 use Rattle.cc_meaning.specs.Spelled.{IsSpelled, stmts_labels}
 use Rattle.cc_meaning.specs.WellMade.{WellMade, parts_of, is_chunk, opened, Reached, Holds, IsSound, sound_place, IsPart, a_prop, a_mention, a_declaration}
 use Rattle.cc_grammar.specs.Symbols as k
-use Rattle.cc_grammar.specs.Grammar.{Context, of_program, of_function, is_among}
+use Rattle.cc_grammar.specs.Grammar.{Context, of_program, of_function}
 use Rattle.cc_printer.specs.Printable.{PrintableNames, PrintableOwn, PrintableStmt, PrintableStmts}
 use Rattle.cc_printer.specs.Spelling.{IsName}
 use Rattle.cc_printer.specs.Spellable.{SpellableNames, SpellableOwn, SpellableStmt}
@@ -19,12 +19,12 @@ use Rattle.cc_printer.specs.Texts.{HasUnits}
 use Rattle.cc_printer.specs.Naming.{IsVariableName, IsPropertyName, AreNames, Around, around_chunk, around_function, inside_catches, inside_function, stmts_catches}
 use Rattle.cc_printer.specs.Printing.{tokens}
 use Rattle.cc_printer.specs.Heights.{height_stmts}
-use Rattle.cc_printer.specs.Spelling.{glue, last}
+use Rattle.cc_printer.specs.Spelling.{last}
 use Rattle.cc_printer.specs.Laws.{ProgramsAreWritten, ProgramsReadBack, Back}
 use Rattle.cc_printer.proofs.Lists.{every, there_is}
 use Rattle.cc_printer.proofs.WrittenExpressions.{FineExpr, Fine, Room}
 use Rattle.cc_printer.proofs.WrittenStatements.{context, FineStmts, fine_stmts}
-use Rattle.cc_printer.proofs.Slots.{scope_of, is_made, held, is_reached}
+use Rattle.cc_printer.proofs.Slots.{is_made, held, is_reached}
 use Rattle.cc_printer.proofs.Spells.{of_stmts}
 use Rattle.cc_printer.proofs.Back.{reads_back}
 use Rattle.cc_printer.proofs.Bytes.{is_utf8}
@@ -115,8 +115,8 @@ module _ (P : S.Program) (ns : S.Names) (W : WellMade P) (spelled : IsSpelled Is
       let room = names.enough f fs a in
       let catches : stmts_catches (body_of P f) ≡ stmts_catches s.body = ap stmts_catches (same_body f s e) in
       fine_stmts P ns B fs (tables_of P) names.slots s.body 0 (opened P f) [] known.statements
-        (every (Fine P ns B fs) (stmts_parts (tables_of P) 0 s.body) (λ x i. let j : In x (parts_of P f) = subst (λ xs. In x xs) (sym same) i in part_fine B go f fs a x j (known.parts x j)))
-        (units f s e) (every IsName (stmts_labels s.body) (λ l i. spelled.labels f s l e i)) (λ n h. cc) (omega (arith, room, catches))
+      (every (Fine P ns B fs) (stmts_parts (tables_of P) 0 s.body) (λ x i. let j : In x (parts_of P f) = subst (λ xs. In x xs) (sym same) i in part_fine B go f fs a x j (known.parts x j)))
+      (units f s e) (every IsName (stmts_labels s.body) (λ l i. spelled.labels f s l e i)) (λ n h. cc) (omega (arith, room, catches))
 
   body_fine : (B : Bodies) → FineBodies B → (f : ℕ) (fs : Frames) → Around P f fs → (o : Option S.Scope) → slice_get P.scopes f ≡ o → FineStmts (context (opened P f) []) (raw_stmts P ns B fs (body_in o))
   body_fine B go f fs a None e = (tt, tt)
@@ -132,7 +132,7 @@ are_written P ns chunk W spelled units names c =
     (subst (λ k. PrintableStmts k (raw_of P ns chunk)) (chunk_context P chunk c) x.0, x.1)
 
 pub read_back : ProgramsReadBack
-read_back P ns chunk file W spelled units names c = 
+read_back P ns chunk file W spelled units names c =
     let tree = raw_of P ns chunk in
     let x = are_written P ns chunk W spelled units names c in
     let u = is_utf8 (tokens tree) (of_stmts tree x.1 (k.end ∷ []) last) in

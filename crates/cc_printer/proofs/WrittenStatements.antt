@@ -1,5 +1,5 @@
 -- The statements of a program are written where they may stand, as the parts that stand in them are.
-use Rattle.std.specs.Prelude.{◌≡◌, ℕ, zero, suc, max, ◌+◌, ◌<◌, ◌≤◌, List, [], ◌∷◌, ◌++◌, Bool, true, false, not, ◌&&◌, ◌||◌, cond, nat_eq, nat_lt, length, Option, Some, None}
+use Rattle.std.specs.Prelude.{◌≡◌, ℕ, suc, ◌<◌, List, [], ◌∷◌, ◌++◌, Bool, true, false, not, ◌&&◌, ◌||◌, cond, nat_eq, nat_lt, length, Option, Some, None}
 use Rattle.std.proofs.Common.{refl, sym, ap, ◌∙◌, subst, arith}
 use Rattle.std.proofs.lemmas.Bool.{eqb-true}
 use Rattle.std.proofs.lemmas.Bool.Decides.{nat_tests}
@@ -7,7 +7,7 @@ use Rattle.cc_ast.specs.Syntax as S
 use Rattle.cc_meaning.specs.State.{Tables}
 use Rattle.cc_meaning.specs.Monad.{pick}
 use Rattle.cc_meaning.specs.Operators.{is_in}
-use Rattle.cc_meaning.specs.Parts.{Part, expr_parts, target_parts, option_parts, vars_parts, init_parts, name_parts, stmt_parts, stmts_parts, maybe_parts, cases_parts, expr_well, target_well}
+use Rattle.cc_meaning.specs.Parts.{Part, expr_parts, option_parts, vars_parts, init_parts, name_parts, stmt_parts, stmts_parts, maybe_parts, cases_parts, expr_well}
 use Rattle.cc_meaning.specs.Spelled.{jump_label, stmt_labels, stmts_labels, maybe_labels, cases_labels}
 use Rattle.cc_meaning.specs.WellMade.{Open, nested, option_well, vars_well, some_vars, init_well, name_well, may_break, may_continue, counted, labels_for, defaults, is_there, stmt_well, stmts_well, maybe_well, cases_well}
 use Rattle.cc_meaning.specs.WellMade as W
@@ -23,7 +23,7 @@ use Rattle.cc_printer.specs.RawOf.{Frames, Bodies, name_at, places, raw_maybe, r
 use Rattle.cc_printer.specs.Texts.{OptionUnits, VarsUnits, InitUnits, ForTargetUnits, StmtUnits, StmtsUnits, MaybeUnits, CasesUnits}
 use Rattle.cc_printer.specs.Naming.{IsVariableName, inside_catches, stmt_catches, stmts_catches, catch_catches, finally_catches, cases_catches}
 use Rattle.cc_printer.proofs.Lists.{Every, parted, and_parts, same_member}
-use Rattle.cc_printer.proofs.WrittenExpressions.{around, Room, AllFine, Fine, fine_expr, fine_target}
+use Rattle.cc_printer.proofs.WrittenExpressions.{Room, AllFine, Fine, fine_expr, fine_target}
 
 -- where a statement stands, as the grammar says it
 abbrev pub context : Open → Labels → Context
@@ -208,6 +208,7 @@ module _ (P : S.Program) (ns : S.Names) (B : Bodies) (gs : Frames) (T : Tables) 
 
   mutual
     unfolding stmt_well stmt_parts stmt_labels
+
     pub fine_stmt : (s : S.Stmt) (c : ℕ) (o : Open) (ls : Labels) → stmt_well T o ls s ≡ true → Parts (stmt_parts T c s) → StmtUnits s → Every IsName (stmt_labels s) → Going o → Space c (stmt_catches s) → FineStmt (context o ls) (raw_stmt P ns B (fr c) s)
     fine_stmt (S.simple i e) c o ls w h t n g room = fine_expr P ns B gs T c room e w h.1 t
     fine_stmt (S.vars i ds) c o ls w h t n g room = fine_vars c room ds w h.1 t

@@ -1,6 +1,6 @@
 -- The heights of what is printed, as the grammar counts them: an expression has 1 more than its highest part, and so have
 -- parentheses and braces, where they are written; a name, `this` and a literal have 0.
-use Rattle.std.specs.Prelude.{ℕ, pos, negsuc, max, ◌+◌, [], ◌∷◌, Bool, true, false, not, ◌||◌, if◌then◌else◌}
+use Rattle.std.specs.Prelude.{ℕ, negsuc, max, ◌+◌, [], Bool, true, false, not, if◌then◌else◌}
 use Rattle.cc_ast.specs.Syntax.{Prim, undefined, whole}
 use Rattle.cc_grammar.specs.RawTree.{RawExpr, RawTarget, RawExprs, MaybeExpr, RawFields, RawDeclarators, RawInit, RawForTarget, RawStmt, RawStmts, RawCatch, RawFinally, RawCases}
 use Rattle.cc_grammar.specs.RawTree as raw

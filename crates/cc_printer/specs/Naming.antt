@@ -1,11 +1,11 @@
 -- What the names of a program's variables must be, so that it can be written under them.
-use Rattle.std.specs.Prelude.{◌≡◌, ℕ, zero, suc, max, ◌+◌, ◌<◌, ◌≤◌, List, [], ◌∷◌, Bool, length, Option, Some, None, IsTrue, slice_get}
+use Rattle.std.specs.Prelude.{◌≡◌, ℕ, zero, suc, max, ◌+◌, ◌<◌, ◌≤◌, List, [], ◌∷◌, Bool, length, Some, None, IsTrue, slice_get}
 use Rattle.cc_ast.specs.declared.tree.Ref.{Ref}
 use Rattle.cc_ast.specs.Syntax as S
 use Rattle.cc_grammar.specs.Signs.{refused_name}
 use Rattle.cc_meaning.specs.Alike.{In}
 use Rattle.cc_meaning.specs.Shapes.{body_of}
-use Rattle.cc_meaning.specs.Parts.{Part, mentions, declares, makes}
+use Rattle.cc_meaning.specs.Parts.{mentions, declares, makes}
 use Rattle.cc_meaning.specs.WellMade.{parts_of, is_chunk, Reached}
 use Rattle.cc_printer.specs.Printing.{identifier}
 use Rattle.cc_printer.specs.Spelling.{IsName, Sound}
