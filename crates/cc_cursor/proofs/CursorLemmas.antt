@@ -1,6 +1,7 @@
 -- The tokens that a cursor shows.
-use Rattle.std.proofs.Common.{◌≡◌, refl, ap, List, [], ◌∷◌, ◌++◌, Bool, Option}
-use Rattle.std.specs.Prelude.{is_none}
+use Rattle.std.proofs.Common.{◌≡◌, ℕ, ◌+◌, ◌<◌, refl, ap, ◌∙◌, arith, length-drop, List, [], ◌∷◌, ◌++◌, Bool, true, false, Option, Some, None, length, drop}
+use Rattle.std.specs.Prelude.{is_some, is_none}
+use Rattle.std.proofs.lemmas.List.{drop-drop}
 use Rattle.cc_ast.specs.declared.reading.Refusal.{Refusal}
 use Rattle.cc_lexer.specs.declared.token.Token.{Token}
 use Rattle.cc_grammar.specs.Symbols.{stop_of, lexemes, kind_of}
@@ -8,7 +9,8 @@ use Rattle.cc_grammar.specs.Symbols as k
 use Rattle.cc_cursor.specs.declared.lexeme.Kind.{Kind}
 use Rattle.cc_cursor.specs.declared.lexeme.Kind.TheVariants as code
 use Rattle.cc_cursor.specs.declared.lexeme.Lexeme.{Lexeme}
-use Rattle.cc_cursor.specs.Shown.{behind, maybe, IsReal, kind}
+use Rattle.cc_grammar.specs.Reading.{rest_tokens}
+use Rattle.cc_cursor.specs.Shown.{behind, maybe, BeginsReal, IsReal, kind}
 
 pub behind_all : (noted : Bool) (ts : List Token) (o : Option Lexeme) (s : Option Refusal) → maybe o ≡ stop_of s → behind noted ts o ≡ lexemes noted ts s
 behind_all noted [] o s e = e
@@ -22,3 +24,18 @@ real (code.Number n) = record { element = refl; remedy = refl; ending = refl }
 real (code.Text u) = record { element = refl; remedy = refl; ending = refl }
 real code.End = record { element = refl; remedy = refl; ending = refl }
 real (code.Stop c) = record { element = refl; remedy = refl; ending = refl }
+
+taken_by : (o : Option k.Kind) (noted : Bool) (t : Token) (ts : List Token) (s : Option Lexeme) → is_some o ≡ true → rest_tokens (k.lexeme o noted t ++ behind (is_none o) ts s) ≡ behind false ts s
+taken_by None noted t ts s e = absurd (cc)
+taken_by (Some x) noted t ts s e = refl
+
+taken_first : (noted : Bool) (ts : List Token) (s : Option Lexeme) → 0 < length ts → BeginsReal ts → rest_tokens (behind noted ts s) ≡ behind false (drop 1 ts) s
+taken_first noted [] s some real = absurd (omega arith)
+taken_first noted (t ∷ ts) s some real = taken_by (kind_of t.kind) noted t ts s real
+
+-- behind the first token stand those from the next index on
+pub taken : (noted : Bool) (ts : List Token) (at : ℕ) (s : Option Lexeme) → at < length ts → BeginsReal (drop at ts) → rest_tokens (behind noted (drop at ts) s) ≡ behind false (drop (at + 1) ts) s
+taken noted ts at s below real =
+    let size = length-drop at ts in
+    let next : drop 1 (drop at ts) ≡ drop (at + 1) ts = drop-drop 1 at ts in
+    taken_first noted (drop at ts) s (omega arith) real ∙ ap (λ xs. behind false xs s) next

@@ -1,3 +1,4 @@
 pub mod Turns
 pub mod CursorLemmas
 pub mod LabelLemmas
+pub mod NameLemmas

@@ -1,6 +1,6 @@
 -- What the code's names of properties and keys show.
 use Rattle.std.specs.Prelude.{ℕ, List}
-use Rattle.cc_grammar.specs.Symbols.{spelling}
+use Rattle.cc_lexer.specs.Words.{spelling}
 use Rattle.cc_grammar.specs.RawTree as raw
 use Rattle.cc_cursor.specs.declared.keys.Property.{Property}
 use Rattle.cc_cursor.specs.declared.keys.Property.TheVariants as P

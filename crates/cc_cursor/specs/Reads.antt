@@ -1,7 +1,7 @@
 -- The reading function over lists of tokens, and what a reader ensures.
 use Rattle.std.specs.Prelude.{◌≡◌, ℕ, zero, suc, Bool, List, Result, Ok, Err, Option}
 use Rattle.cc_lexer.specs.declared.token.Mark.{Mark}
-use Rattle.cc_grammar.specs.declared.word.Word.{Word}
+use Rattle.cc_lexer.specs.declared.word.Word.{Word}
 use Rattle.cc_grammar.specs.Symbols.{Lexeme}
 use Rattle.cc_grammar.specs.RawTree as S
 use Rattle.cc_grammar.specs.Reading.{Outcome, Sized, Inner, look_token, rest_tokens, semicolon_token}

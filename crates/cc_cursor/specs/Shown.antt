@@ -1,5 +1,5 @@
 -- What the values of the code show.
-use Rattle.std.specs.Prelude.{◌≡◌, ℕ, List, [], ◌∷◌, ◌++◌, Bool, false, Option, Some, None, is_none, map}
+use Rattle.std.specs.Prelude.{◌≡◌, ℕ, List, [], ◌∷◌, ◌++◌, Bool, true, false, Option, Some, None, is_some, is_none, map}
 use denote.Ref.{Bor}
 use Rattle.cc_ast.specs.declared.place.Place.{Place}
 use Rattle.cc_ast.specs.declared.reading.Construct.{Construct}
@@ -49,9 +49,10 @@ abbrev pub behind : Bool → List Token → Option coded.Lexeme → List Lexeme
 behind noted [] s = maybe s
 behind noted (t ∷ ts) s = k.lexeme (kind_of t.kind) noted t ++ behind (is_none (kind_of t.kind)) ts s
 
-abbrev pub ahead : Option coded.Lexeme → List Token → Option coded.Lexeme → List Lexeme
-ahead None ts s = []
-ahead (Some t) ts s = lexeme t ∷ behind false ts s
+-- the first of the tokens, where there is one, is no comment
+abbrev pub BeginsReal : List Token → Type 0
+BeginsReal [] = Unit {0}
+BeginsReal (t ∷ ts) = is_some (kind_of t.kind) ≡ true
 
 abbrev pub due : Due → r.Due
 due d.Token = r.a_token

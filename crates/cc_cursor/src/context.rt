@@ -4,7 +4,7 @@ ghost use Rattle.std.specs.Prelude.{◌≡◌};
 ghost use Rattle.cc_grammar.specs.Grammar as grammar;
 ghost use Rattle.cc_cursor.specs.Shown as shown;
 
-use cc_ast::units::Units;
+use cc_lexer::piece::Piece;
 
 /// Whether a function declaration may stand there, whether a function encloses it, a loop, and a
 /// loop or `switch`; the labels that are open, those of the enclosing loops, and those right before
@@ -15,9 +15,9 @@ pub struct Context<'a> {
     pub returns: bool,
     pub continues: bool,
     pub breaks: bool,
-    pub labels: &'a [&'a Units],
-    pub loops: &'a [&'a Units],
-    pub own: &'a [&'a Units],
+    pub labels: &'a [&'a Piece<'a>],
+    pub loops: &'a [&'a Piece<'a>],
+    pub own: &'a [&'a Piece<'a>],
 }
 
 impl<'a> Context<'a> {

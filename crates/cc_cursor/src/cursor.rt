@@ -1,39 +1,44 @@
 // A cursor over the tokens that are no comments.
 
-ghost use Rattle.std.specs.Prelude.{◌≡◌, false};
+ghost use Rattle.std.specs.Prelude.{◌≡◌, ◌≤◌, false, Option, nat_lt, drop, length};
 ghost use Rattle.cc_grammar.specs.Symbols as symbols;
 ghost use Rattle.cc_grammar.specs.Reading as reading;
 ghost use Rattle.cc_grammar.specs.Reading.{look_token, rest_tokens};
+ghost use Rattle.cc_cursor.specs.declared.lexeme.Lexeme as coded;
 ghost use Rattle.cc_cursor.specs.Shown as shown;
 ghost use Rattle.cc_cursor.specs.Reads as spec;
 ghost use Rattle.cc_cursor.specs.Reads.{Reads, same};
 
 use crate::error::{Cause, Fault, ReadError};
-use crate::lexeme::{Kind, Lexeme, is_end, is_mark, is_word, kind_of, offends};
+use crate::lexeme::{Kind, Lexeme, is_end, is_mark, is_word, lexeme_of, offends};
 use crate::refused::{Due, fault};
 use cc_ast::place::Place;
 use cc_ast::reading::{Construct, Refusal};
-use cc_grammar::word::Word;
-use cc_lexer::token::{Mark, Token, Tokens};
+use cc_lexer::token::{Mark, Token, TokenKind, Tokens};
+use cc_lexer::word::Word;
 use std::marker::Model;
 
-/// The next token, those behind it, and behind them the place where none begins.
+/// Tokens, the index of the next one, which is no comment, whether an annotation comment stands
+/// before it, and behind them the place where none begins.
 #[derive(Drop)]
 pub struct Cursor<'a> {
-    next: Option<Lexeme<'a>>,
-    rest: &'a [Token],
+    tokens: &'a [Token<'a>],
+    at: usize,
+    noted: bool,
     stop: Option<Lexeme<'a>>,
 }
 
 impl<'a> Model for Cursor<'a> {
-    ghost use Rattle.std.specs.Prelude.{List};
+    ghost use Rattle.std.specs.Prelude.{List, drop};
     ghost use Rattle.cc_grammar.specs.Symbols.{Lexeme};
 
     ghost Value = { List Lexeme };
 
-    ghost use Rattle.cc_cursor.specs.Shown.{ahead};
+    ghost use Rattle.cc_cursor.specs.Shown.{behind, BeginsReal};
 
-    ghost view = { λ c. ahead c.next c.rest.now c.stop };
+    ghost view = { λ c. behind c.noted (drop c.at c.tokens.now) c.stop };
+
+    ghost invariant = { λ c. BeginsReal (drop c.at c.tokens.now) };
 }
 
 const NOTHING: Lexeme<'static> = Lexeme {
@@ -69,42 +74,35 @@ fn stop_of<'a>(stop: &Option<Refusal>) -> Option<Lexeme<'a>>
     }
 }
 
-// The cursor before these tokens.
-fn before<'a>(tokens: &'a [Token], stop: Option<Lexeme<'a>>) -> Cursor<'a>
-    ensures { result ≡ shown.behind false tokens.now stop.entry }
+// The index of the first token from this one on that is no comment.
+fn skip(tokens: &[Token<'_>], from: usize) -> usize
+    requires { from ≤ length tokens.now }
+    ensures behind { (stop : Option coded.Lexeme) → shown.behind false (drop from tokens.now) stop ≡ shown.behind (nat_lt from result) (drop result tokens.now) stop }
+    ensures real { shown.BeginsReal (drop result tokens.now) }
+    ensures order { from ≤ result }
 {
-    let mut rest = tokens;
-    let mut noted = false;
-    while let Some((token, behind)) = rest.split_first() {
-        rest = behind;
-        if let Some(kind) = kind_of(&token.kind) {
-            let next = Lexeme {
-                kind,
-                place: token.place,
-                after_line: token.after_line,
-                noted,
-            };
-            return Cursor {
-                next: Some(next),
-                rest,
-                stop,
-            };
+    for at in from..tokens.len() {
+        match tokens[at].kind {
+            TokenKind::Doc(_) => {}
+            _ => return at,
         }
-        noted = true;
     }
-    Cursor {
-        next: stop,
-        rest,
-        stop: None,
-    }
+    tokens.len()
 }
 
 impl<'a> Cursor<'a> {
     /// The cursor at the begin of a file.
-    pub fn new(tokens: &'a Tokens) -> Cursor<'a>
+    pub fn new(tokens: &'a Tokens<'a>) -> Cursor<'a>
         ensures { result ≡ symbols.lexemes false tokens.now.list.items tokens.now.stop }
     {
-        before(tokens.list.as_slice(), stop_of(&tokens.stop))
+        let list = tokens.list.as_slice();
+        let at = skip(list, 0);
+        Cursor {
+            tokens: list,
+            at,
+            noted: at > 0,
+            stop: stop_of(&tokens.stop),
+        }
     }
 
     /// A cursor at the same token.
@@ -112,8 +110,9 @@ impl<'a> Cursor<'a> {
         ensures { result ≡ self.now }
     {
         Cursor {
-            next: self.next,
-            rest: self.rest,
+            tokens: self.tokens,
+            at: self.at,
+            noted: self.noted,
             stop: self.stop,
         }
     }
@@ -124,9 +123,9 @@ impl<'a> Cursor<'a> {
         ensures shows { shown.Shows result (look_token self.now) }
         ensures real { shown.IsReal (look_token self.now).kind }
     {
-        match self.next {
-            Some(next) => next,
-            None => NOTHING,
+        match self.tokens.get(self.at) {
+            Some(token) => lexeme_of(token, self.noted),
+            None => self.stop.unwrap_or(NOTHING),
         }
     }
 
@@ -179,13 +178,17 @@ impl<'a> Cursor<'a> {
         ensures place { result ≡ (look_token self.old).place }
         ensures rest { self.new ≡ rest_tokens self.old }
     {
-        match self.next {
-            Some(next) => {
-                *self = before(self.rest, self.stop);
-                next.place
-            }
-            None => NOTHING.place,
+        let place = self.place();
+        let tokens = self.tokens;
+        let at = self.at;
+        if at < tokens.len() {
+            let next = skip(tokens, at + 1);
+            self.at = next;
+            self.noted = next > at + 1;
+        } else {
+            self.stop = None;
         }
+        place
     }
 
     /// What is wrong at the next token, where something else is due.

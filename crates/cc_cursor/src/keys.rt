@@ -7,17 +7,19 @@ ghost use Rattle.cc_raw.specs.Bridge as bridge;
 ghost use Rattle.cc_cursor.specs.Keys as keys;
 ghost use Rattle.cc_cursor.specs.Shown as shown;
 
-use crate::lexeme::{Kind, is_spelled, spelling, units_of};
+use crate::lexeme::Kind;
 use cc_ast::copy::CopyOf;
 use cc_ast::units::Units;
-use cc_grammar::word::Word;
+use cc_lexer::piece::Piece;
+use cc_lexer::word::{Word, spelling};
 use cc_raw::tree::RawKey;
+use cc_text::units_of;
 use std::alloc::{AllocError, Global};
 
 /// The name of a property, which may be a reserved word.
 #[derive(Clone, Copy)]
 pub enum Property<'a> {
-    Name(&'a Units),
+    Name(&'a Piece<'a>),
     Word(Word),
 }
 
@@ -54,21 +56,23 @@ pub fn key_of(kind: Kind<'_>) -> Option<Key<'_>>
 }
 
 /// `get` or `set`.
+#[tactic(auto, using(crate::proofs::NameLemmas::name_steps, std::proofs::lemmas::Grind::common_steps))]
 pub fn is_accessor(kind: Kind<'_>) -> bool
     ensures { result ≡ signs.is_accessor (shown.kind kind.entry) }
 {
     match kind {
-        Kind::Name(name) => is_spelled(b"get", name) || is_spelled(b"set", name),
+        Kind::Name(name) => name.is("get") || name.is("set"),
         _ => false,
     }
 }
 
 /// The text of a property's name.
+#[tactic(auto, using(cc_lexer::proofs::WordLemmas::units_spelled, std::proofs::lemmas::Grind::common_steps))]
 pub fn owned_name(alloc: Global, property: Property<'_>) -> Result<Units, AllocError>
     ensures { IfOk result (λ text. text ≡ keys.property property.entry) }
 {
     match property {
-        Property::Name(name) => name.copy_of(alloc),
+        Property::Name(name) => name.units(alloc),
         Property::Word(word) => units_of(alloc, spelling(word)),
     }
 }

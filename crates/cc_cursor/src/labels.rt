@@ -8,15 +8,15 @@ ghost use Rattle.cc_cursor.specs.Shown as shown;
 
 use crate::context::Context;
 use crate::lexeme::{Kind, Lexeme};
-use cc_ast::units::Units;
+use cc_lexer::piece::Piece;
 use std::alloc::{AllocError, Global};
 
 /// Whether a name is among labels.
-pub fn is_among(name: &Units, labels: &[&Units]) -> bool
+pub fn is_among(name: &Piece<'_>, labels: &[&Piece<'_>]) -> bool
     ensures { result ≡ grammar.is_among name.now (shown.labels labels.now) }
 {
     for label in labels {
-        if label.list.as_slice() == name.list.as_slice() {
+        if name.is(label.text()) {
             return true;
         }
     }
@@ -24,7 +24,7 @@ pub fn is_among(name: &Units, labels: &[&Units]) -> bool
 }
 
 /// Whether there is a label.
-pub fn has_any(labels: &[&Units]) -> bool
+pub fn has_any(labels: &[&Piece<'_>]) -> bool
     ensures { result ≡ reading.is_some_label (shown.labels labels.now) }
 {
     match labels.split_first() {
@@ -34,7 +34,7 @@ pub fn has_any(labels: &[&Units]) -> bool
 }
 
 /// The label of a jump, on the same line.
-pub fn label_of<'a>(lexeme: Lexeme<'a>) -> Option<&'a Units>
+pub fn label_of<'a>(lexeme: Lexeme<'a>) -> Option<&'a Piece<'a>>
     ensures { option_copied result ≡ reading.label_of (shown.lexeme lexeme.entry) }
 {
     match lexeme.kind {
@@ -45,7 +45,10 @@ pub fn label_of<'a>(lexeme: Lexeme<'a>) -> Option<&'a Units>
 
 /// The labels of a loop: those right before it, and those of the loops around it.
 #[tactic(auto, using(crate::proofs::LabelLemmas::labels_shown))]
-pub fn loop_labels<'a>(alloc: Global, context: Context<'a>) -> Result<Vec<&'a Units>, AllocError>
+pub fn loop_labels<'a>(
+    alloc: Global,
+    context: Context<'a>,
+) -> Result<Vec<&'a Piece<'a>>, AllocError>
     ensures { IfOk result (λ ls. shown.labels ls.items ≡ (grammar.in_loop (shown.context context.entry)).loops) }
 {
     let mut labels = Vec::new(alloc);
@@ -58,9 +61,9 @@ pub fn loop_labels<'a>(alloc: Global, context: Context<'a>) -> Result<Vec<&'a Un
 #[tactic(auto, using(crate::proofs::LabelLemmas::labels_shown))]
 pub fn with_label<'a>(
     alloc: Global,
-    name: &'a Units,
-    labels: &[&'a Units],
-) -> Result<Vec<&'a Units>, AllocError>
+    name: &'a Piece<'a>,
+    labels: &[&'a Piece<'a>],
+) -> Result<Vec<&'a Piece<'a>>, AllocError>
     ensures { IfOk result (λ ls. shown.labels ls.items ≡ name.now ∷ shown.labels labels.now) }
 {
     let mut all = Vec::new(alloc);
@@ -97,7 +100,7 @@ impl<'a> Context<'a> {
     }
 
     /// Inside a loop that has these labels.
-    pub fn in_loop<'b>(self, loops: &'b [&'b Units]) -> Context<'b>
+    pub fn in_loop<'b>(self, loops: &'b [&'b Piece<'b>]) -> Context<'b>
     where
         'a: 'b,
         requires { shown.labels loops.now ≡ (grammar.in_loop (shown.context self)).loops }
@@ -128,9 +131,9 @@ impl<'a> Context<'a> {
     /// Behind a label.
     pub fn labelled<'b>(
         self,
-        name: &Units,
-        labels: &'b [&'b Units],
-        own: &'b [&'b Units],
+        name: &Piece<'_>,
+        labels: &'b [&'b Piece<'b>],
+        own: &'b [&'b Piece<'b>],
     ) -> Context<'b>
     where
         'a: 'b,

@@ -12,15 +12,14 @@ use crate::cursor::Cursor;
 use crate::error::{Cause, ReadError};
 use crate::lexeme::Kind;
 use crate::refused::{Due, refused_name};
-use cc_ast::copy::CopyOf;
-use cc_ast::units::Units;
+use cc_lexer::piece::Piece;
 use cc_lexer::token::Mark;
 use cc_raw::tree::Named;
 use sqlite_items::Items;
 use std::alloc::Global;
 
 /// The variable that a token names.
-pub fn variable_of<'a>(kind: Kind<'a>) -> Option<&'a Units>
+pub fn variable_of<'a>(kind: Kind<'a>) -> Option<&'a Piece<'a>>
     ensures { option_copied result ≡ reading.variable_of (shown.kind kind.entry) }
 {
     match kind {
@@ -40,7 +39,7 @@ pub fn variable(alloc: Global, cursor: &mut Cursor<'_>) -> Result<Named, ReadErr
     let Some(name) = variable_of(cursor.kind()) else {
         return Err(ReadError::Fault(cursor.fault(Due::Variable)));
     };
-    let name = name.copy_of(alloc)?;
+    let name = name.units(alloc)?;
     Ok(Named {
         place: cursor.take(),
         name,
@@ -90,7 +89,7 @@ pub fn own_name(alloc: Global, cursor: &mut Cursor<'_>) -> Result<Option<Named>,
             Err(ReadError::Fault(cursor.fault(Due::Variable)))
         };
     };
-    let name = name.copy_of(alloc)?;
+    let name = name.units(alloc)?;
     Ok(Some(Named {
         place: cursor.take(),
         name,

@@ -6,11 +6,11 @@ ghost use Rattle.cc_grammar.specs.Reading as reading;
 ghost use Rattle.cc_cursor.specs.Shown as shown;
 
 use crate::error::{Cause, Fault};
-use crate::lexeme::{Kind, Lexeme, is_spelled};
+use crate::lexeme::{Kind, Lexeme};
 use cc_ast::reading::Construct;
-use cc_ast::units::Units;
-use cc_grammar::word::Word;
+use cc_lexer::piece::Piece;
 use cc_lexer::token::Mark;
+use cc_lexer::word::Word;
 
 /// What is due where a token doesn't go on.
 #[derive(Clone, Copy)]
@@ -21,12 +21,13 @@ pub enum Due {
 }
 
 /// What a name refuses that no variable has.
-pub fn refused_name(name: &Units) -> Option<Construct>
+#[tactic(auto, using(crate::proofs::NameLemmas::name_steps, std::proofs::lemmas::Grind::common_steps))]
+pub fn refused_name(name: &Piece<'_>) -> Option<Construct>
     ensures { result ≡ signs.refused_name name.now }
 {
-    if is_spelled(b"eval", name) {
+    if name.is("eval") {
         Some(Construct::EvalName)
-    } else if is_spelled(b"arguments", name) {
+    } else if name.is("arguments") {
         Some(Construct::ArgumentsName)
     } else {
         None

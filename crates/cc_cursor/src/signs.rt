@@ -11,8 +11,9 @@ use crate::lexeme::Kind;
 use crate::names::variable_of;
 use cc_ast::operator::{BinOp, UnOp};
 use cc_ast::units::Units;
-use cc_grammar::word::Word;
+use cc_lexer::piece::Piece;
 use cc_lexer::token::Mark;
+use cc_lexer::word::Word;
 
 /// A primary expression of one token.
 #[derive(Clone, Copy)]
@@ -22,7 +23,7 @@ pub enum Leaf<'a> {
     Truth(bool),
     Whole(i64),
     Text(&'a Units),
-    Variable(&'a Units),
+    Variable(&'a Piece<'a>),
 }
 
 /// A primary expression with parts, or `new`.

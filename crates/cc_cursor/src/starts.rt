@@ -7,9 +7,9 @@ ghost use Rattle.cc_cursor.specs.Shown as shown;
 ghost use Rattle.cc_cursor.specs.ShownStarts as starts;
 
 use crate::lexeme::Kind;
-use cc_ast::units::Units;
-use cc_grammar::word::Word;
+use cc_lexer::piece::Piece;
 use cc_lexer::token::Mark;
+use cc_lexer::word::Word;
 
 /// What begins a statement. `Plain` is an expression that begins with no name.
 #[derive(Clone, Copy)]
@@ -28,7 +28,7 @@ pub enum Start<'a> {
     Throw,
     Try,
     Function,
-    Name(&'a Units),
+    Name(&'a Piece<'a>),
     Plain,
 }
 

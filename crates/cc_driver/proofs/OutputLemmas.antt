@@ -1,5 +1,5 @@
 -- What joins reading, naming and spelling.
-use Rattle.std.proofs.Common.{◌≡◌, ap, subst, ◌∙◌, length, ℕ, zero, suc, nat_lt, true, List, [], ◌∷◌, Some, None, All, IsAscii, arith, ltb-true}
+use Rattle.std.proofs.Common.{◌≡◌, ap, subst, ◌∙◌, ℕ, zero, suc, nat_lt, true, List, [], ◌∷◌, Some, None, All, IsAscii, arith, ltb-true}
 use Rattle.std.proofs.lemmas.Bool.{and_parts}
 use Rattle.std.proofs.lemmas.List.Elements.{All-weaker}
 use Rattle.cc_ast.specs.declared.tables.GlobalInfo.{GlobalInfo}
@@ -9,7 +9,7 @@ use Rattle.cc_driver.specs.declared.form.Statement.{Statement}
 use Rattle.cc_driver.specs.declared.spelling.Piece.{Piece}
 use Rattle.cc_driver.specs.Form.{IsExterns, IsSource}
 use Rattle.cc_driver.specs.Source.{program_of}
-use Rattle.cc_driver.specs.Spelling.{spell_chunk, text_of}
+use Rattle.cc_driver.specs.Spelling.{spell_chunk}
 use Rattle.cc_driver.specs.Compile.{IsOutput}
 use Rattle.cc_driver.specs.Output.{IsTextOf}
 use Rattle.cc_driver.specs.Naming.{IsNaming}

@@ -1,11 +1,11 @@
 -- Digits with no zero in front are the decimal of the number that they write.
-use Rattle.std.proofs.Common.{◌≡◌, ℕ, ◌+◌, ◌*◌, ◌-◌, ◌<◌, ◌≤◌, ◌^◌, Bool, true, ◌&&◌, ◌||◌, nat_eq, nat_lt, nat_le, List, [], ◌∷◌, ◌++◌, length, get_or, take, length-take-le, zero, suc, refl, sym, ap, ◌∙◌, ⊎_elim, ◌⊎◌, inl, inr, arith, rules, eqb-true, ltb-true, leb-true, lt-ltb, le-leb, eq-eqb}
+use Rattle.std.proofs.Common.{◌≡◌, ℕ, ◌+◌, ◌*◌, ◌-◌, ◌<◌, ◌≤◌, ◌^◌, true, ◌&&◌, ◌||◌, nat_eq, nat_lt, nat_le, List, [], ◌∷◌, ◌++◌, length, get_or, take, length-take-le, zero, suc, refl, ap, ◌∙◌, ⊎_elim, ◌⊎◌, inl, inr, arith, eqb-true, ltb-true, leb-true, lt-ltb, le-leb}
 use Rattle.std.specs.List.{list_all}
 use Rattle.std.specs.Fmt.{decimal}
 use Rattle.std.specs.Int.{IsInRange}
 use Rattle.std.proofs.lemmas.Bool.{and_parts, and_from, or_cases}
 use Rattle.std.proofs.lemmas.List.{take_more}
-use Rattle.std.proofs.lemmas.Str.Parse.{IsNumeralModel, IsDigitsTest, FoldsDigits, numerals_by_fold, digits_value_short}
+use Rattle.std.proofs.lemmas.Str.Parse.{IsNumeralModel, IsDigitsTest, numerals_by_fold, digits_value_short}
 use Rattle.std.proofs.lemmas.Fmt.{decimal-digits_value, digits_decimal, digits_value-decimal, length-decimal-le, decimal_nonempty, first_decimal, decimal_digit}
 use Rattle.cc_driver.specs.Form.{whole_limit}
 use Rattle.cc_driver.specs.FormReading.{look, is_digit, number_behind, leads_well, is_free_number}

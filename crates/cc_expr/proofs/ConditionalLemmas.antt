@@ -10,7 +10,7 @@ use Rattle.cc_grammar.specs.ReadingExpressions.{conditional}
 use Rattle.cc_cursor.specs.declared.limits.Limits.{Limits}
 use Rattle.cc_cursor.specs.Reads.{Tokens, within, expect}
 use Rattle.cc_expr.specs.Expressions as spec
-use Rattle.cc_expr.proofs.Chains.{three_same}
+use Rattle.cc_trees.proofs.Chains.{three_same}
 
 abbrev Reader : Type 0
 Reader = Tokens → Outcome Tokens (Sized S.RawExpr)

@@ -1,12 +1,6 @@
-pub mod Chains
+pub mod Opened
 pub mod HeadLemmas
 pub mod OperatorLemmas
 pub mod SuffixLemmas
 pub mod PrefixLemmas
 pub mod ConditionalLemmas
-pub mod Opened
-pub mod ForLemmas
-pub mod ClauseLemmas
-pub mod KnotLemmas
-pub mod ListLemmas
-pub mod ReadLemmas

@@ -1,63 +1,60 @@
--- The definitions of statements that are named by a reserved word, opened.
-use Rattle.std.proofs.Common.{◌≡◌, refl, ◌+◌, max, Bool, true, false, ◌||◌, if◌then◌else◌, List, ◌∷◌, [], Ok, Err}
+-- Definitions of expressions, opened.
+use Rattle.std.proofs.Common.{◌≡◌, refl, ap, ◌∙◌, ◌+◌, max, Bool, true, false, Ok, Err, if◌then◌else◌, List, [], arith}
 use Rattle.cc_lexer.specs.declared.token.Mark.TheVariants as mark
-use Rattle.cc_grammar.specs.declared.word.Word.TheVariants as word
-use Rattle.cc_grammar.specs.Symbols.{is_mark, is_word}
-use Rattle.cc_grammar.specs.Grammar.{Context, in_loop}
+use Rattle.cc_ast.specs.declared.place.Place.{Place}
 use Rattle.cc_grammar.specs.RawTree as S
-use Rattle.cc_grammar.specs.Signs.{target_of}
-use Rattle.cc_grammar.specs.Reading.{Outcome, Sized, and_then, fault, a_token, look_token, rest_tokens, semicolon_token, label_of, ends_return, is_some_label}
-use Rattle.cc_grammar.specs.Reading as r
+use Rattle.cc_grammar.specs.Signs.{parenthesised}
+use Rattle.cc_grammar.specs.Symbols.{is_mark}
+use Rattle.cc_grammar.specs.Reading.{Outcome, Sized, and_then, look_token, rest_tokens}
+use Rattle.cc_grammar.specs.ReadingExpressions as r
 use Rattle.cc_cursor.specs.declared.limits.Limits.{Limits}
-use Rattle.cc_cursor.specs.Reads.{Tokens, within, expect, expr_of}
-use Rattle.cc_expr.specs.ReadsStatements as spec
+use Rattle.cc_cursor.specs.Reads.{Tokens, within, expect}
+use Rattle.cc_trees.proofs.Chains.{closed_same}
+use Rattle.cc_expr.specs.Expressions as spec
 
-pub while_opened : (m : Limits) (c : Context) (ts : Tokens) → spec.while_loop m c ts
-    ≡ and_then (spec.head m (rest_tokens ts)) (λ e us. and_then ((within m).stmt (in_loop c) us) (λ b vs. Ok ((S.while (look_token ts).place e.0 (S.stmts b.0) ∷ [], max e.1 b.1 + 1), vs)))
-unfolding r.while
-while_opened m c ts = refl
+pub parentheses_opened : (m : Limits) (i : Tokens) → spec.parentheses m i
+    ≡ and_then (spec.closed_expr m 0 mark.CloseParen (rest_tokens i)) (λ x us. Ok ((parenthesised (look_token i) x.0, x.1 + 1), us))
+unfolding r.parentheses
+parentheses_opened m i = closed_same ((within m).expr true 0 (rest_tokens i)) (expect mark.CloseParen) (λ x us. Ok ((parenthesised (look_token i) x.0, x.1 + 1), us))
 
-pub for_opened : (m : Limits) (c : Context) (ts : Tokens) → spec.for_loop m c ts
-    ≡ and_then (expect mark.OpenParen (rest_tokens ts)) (λ _ us. (if is_word word.Var (look_token us).kind
-    then (λ vs. and_then (spec.declarators m false m.turns [] 0 (rest_tokens vs)) (λ ds ws. spec.for_vars m c (look_token ts).place ds.0 ds.1 (is_word word.In (look_token ws).kind) ws))
-    else (if is_mark mark.Semicolon (look_token us).kind then spec.for_rest m c (look_token ts).place (S.no_init, 0)
-    else (λ vs. and_then ((within m).expr false 0 vs) (λ x ws. spec.for_value m c (look_token ts).place x (target_of x.0) (is_word word.In (look_token ws).kind) ws)))) us)
-unfolding r.for
-for_opened m c ts = refl
+pub bracketed_opened : (m : Limits) (a : Sized S.RawExpr) (i : Tokens) → spec.bracketed m a i
+    ≡ and_then (spec.closed_expr m 0 mark.CloseBracket (rest_tokens i)) (λ x us. Ok ((S.index (look_token i).place a.0 x.0, max a.1 x.1 + 1), us))
+unfolding r.bracketed
+bracketed_opened m a i = closed_same ((within m).expr true 0 (rest_tokens i)) (expect mark.CloseBracket) (λ x us. Ok ((S.index (look_token i).place a.0 x.0, max a.1 x.1 + 1), us))
 
-abbrev pub Statements : Type 0
-Statements = Tokens → Outcome Tokens (Sized (List S.RawStmt))
+pub branches_opened : (m : Limits) (n : Bool) (i : Tokens) → spec.branches m n i
+    ≡ and_then (spec.closed_expr m 1 mark.Colon i) (λ x us. and_then ((within m).expr n 1 us) (λ y vs. Ok (((x.0, y.0), max x.1 y.1), vs)))
+branches_opened m n i = closed_same ((within m).expr true 1 i) (expect mark.Colon) (λ x us. and_then ((within m).expr n 1 us) (λ y vs. Ok (((x.0, y.0), max x.1 y.1), vs)))
 
-abbrev choose : Bool → Statements → Statements → Statements
+-- ---- a `new`, with arguments or not
+
+abbrev Reader : Type 0
+Reader = Tokens → Outcome Tokens (Sized S.RawExpr)
+
+abbrev made : Place → Sized S.RawExpr → Sized (List S.RawExpr) → Reader
+made p f x us = Ok ((S.new p f.0 (S.exprs x.0), max f.1 x.1 + 1), us)
+
+abbrev choose : Bool → Reader → Reader → Reader
 choose b p q = if b then p else q
 
-abbrev wrong : Statements
-wrong ts = Err (fault a_token (look_token ts), ts)
+abbrev with_arguments : Limits → Place → Sized S.RawExpr → Reader
+with_arguments m p f us = and_then (spec.arguments_of m (rest_tokens us)) (made p f)
 
-pub continue_opened : (m : Limits) (c : Context) (ts : Tokens) → spec.continue_jump m c ts
-    ≡ choose c.continues (λ us. spec.jump m (S.continue (look_token us).place) true c.loops (label_of (look_token (rest_tokens us))) (rest_tokens us)) wrong ts
-unfolding r.continue
-continue_opened m c ts = refl
+abbrev without : Place → Sized S.RawExpr → Reader
+without p f us = Ok ((S.new p f.0 S.no_exprs, f.1 + 1), us)
 
-pub break_opened : (m : Limits) (c : Context) (ts : Tokens) → spec.break_jump m c ts
-    ≡ choose (c.breaks || is_some_label c.labels) (λ us. spec.jump m (S.break (look_token us).place) c.breaks c.labels (label_of (look_token (rest_tokens us))) (rest_tokens us)) wrong ts
-unfolding r.break
-break_opened m c ts = refl
+new_by : (m : Limits) (p : Place) (f : Sized S.RawExpr) (us : Tokens) (b : Bool)
+    → choose b (with_arguments m p f) (without p f) us ≡ and_then (if b then spec.arguments_of m (rest_tokens us) else Ok (([], 0), us)) (made p f)
+new_by m p f us true = refl
+new_by m p f us false = let e : f.1 ≡ max f.1 0 = omega arith in ap (λ h. Ok ((S.new p f.0 S.no_exprs, h + 1), us)) e
 
-pub return_opened : (m : Limits) (c : Context) (ts : Tokens) → spec.returned m c ts
-    ≡ choose c.returns (λ us. choose (ends_return (look_token (rest_tokens us)))
-    (λ vs. and_then (semicolon_token vs) (λ _ ws. Ok ((S.return (look_token us).place S.no_expr ∷ [], 0), ws)))
-    (λ vs. and_then (expr_of m true 0 vs) (λ x ws. and_then (semicolon_token ws) (λ _ xs. Ok ((S.return (look_token us).place (S.one_expr x.0) ∷ [], x.1), xs))))
-    (rest_tokens us)) wrong ts
-unfolding r.return
-return_opened m c ts = refl
+new_behind : (m : Limits) (p : Place) (o : Outcome Tokens (Sized S.RawExpr))
+    → and_then o (λ f us. choose (is_mark mark.OpenParen (look_token us).kind) (with_arguments m p f) (without p f) us)
+    ≡ and_then o (λ f us. and_then (spec.new_arguments m us) (made p f))
+new_behind m p (Ok q) = new_by m p q.0 q.1 (is_mark mark.OpenParen (look_token q.1).kind)
+new_behind m p (Err x) = refl
 
-pub try_opened : (m : Limits) (c : Context) (ts : Tokens) → spec.try_statement m c ts
-    ≡ and_then (spec.block_in m c (rest_tokens ts)) (λ b us. choose (is_word word.Catch (look_token us).kind)
-    (λ vs. and_then (spec.catch m c vs) (λ f ws. spec.after_catch m c (look_token ts).place b f ws))
-    (choose (is_word word.Finally (look_token us).kind)
-    (λ vs. and_then (spec.finally m c vs) (λ g ws. Ok ((S.try (look_token ts).place (S.stmts b.0) S.no_catch g.0 ∷ [], max b.1 g.1 + 1), ws)))
-    wrong)
-    us)
-unfolding r.try
-try_opened m c ts = refl
+pub new_opened : (m : Limits) (n : Bool) (i : Tokens) → spec.new_expr m n i
+    ≡ and_then ((within m).expr n 17 (rest_tokens i)) (λ f us. and_then (spec.new_arguments m us) (λ x vs. Ok ((S.new (look_token i).place f.0 (S.exprs x.0), max f.1 x.1 + 1), vs)))
+unfolding r.new_expr
+new_opened m n i = new_behind m (look_token i).place ((within m).expr n 17 (rest_tokens i))

@@ -1,8 +1,8 @@
 -- The readers of expressions, over lists of tokens.
-use Rattle.std.specs.Prelude.{ℕ, ◌+◌, max, Bool, true, nat_lt, if◌then◌else◌, List, Ok, Err}
+use Rattle.std.specs.Prelude.{ℕ, suc, ◌+◌, max, Bool, true, false, nat_lt, if◌then◌else◌, List, [], Ok, Err}
 use Rattle.cc_ast.specs.declared.place.Place.{Place}
 use Rattle.cc_lexer.specs.declared.token.Mark.TheVariants as mark
-use Rattle.cc_grammar.specs.Grammar.{Context}
+use Rattle.cc_grammar.specs.Symbols.{is_mark}
 use Rattle.cc_grammar.specs.RawTree as S
 use Rattle.cc_grammar.specs.Reading.{Outcome, Sized, and_then, look_token, rest_tokens, semicolon_token}
 use Rattle.cc_grammar.specs.Reading as r
@@ -14,6 +14,7 @@ use Rattle.cc_cursor.specs.declared.signs.Suffix.{Suffix}
 use Rattle.cc_cursor.specs.declared.signs.Suffix.TheVariants as goes
 use Rattle.cc_cursor.specs.Reads.{Tokens, within, expect}
 pub use Rattle.cc_cursor.specs.Reads.{elements, arguments, arguments_of, parentheses, array, expr_of}
+pub use Rattle.cc_trees.specs.Nests.{function, after_head, closed_expr}
 
 -- ---- expressions
 
@@ -27,15 +28,6 @@ field m = r.field Tokens look_token rest_tokens semicolon_token m.depth m.turns 
 abbrev pub object_fields : Limits → ℕ → List S.RawField → ℕ → Tokens → Outcome Tokens (Sized (List S.RawField))
 object_fields m = r.object_fields Tokens look_token rest_tokens semicolon_token m.depth m.turns (within m)
 
-abbrev pub list : Limits → Context → ℕ → List S.RawStmt → ℕ → Tokens → Outcome Tokens (Sized (List S.RawStmt))
-list m = r.list Tokens look_token rest_tokens semicolon_token m.depth m.turns (within m)
-
-abbrev pub body : Limits → Context → Tokens → Outcome Tokens (Sized (List S.RawStmt))
-body m = r.body Tokens look_token rest_tokens semicolon_token m.depth m.turns (within m)
-
-abbrev pub function : Limits → Tokens → Outcome Tokens (Sized (List S.Named × List S.RawStmt))
-function m = r.function Tokens look_token rest_tokens semicolon_token m.depth m.turns (within m)
-
 abbrev pub object : Limits → Tokens → Outcome Tokens (Sized S.RawExpr)
 object m = r.object Tokens look_token rest_tokens semicolon_token m.depth m.turns (within m)
 
@@ -44,6 +36,10 @@ function_expr m = r.function_expr Tokens look_token rest_tokens semicolon_token 
 
 abbrev pub new_expr : Limits → Bool → Tokens → Outcome Tokens (Sized S.RawExpr)
 new_expr m = r.new_expr Tokens look_token rest_tokens semicolon_token m.depth m.turns (within m)
+
+-- the arguments of a `new`, where it has some
+abbrev pub new_arguments : Limits → Tokens → Outcome Tokens (Sized (List S.RawExpr))
+new_arguments m i = if is_mark mark.OpenParen (look_token i).kind then arguments_of m (rest_tokens i) else Ok (([], 0), i)
 
 -- a primary expression with parts, or `new`
 abbrev pub nested : Limits → Bool → Nested → Tokens → Outcome Tokens (Sized S.RawExpr)
@@ -114,5 +110,13 @@ commas m = r.commas Tokens look_token rest_tokens semicolon_token m.depth m.turn
 abbrev pub after_unary : Limits → Bool → ℕ → Sized S.RawExpr → Tokens → Outcome Tokens (Sized S.RawExpr)
 after_unary m = r.after_unary Tokens look_token rest_tokens semicolon_token m.depth m.turns (within m)
 
-abbrev pub after_head : Limits → Bool → ℕ → Sized S.RawExpr → Tokens → Outcome Tokens (Sized S.RawExpr)
-after_head m = r.after_head Tokens look_token rest_tokens semicolon_token m.depth m.turns (within m)
+-- the callee of a `new`
+abbrev pub callee : Limits → Bool → Tokens → Outcome Tokens (Sized S.RawExpr)
+callee m n i = and_then (primary m n i) (suffixes m false (suc m.depth))
+
+-- an expression by the primary expression, or by the operator, that it begins with
+abbrev pub headed : Limits → Bool → ℕ → Tokens → Outcome Tokens (Sized S.RawExpr)
+headed m n l i = and_then (primary m n i) (after_head m n l)
+
+abbrev pub signed : Limits → Bool → ℕ → Prefix → Tokens → Outcome Tokens (Sized S.RawExpr)
+signed m n l o i = and_then (prefixed m n o i) (after_unary m n l)

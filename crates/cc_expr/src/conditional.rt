@@ -6,17 +6,17 @@ ghost use Rattle.cc_cursor.specs.Shown as shown;
 ghost use Rattle.cc_cursor.specs.Reads.{Reads};
 ghost use Rattle.cc_expr.specs.Parts as parts;
 ghost use Rattle.cc_expr.specs.Expressions as spec;
-ghost use Rattle.cc_expr.specs.Nests.{NestsExpr};
+ghost use Rattle.cc_trees.specs.Nests.{NestsExpr};
 
 use crate::grammar::Grammar;
-use cc_cursor::context::Context;
 use cc_cursor::cursor::Cursor;
 use cc_cursor::error::{Cause, ReadError};
 use cc_cursor::limits::Limits;
 use cc_lexer::token::Mark;
-use cc_raw::tree::{RawExpr, RawStmt};
+use cc_raw::tree::RawExpr;
+use cc_trees::answers::sized;
 use cc_trees::trees;
-use sqlite_items::{Boxed, Items};
+use sqlite_items::Boxed;
 use std::alloc::Global;
 
 /// What a conditional chooses from.
@@ -28,13 +28,8 @@ pub(crate) struct Branches {
 
 impl<
     F: Fn(Global, &mut Cursor<'_>, Limits, bool, u8) -> Result<(Boxed<RawExpr>, usize), ReadError>,
-    G: Fn(
-        Global,
-        &mut Cursor<'_>,
-        Limits,
-        Context<'_>,
-    ) -> Result<(Items<RawStmt>, usize), ReadError>,
-> Grammar<F, G> {
+> Grammar<F> {
+    #[tactic(auto, using(crate::proofs::Opened::branches_opened, std::proofs::lemmas::Grind::common_steps))]
     fn branches(
         &self,
         cursor: &mut Cursor<'_>,
@@ -44,8 +39,7 @@ impl<
         ensures reads { Reads parts.sized_branches (spec.branches self.now.limits with_in cursor.old) result cursor.new }
         ensures low { IfOk result (λ x. x.1 < self.now.limits.depth) }
     {
-        let (then, h) = self.inner_expr(cursor, true, 1)?;
-        cursor.expect(Mark::Colon)?;
+        let (then, h) = self.closed_expr(cursor, 1, Mark::Colon)?;
         let (otherwise, i) = self.inner_expr(cursor, with_in, 1)?;
         Ok((Branches { then, otherwise }, h.max(i)))
     }
@@ -63,12 +57,12 @@ impl<
         ensures reads { Reads shown.expr (spec.chosen self.now.limits with_in (raw_expr e, height) cursor.old) result cursor.new }
         ensures low { IfOk result (λ x. x.1 ≤ self.now.limits.depth) }
     {
-        let _depth = self.limits.depth;
         let place = cursor.take();
         let (branches, h) = self.branches(cursor, with_in)?;
         let Branches { then, otherwise } = branches;
-        let e = trees::conditional(self.alloc, place, e, then, otherwise)?;
-        Ok((e, height.max(h) + 1))
+        let _depth = self.limits.depth;
+        let made = trees::conditional(self.alloc, place, e, then, otherwise);
+        sized(made, height.max(h) + 1)
     }
 
     /// What is chosen by an expression, where a question mark stands behind it.

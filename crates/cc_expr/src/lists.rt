@@ -1,45 +1,45 @@
 // Lists of expressions.
 
-ghost use Rattle.std.specs.Prelude.{◌≡◌, ◌<◌, ◌≤◌, ◌-◌, [], IfOk};
+ghost use Rattle.std.specs.Prelude.{◌≤◌, ◌-◌, map, IfOk};
+ghost use Rattle.cc_raw.specs.Bridge.{raw_expr};
 ghost use Rattle.cc_cursor.specs.Shown as shown;
 ghost use Rattle.cc_cursor.specs.Reads as spec;
 ghost use Rattle.cc_cursor.specs.Reads.{Reads};
-ghost use Rattle.cc_expr.specs.Nests.{NestsExpr};
+ghost use Rattle.cc_trees.specs.Nests.{NestsExpr};
 
 use crate::grammar::Grammar;
-use cc_ast::reading::Construct;
-use cc_cursor::context::Context;
 use cc_cursor::cursor::Cursor;
 use cc_cursor::error::{Cause, ReadError};
 use cc_cursor::limits::Limits;
 use cc_lexer::token::Mark;
-use cc_raw::tree::{RawExpr, RawStmt};
+use cc_raw::tree::RawExpr;
+use cc_trees::answers::closed;
+use cc_trees::lists::push_boxed;
 use sqlite_items::{Boxed, Items};
 use std::alloc::Global;
 
 impl<
     F: Fn(Global, &mut Cursor<'_>, Limits, bool, u8) -> Result<(Boxed<RawExpr>, usize), ReadError>,
-    G: Fn(
-        Global,
-        &mut Cursor<'_>,
-        Limits,
-        Context<'_>,
-    ) -> Result<(Items<RawStmt>, usize), ReadError>,
-> Grammar<F, G> {
-    fn arguments(&self, cursor: &mut Cursor<'_>) -> Result<(Items<RawExpr>, usize), ReadError>
+> Grammar<F> {
+    /// Arguments behind others, up to the parenthesis that closes them, and how high they are.
+    fn arguments(
+        &self,
+        cursor: &mut Cursor<'_>,
+        found: &mut Items<RawExpr>,
+    ) -> Result<usize, ReadError>
         requires { NestsExpr self.now.limits (F.pre self.now.expr) (F.post self.now.expr) }
-        ensures reads { Reads shown.exprs (spec.arguments self.now.limits self.now.limits.turns [] 0 cursor.old) result cursor.new }
-        ensures low { IfOk result (λ x. x.1 ≤ self.now.limits.depth - 1) }
+        ensures reads { Reads (λ h. (map raw_expr found.new, h)) (spec.arguments self.now.limits self.now.limits.turns (map raw_expr found.old) 0 cursor.old) result cursor.new }
+        ensures low { IfOk result (λ h. h ≤ self.now.limits.depth - 1) }
     {
-        let mut found = Items::new(self.alloc);
         let mut height = 0;
         for _turn in 0..self.limits.turns {
             let (e, h) = self.inner_expr(cursor, true, 1)?;
-            found.push(e.into_inner())?;
+            let Ok(()) = push_boxed(self.alloc, found, e) else {
+                return Err(ReadError::Memory);
+            };
             height = height.max(h);
             if !cursor.sees(Mark::Comma) {
-                cursor.expect(Mark::CloseParen)?;
-                return Ok((found, height));
+                return closed(cursor, Mark::CloseParen, height);
             }
             cursor.take();
         }
@@ -56,10 +56,12 @@ impl<
         ensures reads { Reads shown.exprs (spec.arguments_of self.now.limits cursor.old) result cursor.new }
         ensures low { IfOk result (λ x. x.1 ≤ self.now.limits.depth - 1) }
     {
+        let mut found = Items::new(self.alloc);
         if cursor.sees(Mark::CloseParen) {
             cursor.take();
-            return Ok((Items::new(self.alloc), 0));
+            return Ok((found, 0));
         }
-        self.arguments(cursor)
+        let height = self.arguments(cursor, &mut found)?;
+        Ok((found, height))
     }
 }

@@ -2,33 +2,28 @@
 
 ghost use Rattle.std.specs.Prelude.{◌≡◌, ◌<◌, ◌≤◌, suc, IfOk};
 ghost use Rattle.cc_raw.specs.Bridge.{raw_expr};
+ghost use Rattle.cc_cursor.specs.Meant as meant;
 ghost use Rattle.cc_cursor.specs.Shown as shown;
 ghost use Rattle.cc_expr.specs.Expressions as spec;
 ghost use Rattle.cc_cursor.specs.Reads.{Reads};
-ghost use Rattle.cc_expr.specs.Nests.{NestsExpr, NestsStmt};
+ghost use Rattle.cc_trees.specs.Nests.{NestsExpr};
 
 use crate::grammar::Grammar;
-use cc_cursor::context::Context;
 use cc_cursor::cursor::Cursor;
 use cc_cursor::error::{Cause, ReadError};
 use cc_cursor::limits::Limits;
-use cc_cursor::signs::{assign_of, infix_of, level, prefix_of};
+use cc_cursor::signs::{Prefix, assign_of, infix_of, level};
 use cc_lexer::token::Mark;
-use cc_raw::tree::{RawExpr, RawStmt};
-use cc_trees::targets::{boxed_target, is_target};
+use cc_raw::tree::RawExpr;
+use cc_trees::answers::sized;
+use cc_trees::targets::{assigned, is_target};
 use cc_trees::trees;
-use sqlite_items::{Boxed, Items};
+use sqlite_items::Boxed;
 use std::alloc::Global;
 
 impl<
     F: Fn(Global, &mut Cursor<'_>, Limits, bool, u8) -> Result<(Boxed<RawExpr>, usize), ReadError>,
-    G: Fn(
-        Global,
-        &mut Cursor<'_>,
-        Limits,
-        Context<'_>,
-    ) -> Result<(Items<RawStmt>, usize), ReadError>,
-> Grammar<F, G> {
+> Grammar<F> {
     fn climb(
         &self,
         cursor: &mut Cursor<'_>,
@@ -54,7 +49,10 @@ impl<
             }
             let place = cursor.take();
             let (right, h) = self.inner_expr(cursor, with_in, level(sign) + 1)?;
-            e = trees::binary(self.alloc, sign, place, e, right)?;
+            let Ok(made) = trees::binary(self.alloc, sign, place, e, right) else {
+                return Err(ReadError::Memory);
+            };
+            e = made;
             height = height.max(h) + 1;
         }
         unreachable!()
@@ -84,9 +82,8 @@ impl<
         }
         let place = cursor.take();
         let (value, h) = self.inner_expr(cursor, with_in, 1)?;
-        let target = boxed_target(self.alloc, e)?;
-        let e = trees::assign(self.alloc, place, operator, target, value)?;
-        Ok((e, height.max(h) + 1))
+        let made = assigned(self.alloc, place, operator, e, value);
+        sized(made, height.max(h) + 1)
     }
 
     fn commas(
@@ -110,7 +107,10 @@ impl<
             }
             let place = cursor.take();
             let (right, h) = self.inner_expr(cursor, with_in, 1)?;
-            e = trees::comma(self.alloc, place, e, right)?;
+            let Ok(made) = trees::comma(self.alloc, place, e, right) else {
+                return Err(ReadError::Memory);
+            };
+            e = made;
             height = height.max(h) + 1;
         }
         unreachable!()
@@ -118,7 +118,7 @@ impl<
 
     /// An expression of a level, by what it begins with, which is of level 13.
     #[tactic(auto, unfolding(cc_grammar::specs::ReadingExpressions::after_unary))]
-    fn after_unary(
+    pub(crate) fn after_unary(
         &self,
         cursor: &mut Cursor<'_>,
         with_in: bool,
@@ -148,7 +148,7 @@ impl<
 
     /// An expression of a level, by the primary expression that it begins with.
     #[tactic(auto, unfolding(cc_grammar::specs::ReadingExpressions::after_head))]
-    pub(crate) fn after_head(
+    pub fn after_head(
         &self,
         cursor: &mut Cursor<'_>,
         with_in: bool,
@@ -166,33 +166,19 @@ impl<
         self.after_unary(cursor, with_in, level, e, height)
     }
 
-    /// An expression of a level, which is that of the callee of `new`, or at most that of a unary
-    /// expression.
-    #[tactic(auto, unfolding(cc_grammar::specs::ReadingExpressions::expr_of))]
-    pub(crate) fn expr_of(
+    /// An expression of a level that begins with a unary operator or a step.
+    pub(crate) fn signed(
         &self,
         cursor: &mut Cursor<'_>,
         with_in: bool,
         level: u8,
+        prefix: Prefix,
     ) -> Result<(Boxed<RawExpr>, usize), ReadError>
-        requires expr { NestsExpr self.now.limits (F.pre self.now.expr) (F.post self.now.expr) }
-        requires stmt { NestsStmt self.now.limits (G.pre self.now.stmt) (G.post self.now.stmt) }
-        ensures reads { Reads shown.expr (spec.expr_of self.now.limits with_in level cursor.old) result cursor.new }
+        requires { NestsExpr self.now.limits (F.pre self.now.expr) (F.post self.now.expr) }
+        ensures reads { Reads shown.expr (spec.signed self.now.limits with_in level (meant.prefix prefix) cursor.old) result cursor.new }
         ensures low { IfOk result (λ x. x.1 ≤ self.now.limits.depth) }
     {
-        if level == 17 {
-            let (e, height) = self.primary(cursor, with_in)?;
-            return self.suffixes(cursor, false, e, height);
-        }
-        match prefix_of(cursor.kind()) {
-            None => {
-                let (e, height) = self.primary(cursor, with_in)?;
-                self.after_head(cursor, with_in, level, e, height)
-            }
-            Some(prefix) => {
-                let (e, height) = self.prefixed(cursor, with_in, prefix)?;
-                self.after_unary(cursor, with_in, level, e, height)
-            }
-        }
+        let (e, height) = self.prefixed(cursor, with_in, prefix)?;
+        self.after_unary(cursor, with_in, level, e, height)
     }
 }

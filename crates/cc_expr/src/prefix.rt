@@ -12,23 +12,23 @@ ghost use Rattle.cc_cursor.specs.Shown as shown;
 ghost use Rattle.cc_cursor.specs.Meant as meant;
 ghost use Rattle.cc_expr.specs.Expressions as spec;
 ghost use Rattle.cc_cursor.specs.Reads.{Reads};
-ghost use Rattle.cc_expr.specs.Nests.{NestsExpr};
+ghost use Rattle.cc_trees.specs.Nests.{NestsExpr};
 
 use crate::grammar::Grammar;
 use cc_ast::operator::UnOp;
 use cc_ast::place::Place;
 use cc_ast::reading::Construct;
 use cc_cursor::ahead::keep_variables;
-use cc_cursor::context::Context;
 use cc_cursor::cursor::Cursor;
 use cc_cursor::error::{Cause, Fault, ReadError};
 use cc_cursor::limits::Limits;
 use cc_cursor::refused::Due;
 use cc_cursor::signs::{Prefix, step_of};
-use cc_raw::tree::{RawExpr, RawStmt};
-use cc_trees::targets::{boxed_target, is_target, is_variable};
+use cc_raw::tree::RawExpr;
+use cc_trees::answers::sized;
+use cc_trees::targets::{is_target, is_variable, stepped};
 use cc_trees::trees;
-use sqlite_items::{Boxed, Items};
+use sqlite_items::Boxed;
 use std::alloc::{AllocError, Global};
 
 fn is_delete(prefix: Prefix) -> bool
@@ -124,8 +124,7 @@ fn prefix_tree(
             if !is_target(e.get()) {
                 return Ok(None);
             }
-            let target = boxed_target(alloc, e)?;
-            Ok(Some(trees::step(alloc, place, up, true, target)?))
+            Ok(Some(stepped(alloc, place, up, true, e)?))
         }
         Prefix::Unary(UnOp::Delete) => {
             if is_variable(e.get()) {
@@ -153,15 +152,7 @@ fn wrong_prefix(cursor: &Cursor<'_>, limits: Limits, prefix: Prefix, place: Plac
     }
 }
 
-impl<
-    F: Fn(Global, &mut Cursor<'_>, Limits, bool, u8) -> Result<(Boxed<RawExpr>, usize), ReadError>,
-    G: Fn(
-        Global,
-        &mut Cursor<'_>,
-        Limits,
-        Context<'_>,
-    ) -> Result<(Items<RawStmt>, usize), ReadError>,
-> Grammar<F, G> {
+impl<F> Grammar<F> {
     /// An expression with a step behind it, where one stands on the same line.
     #[tactic(auto, unfolding(cc_grammar::specs::ReadingExpressions::postfix))]
     pub(crate) fn postfix(
@@ -184,11 +175,13 @@ impl<
             return Err(ReadError::Fault(cursor.stop(Cause::Depth)));
         }
         let place = cursor.take();
-        let target = boxed_target(self.alloc, e)?;
-        let e = trees::step(self.alloc, place, up, false, target)?;
-        Ok((e, height + 1))
+        sized(stepped(self.alloc, place, up, false, e), height + 1)
     }
+}
 
+impl<
+    F: Fn(Global, &mut Cursor<'_>, Limits, bool, u8) -> Result<(Boxed<RawExpr>, usize), ReadError>,
+> Grammar<F> {
     #[tactic(auto, unfolding(cc_grammar::specs::ReadingExpressions::prefix_expr))]
     fn prefix_expr(
         &self,
@@ -202,7 +195,7 @@ impl<
     {
         let place = cursor.take();
         let (e, height) = self.inner_expr(cursor, with_in, 13)?;
-        prove!(height < usize::from(self.limits.depth));
+        let _depth = self.limits.depth;
         match prefix_tree(self.alloc, prefix, place, e)? {
             Some(tree) => Ok((tree, height + 1)),
             None => Err(ReadError::Fault(wrong_prefix(cursor, self.limits, prefix, place))),

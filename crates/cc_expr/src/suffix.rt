@@ -5,10 +5,9 @@ ghost use Rattle.cc_raw.specs.Bridge.{raw_expr};
 ghost use Rattle.cc_cursor.specs.Shown as shown;
 ghost use Rattle.cc_expr.specs.Expressions as spec;
 ghost use Rattle.cc_cursor.specs.Reads.{Reads};
-ghost use Rattle.cc_expr.specs.Nests.{NestsExpr};
+ghost use Rattle.cc_trees.specs.Nests.{NestsExpr};
 
 use crate::grammar::Grammar;
-use cc_cursor::context::Context;
 use cc_cursor::cursor::Cursor;
 use cc_cursor::error::{Cause, ReadError};
 use cc_cursor::keys::{owned_name, property_of};
@@ -16,20 +15,13 @@ use cc_cursor::limits::Limits;
 use cc_cursor::refused::Due;
 use cc_cursor::signs::{Suffix, suffix_of};
 use cc_lexer::token::Mark;
-use cc_raw::tree::{RawExpr, RawStmt};
+use cc_raw::tree::RawExpr;
+use cc_trees::answers::sized;
 use cc_trees::trees;
-use sqlite_items::{Boxed, Items};
+use sqlite_items::Boxed;
 use std::alloc::Global;
 
-impl<
-    F: Fn(Global, &mut Cursor<'_>, Limits, bool, u8) -> Result<(Boxed<RawExpr>, usize), ReadError>,
-    G: Fn(
-        Global,
-        &mut Cursor<'_>,
-        Limits,
-        Context<'_>,
-    ) -> Result<(Items<RawStmt>, usize), ReadError>,
-> Grammar<F, G> {
+impl<F> Grammar<F> {
     #[tactic(auto, unfolding(cc_grammar::specs::ReadingExpressions::dotted))]
     fn dotted(
         &self,
@@ -48,12 +40,18 @@ impl<
         };
         let name_place = cursor.take();
         let name = owned_name(self.alloc, name)?;
-        let e = trees::member(self.alloc, place, e, name_place, name)?;
-        prove!(height < usize::from(self.limits.depth));
-        Ok((e, height + 1))
+        let _depth = self.limits.depth;
+        sized(
+            trees::member(self.alloc, place, e, name_place, name),
+            height + 1,
+        )
     }
+}
 
-    #[tactic(auto, unfolding(cc_grammar::specs::ReadingExpressions::bracketed))]
+impl<
+    F: Fn(Global, &mut Cursor<'_>, Limits, bool, u8) -> Result<(Boxed<RawExpr>, usize), ReadError>,
+> Grammar<F> {
+    #[tactic(auto, using(crate::proofs::Opened::bracketed_opened, std::proofs::lemmas::Grind::common_steps))]
     fn bracketed(
         &self,
         cursor: &mut Cursor<'_>,
@@ -66,12 +64,10 @@ impl<
         ensures low { IfOk result (λ x. x.1 ≤ self.now.limits.depth) }
         ensures grows { IfOk result (λ x. height < x.1) }
     {
-        prove!(height < usize::from(self.limits.depth));
         let place = cursor.take();
-        let (key, h) = self.inner_expr(cursor, true, 0)?;
-        cursor.expect(Mark::CloseBracket)?;
-        let e = trees::index(self.alloc, place, e, key)?;
-        Ok((e, height.max(h) + 1))
+        let (key, h) = self.closed_expr(cursor, 0, Mark::CloseBracket)?;
+        let _depth = self.limits.depth;
+        sized(trees::index(self.alloc, place, e, key), height.max(h) + 1)
     }
 
     #[tactic(auto, unfolding(cc_grammar::specs::ReadingExpressions::called))]
@@ -87,11 +83,13 @@ impl<
         ensures low { IfOk result (λ x. x.1 ≤ self.now.limits.depth) }
         ensures grows { IfOk result (λ x. height < x.1) }
     {
-        prove!(height < usize::from(self.limits.depth));
         let place = cursor.take();
         let (arguments, h) = self.arguments_of(cursor)?;
-        let e = trees::call(self.alloc, place, e, arguments)?;
-        Ok((e, height.max(h) + 1))
+        let _depth = self.limits.depth;
+        sized(
+            trees::call(self.alloc, place, e, arguments),
+            height.max(h) + 1,
+        )
     }
 
     fn suffixed(
@@ -134,9 +132,7 @@ impl<
             if height >= usize::from(self.limits.depth) {
                 return Err(ReadError::Fault(cursor.stop(Cause::Depth)));
             }
-            let (next, h) = self.suffixed(cursor, suffix, e, height)?;
-            e = next;
-            height = h;
+            (e, height) = self.suffixed(cursor, suffix, e, height)?;
         }
         unreachable!()
     }

@@ -10,8 +10,8 @@ use Rattle.cc_meaning.specs.Shapes.{longer, path_of}
 use Rattle.cc_meaning.specs.Parts.{expr_parts, expr_well}
 use Rattle.cc_tied.specs.Placed.{Place, a_value, an_assigned, a_callee, a_deleted, an_object, accesses, variable, functions, builds, reaches, keeps, guard}
 use Rattle.cc_tied.specs.Rewrites.{put, put_call, put_on_value, re, re_all}
-use Rattle.cc_tied.proofs.KeptPaths.{Stays, guard_same, re_var, re_member}
-use Rattle.cc_fold.proofs.FewerParts.{Fewer}
+use Rattle.cc_tied.proofs.Mixed.KeptPaths.{Stays, guard_same, re_var, re_member}
+use Rattle.cc_fold.proofs.WellMade.FewerParts.{Fewer}
 
 -- a step that keeps what is well, drops parts, and leaves the nodes that paths and methods are read off
 pub record Drops (T : Tables) (step : Expr → Expr) (step_call : ℕ → Expr → Exprs → Expr) : Type 0 where

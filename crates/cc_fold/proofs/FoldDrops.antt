@@ -11,10 +11,10 @@ use Rattle.cc_meaning.specs.Values.{prim}
 use Rattle.cc_meaning.specs.Operators.{Outcome, truthy, unary_of, binary_of}
 use Rattle.cc_meaning.specs.State.{Tables}
 use Rattle.cc_meaning.specs.Parts.{Part, has_site, exact_prim, expr_parts, expr_well}
-use Rattle.cc_tied.proofs.KeptPaths.{Stays}
+use Rattle.cc_tied.proofs.Mixed.KeptPaths.{Stays}
 use Rattle.cc_fold.specs.Fold.{Literal, literal, literal_at, price_of, unmarked, marked, charged, computed, computed_of_one, computed_of_two, fold_unary, fold_binary, fold_and, fold_or, fold_cond, fold, same_call}
 use Rattle.cc_fold.proofs.LiteralRuns.{charged_is, computed_is}
-use Rattle.cc_fold.proofs.FewerParts.{Fewer, fewer_same, fewer_nothing, fewer_twice, fewer_before, fewer_after, fewer_kept, fewer_dropped, fewer_again}
+use Rattle.cc_fold.proofs.WellMade.FewerParts.{Fewer, fewer_same, fewer_nothing, fewer_twice, fewer_before, fewer_after, fewer_kept, fewer_dropped, fewer_again}
 use Rattle.cc_fold.proofs.ExactNumbers.{IsExact, unary_exact, binary_exact}
 use Rattle.cc_fold.proofs.DroppingSteps.{Drops}
 

@@ -2,9 +2,9 @@
 use Rattle.std.proofs.Common.{refl, sym, subst}
 use Rattle.cc_meaning.specs.Same.{Same}
 use Rattle.cc_tied.specs.PlainFacts.{plain_facts}
-use Rattle.cc_tied.proofs.KeptPaths.{Stays}
-use Rattle.cc_tied.proofs.MixedSame.{same_by_scopes}
-use Rattle.cc_tied.proofs.InjectPass.{same_tables}
+use Rattle.cc_tied.proofs.Mixed.KeptPaths.{Stays}
+use Rattle.cc_tied.proofs.Mixed.MixedSame.{same_by_scopes}
+use Rattle.cc_tied.proofs.Injection.Pass.{same_tables}
 use Rattle.cc_fold.specs.Built.{built_globals, built_in}
 use Rattle.cc_fold.specs.Fold.{fold, same_call, same_declarator, same_name, same_stmt}
 use Rattle.cc_fold.specs.Law.{FoldingKeeps}

@@ -1,8 +1,9 @@
 -- The laws of folding, whichever scopes of a program are folded by its plan.
-use Rattle.std.specs.Prelude.{ℕ}
+use Rattle.std.specs.Prelude.{ℕ, List}
 use Rattle.cc_ast.specs.Syntax.{Stmts, Program}
 use Rattle.cc_meaning.specs.Same.{Same}
 use Rattle.cc_meaning.specs.WellMade.{WellMade}
+use Rattle.cc_meaning.specs.Spelled.{IsSpelled}
 use Rattle.cc_tied.specs.Rewrites.{re_stmts}
 use Rattle.cc_tied.specs.Promises.{HasNoPaths}
 use Rattle.cc_tied.specs.Mixed.{IsMixed}
@@ -19,3 +20,8 @@ FoldingKeeps = (P Q : Program) → WellMade P → HasNoPaths P → IsMixed (fold
 -- whichever scopes are folded, the program stays well made, and without flat paths
 abbrev pub FoldingKeepsWellMade : Type 0
 FoldingKeepsWellMade = (P Q : Program) → WellMade P → HasNoPaths P → IsMixed (folded_by P) P Q → WellMade Q × HasNoPaths Q
+
+-- whichever scopes are folded, labels and properties can be written as before, whichever texts are
+-- identifiers and names
+abbrev pub FoldingKeepsSpelling : (Identifier Name : List ℕ → Type 0) → Type 0
+FoldingKeepsSpelling Identifier Name = (P Q : Program) → IsMixed (folded_by P) P Q → IsSpelled Identifier Name P → IsSpelled Identifier Name Q

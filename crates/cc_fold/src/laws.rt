@@ -1,6 +1,7 @@
 //! The laws of folding. The functions here state them, and do nothing.
 
-ghost use Rattle.cc_fold.specs.Law.{FoldingKeeps, FoldingKeepsWellMade};
+ghost use Rattle.std.specs.Prelude.{ℕ, Bool, List, IsTrue};
+ghost use Rattle.cc_fold.specs.Law.{FoldingKeeps, FoldingKeepsSpelling, FoldingKeepsWellMade};
 
 /// A well made program without flat paths does the same whichever of its scopes are folded by its
 /// plan.
@@ -11,4 +12,10 @@ pub fn folding_keeps()
 /// And it stays well made, and without flat paths.
 pub fn folding_keeps_well_made()
     ensures { FoldingKeepsWellMade }
+{}
+
+/// Labels that are identifiers and properties that are names stay so whichever scopes of a program are
+/// folded, by whichever tests of what is an identifier and what is a name.
+pub fn folding_keeps_spelling()
+    ensures { (is_identifier : List ℕ → Bool) → (is_name : List ℕ → Bool) → FoldingKeepsSpelling (λ t. IsTrue (is_identifier t)) (λ t. IsTrue (is_name t)) }
 {}

@@ -6,8 +6,8 @@ use Rattle.cc_ast.specs.declared.reading.Construct.{Construct}
 use Rattle.cc_ast.specs.declared.reading.Construct.TheVariants as construct
 use Rattle.cc_lexer.specs.declared.token.Mark.{Mark}
 use Rattle.cc_lexer.specs.declared.token.Mark.TheVariants as mark
-use Rattle.cc_grammar.specs.declared.word.Word.{Word}
-use Rattle.cc_grammar.specs.declared.word.Word.TheVariants as word
+use Rattle.cc_lexer.specs.declared.word.Word.{Word}
+use Rattle.cc_lexer.specs.declared.word.Word.TheVariants as word
 use Rattle.cc_grammar.specs.Symbols.{Kind, Lexeme, Symbols, real, inserted, look, rest, nowhere, is_mark, is_word}
 use Rattle.cc_grammar.specs.Symbols as k
 use Rattle.cc_grammar.specs.RawTree.{RawExpr, RawStmt}
@@ -23,7 +23,7 @@ use Rattle.cc_grammar.proofs.Marked.{In}
 use Rattle.cc_grammar.proofs.Meets.{Done, ok, err}
 use Rattle.cc_grammar.proofs.Shrinks.{reals}
 use Rattle.cc_grammar.proofs.Steps.{kind_at}
-use Rattle.cc_grammar.proofs.Alike.{is_limit}
+use Rattle.cc_grammar.proofs.Alikeness.Alike.{is_limit}
 use Rattle.cc_grammar.proofs.Moves.{Front, stays}
 use Rattle.cc_grammar.proofs.Deletions.{Nest, nest_told}
 use Rattle.cc_grammar.proofs.Nests.{Spares}

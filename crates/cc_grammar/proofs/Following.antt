@@ -14,9 +14,9 @@ use Rattle.cc_grammar.proofs.Views.{mark_true}
 use Rattle.cc_grammar.proofs.Steps.{step, chosen, skipped, chosen_at, skipped_at}
 use Rattle.cc_grammar.proofs.Quiet.{Quiet, looser, close_paren}
 use Rattle.cc_grammar.proofs.Stopping.{either_way, by_head, by_operand, head_ends}
-use Rattle.cc_grammar.proofs.CompleteOperands.{variable_head}
-use Rattle.cc_grammar.proofs.Alike.{Bounds, Deeper, Stands, whole, stands_after, alike_close}
-use Rattle.cc_grammar.proofs.AlikeExpressions.{Follow, held, on, past, Follows, AlikeInner, at_zero, expr_alike, after_head_alike}
+use Rattle.cc_grammar.proofs.Completeness.CompleteOperands.{variable_head}
+use Rattle.cc_grammar.proofs.Alikeness.Alike.{Bounds, Deeper, Stands, whole, stands_after, alike_close}
+use Rattle.cc_grammar.proofs.Alikeness.AlikeExpressions.{Follow, held, on, past, Follows, AlikeInner, at_zero, expr_alike, after_head_alike}
 use Rattle.cc_grammar.proofs.OnSymbols as s
 
 follow_by : {A : Type 0} {count : ℕ} {v : Bool} {j : Symbols} {o u : Outcome Symbols A} → o ≡ u → Follow count v j u → Follow count v j o

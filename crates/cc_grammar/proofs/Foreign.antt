@@ -4,7 +4,7 @@ use Rattle.std.proofs.Common.{refl, sym, ap, ◌∙◌, subst, append_assoc}
 use Rattle.std.proofs.lemmas.List.{append_cancel_right}
 use Rattle.cc_ast.specs.declared.reading.Construct.{Construct}
 use Rattle.cc_ast.specs.declared.reading.Construct.TheVariants as construct
-use Rattle.cc_grammar.specs.declared.word.Word.TheVariants as word
+use Rattle.cc_lexer.specs.declared.word.Word.TheVariants as word
 use Rattle.cc_grammar.specs.Symbols.{Kind, Lexeme, Symbol, Symbols, real, inserted, look}
 use Rattle.cc_grammar.specs.Symbols as k
 use Rattle.cc_grammar.specs.RawTree.{RawStmt}
@@ -17,13 +17,13 @@ use Rattle.cc_grammar.specs.Laws.{is_last}
 use Rattle.cc_grammar.specs.Reading.{Outcome, Sized, Fault, goes_on, refused, read_symbols}
 use Rattle.cc_grammar.proofs.Clashes.{clash, no_syntax, head_is, tail_is}
 use Rattle.cc_grammar.proofs.Shrinks.{reals}
-use Rattle.cc_grammar.proofs.Alike.{is_limit}
-use Rattle.cc_grammar.proofs.NoFront.{no_front}
+use Rattle.cc_grammar.proofs.Alikeness.Alike.{is_limit}
+use Rattle.cc_grammar.proofs.Refusing.NoFront.{no_front}
 use Rattle.cc_grammar.proofs.Deletions.{Nest, nest_told}
 use Rattle.cc_grammar.proofs.Fails.{Fails, fine, stop, deleted, deep, here, due, anew, Why}
 use Rattle.cc_grammar.proofs.Fails as why
-use Rattle.cc_grammar.proofs.FrontsProgram.{Open, FrontAt, FrontOf, program_fails}
-use Rattle.cc_grammar.proofs.Copies.{L}
+use Rattle.cc_grammar.proofs.Fronts.FrontsProgram.{Open, FrontAt, FrontOf, program_fails}
+use Rattle.cc_grammar.proofs.Copying.Copies.{L}
 use Rattle.cc_grammar.proofs.TokenFronts.{first_token, higher_within}
 use Rattle.cc_grammar.proofs.Halts.{Reason, at_next, behind, stopped}
 

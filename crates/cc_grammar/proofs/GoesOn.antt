@@ -5,7 +5,7 @@ use Rattle.std.proofs.Common.{refl, sym, ap, ◌∙◌, subst, arith, append_ass
 use Rattle.std.proofs.lemmas.List.{append_cancel_right}
 use Rattle.cc_ast.specs.declared.reading.Construct.{Construct}
 use Rattle.cc_ast.specs.declared.reading.Construct.TheVariants as construct
-use Rattle.cc_grammar.specs.declared.word.Word.TheVariants as word
+use Rattle.cc_lexer.specs.declared.word.Word.TheVariants as word
 use Rattle.cc_grammar.specs.Symbols.{Kind, Lexeme, Symbol, Symbols, real, inserted, lexemes_of, look, is_word}
 use Rattle.cc_grammar.specs.Symbols as k
 use Rattle.cc_grammar.specs.RawTree.{RawStmt}
@@ -16,15 +16,15 @@ use Rattle.cc_grammar.specs.Faults.{any}
 use Rattle.cc_grammar.specs.Reading.{Outcome, Sized, Fault, goes_on, refused, read_symbols}
 use Rattle.cc_grammar.proofs.Clashes.{clash, some_is, same_construct, head_is, tail_is, not_real}
 use Rattle.cc_grammar.proofs.Shrinks.{reals}
-use Rattle.cc_grammar.proofs.NoFront.{no_front}
+use Rattle.cc_grammar.proofs.Refusing.NoFront.{no_front}
 use Rattle.cc_grammar.proofs.Deletions.{Nest, bare, nested, Closers, closed_all, close_one}
 use Rattle.cc_grammar.proofs.Nests.{nest_opened}
-use Rattle.cc_grammar.proofs.Copies.{L, lexemes_real}
+use Rattle.cc_grammar.proofs.Copying.Copies.{L, lexemes_real}
 use Rattle.cc_grammar.proofs.TokenFronts.{lexemes_append, first_token, shorter_within}
-use Rattle.cc_grammar.proofs.Swap.{Pair, IsRefused, is_refused, Falls, falls_there, token}
-use Rattle.cc_grammar.proofs.Swap as swap
-use Rattle.cc_grammar.proofs.SwapSites.{change}
-use Rattle.cc_grammar.proofs.Verdicts.{Verdict, passing, limiting, refusing, falling, verdict, unlimited}
+use Rattle.cc_grammar.proofs.Swapping.Swap.{Pair, IsRefused, is_refused, Falls, falls_there, token}
+use Rattle.cc_grammar.proofs.Swapping.Swap as swap
+use Rattle.cc_grammar.proofs.Swapping.SwapSites.{change}
+use Rattle.cc_grammar.proofs.Refusing.Verdicts.{Verdict, passing, limiting, refusing, falling, verdict, unlimited}
 use Rattle.cc_grammar.proofs.Foreign.{foreign, Foreign, at_name, at_delete, refused_at_foreign}
 
 abbrev Read : Type 0

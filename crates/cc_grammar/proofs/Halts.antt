@@ -4,7 +4,7 @@ use Rattle.std.proofs.Common.{refl, sym, ap, ◌∙◌, subst, arith, append_ass
 use Rattle.std.proofs.lemmas.List.{append_cancel_right}
 use Rattle.cc_ast.specs.declared.reading.Construct.TheVariants as construct
 use Rattle.cc_lexer.specs.declared.token.Mark.TheVariants as mark
-use Rattle.cc_grammar.specs.declared.word.Word.TheVariants as word
+use Rattle.cc_lexer.specs.declared.word.Word.TheVariants as word
 use Rattle.cc_grammar.specs.Symbols.{Kind, Lexeme, Symbol, Symbols, real, inserted, look, lexemes_of, is_mark}
 use Rattle.cc_grammar.specs.Symbols as k
 use Rattle.cc_grammar.specs.RawTree.{RawStmt}
@@ -16,18 +16,18 @@ use Rattle.cc_grammar.specs.Reading as r
 use Rattle.cc_grammar.proofs.Clashes.{clash, same_head, same_tail, nothing_some, head_is, tail_is, no_insertion}
 use Rattle.cc_grammar.proofs.Views.{mark_true}
 use Rattle.cc_grammar.proofs.Shrinks.{reals}
-use Rattle.cc_grammar.proofs.Complete.{program_read}
-use Rattle.cc_grammar.proofs.Alike.{is_limit, is_spent}
-use Rattle.cc_grammar.proofs.NoFront.{no_front, unread_there}
+use Rattle.cc_grammar.proofs.Completeness.Complete.{program_read}
+use Rattle.cc_grammar.proofs.Alikeness.Alike.{is_limit, is_spent}
+use Rattle.cc_grammar.proofs.Refusing.NoFront.{no_front, unread_there}
 use Rattle.cc_grammar.proofs.Steps.{kind_at}
 use Rattle.cc_grammar.proofs.Deletions.{Nest, nest_told}
 use Rattle.cc_grammar.proofs.Fails.{Why, Raises, Fails, fine, stop, deleted, deep, here, due, anew}
-use Rattle.cc_grammar.proofs.FrontsProgram.{FrontAt, FrontOf, Open, program_fails}
-use Rattle.cc_grammar.proofs.Paired.{is_fresh, Begun, Paired, end_ready, body_ready}
-use Rattle.cc_grammar.proofs.Copies.{L, Copy, end, take, insert, put, put_lexemes, lexemes_real, look_real, Each, each_map, StopsAt, Just, Shut, Bar, bar_same, Copies, read, Quiet}
-use Rattle.cc_grammar.proofs.Copies as copies
-use Rattle.cc_grammar.proofs.CopyPrograms.{program_copy}
-use Rattle.cc_grammar.proofs.SoundTokens.{at_insertion, begun_behind, no_limit}
+use Rattle.cc_grammar.proofs.Fronts.FrontsProgram.{FrontAt, FrontOf, Open, program_fails}
+use Rattle.cc_grammar.proofs.Copying.Paired.{is_fresh, Begun, Paired, end_ready, body_ready}
+use Rattle.cc_grammar.proofs.Copying.Copies.{L, Copy, end, take, insert, put, put_lexemes, lexemes_real, look_real, Each, each_map, StopsAt, Just, Shut, Bar, bar_same, Copies, read, Quiet}
+use Rattle.cc_grammar.proofs.Copying.Copies as copies
+use Rattle.cc_grammar.proofs.Copying.CopyPrograms.{program_copy}
+use Rattle.cc_grammar.proofs.Soundness.SoundTokens.{at_insertion, begun_behind, no_limit}
 use Rattle.cc_grammar.proofs.TokenFronts.{real_is, lexemes_append, put_front, first_token, higher_within, justified_before}
 
 -- ---- what is known of the symbols before a stop

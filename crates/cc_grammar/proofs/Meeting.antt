@@ -4,7 +4,7 @@ use Rattle.std.proofs.Common.{refl, sym, ap, ◌∙◌, subst, arith, append_ass
 use Rattle.cc_grammar.specs.Symbols.{Lexeme, Symbol, Symbols, real, inserted, lexemes_of}
 use Rattle.cc_grammar.specs.Fronts.{IsFront, Offends, offending, Justified}
 use Rattle.cc_grammar.proofs.Clashes.{same_head, same_tail}
-use Rattle.cc_grammar.proofs.Copies.{L}
+use Rattle.cc_grammar.proofs.Copying.Copies.{L}
 use Rattle.cc_grammar.proofs.TokenFronts.{lexemes_append, first_token}
 
 -- of the front Q before the token t, and P

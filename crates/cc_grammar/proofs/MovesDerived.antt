@@ -1,7 +1,7 @@
 -- What is derived before one list is derived before another.
 use Rattle.std.specs.Prelude.{ℕ, Bool, List, [], ◌∷◌, Option}
 use Rattle.std.proofs.Common.{refl, ap, ◌∙◌, subst, arith}
-use Rattle.cc_grammar.specs.declared.word.Word.TheVariants as word
+use Rattle.cc_lexer.specs.declared.word.Word.TheVariants as word
 use Rattle.cc_grammar.specs.Symbols.{Lexeme, Symbols, real, inserted}
 use Rattle.cc_grammar.specs.RawTree.{RawExpr, RawStmt, RawField, RawDeclarator, RawCase, RawInit, RawCatch, RawFinally, MaybeExpr, Named}
 use Rattle.cc_grammar.specs.RawTree as raw

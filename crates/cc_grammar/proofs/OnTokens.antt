@@ -4,7 +4,7 @@ use Rattle.cc_ast.specs.declared.operator.BinOp.{BinOp}
 use Rattle.cc_ast.specs.declared.place.Place.{Place}
 use Rattle.cc_ast.specs.declared.reading.Construct.{Construct}
 use Rattle.cc_lexer.specs.declared.token.Mark.{Mark}
-use Rattle.cc_grammar.specs.declared.word.Word.{Word}
+use Rattle.cc_lexer.specs.declared.word.Word.{Word}
 use Rattle.cc_grammar.specs.Symbols.{Lexeme}
 use Rattle.cc_grammar.specs.RawTree.{RawExpr, RawTarget, RawForTarget, RawStmt, RawKey, RawField, RawDeclarator, RawCase, RawInit, RawCatch, RawFinally, MaybeExpr, Named}
 use Rattle.cc_grammar.specs.Signs.{Prefix, Infix}

@@ -6,7 +6,7 @@ use Rattle.cc_grammar.specs.RawTree.{RawStmt}
 use Rattle.cc_grammar.specs.Fronts.{Derives, IsFront, Offends, offending, Justified, ReadsWithin}
 use Rattle.cc_grammar.specs.Laws.{IsOne}
 use Rattle.cc_grammar.proofs.Clashes.{same_head, same_tail, nothing_some}
-use Rattle.cc_grammar.proofs.Complete.{one_tree}
+use Rattle.cc_grammar.proofs.Completeness.Complete.{one_tree}
 
 -- it derives a program
 pub record Is (xs : Symbols) : Type 0 where

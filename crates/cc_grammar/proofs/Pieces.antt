@@ -2,7 +2,7 @@
 use Rattle.std.specs.Prelude.{ℕ, suc, pos, List, [], ◌∷◌, Bool, true, false, Ok, Err, Option, Some, None, codes}
 use Prim.Native.String.{String}
 use Rattle.cc_lexer.specs.declared.token.Mark.{Mark}
-use Rattle.cc_grammar.specs.declared.word.Word.{Word}
+use Rattle.cc_lexer.specs.declared.word.Word.{Word}
 use Rattle.cc_grammar.specs.Symbols.{Kind, Lexeme, nowhere}
 use Rattle.cc_grammar.specs.Symbols as k
 use Rattle.cc_grammar.specs.RawTree.{RawStmt}

@@ -14,18 +14,18 @@ use Rattle.cc_grammar.specs.Laws.{IsText}
 use Rattle.cc_grammar.specs.Reading.{Fault, Cause, goes_on, is_remedy, syntax, depth, spent, refused, read_symbols}
 use Rattle.cc_grammar.proofs.Clashes.{clash, never, same_head, same_tail}
 use Rattle.cc_grammar.proofs.Shrinks.{reals}
-use Rattle.cc_grammar.proofs.Alike.{is_limit}
-use Rattle.cc_grammar.proofs.NoFront.{no_front}
+use Rattle.cc_grammar.proofs.Alikeness.Alike.{is_limit}
+use Rattle.cc_grammar.proofs.Refusing.NoFront.{no_front}
 use Rattle.cc_grammar.proofs.Nests.{nest_opened}
-use Rattle.cc_grammar.proofs.Copies.{L, Shut, lexemes_real}
+use Rattle.cc_grammar.proofs.Copying.Copies.{L, Shut, lexemes_real}
 use Rattle.cc_grammar.proofs.TokenFronts.{lexemes_append, shorter, shorter_within}
 use Rattle.cc_grammar.proofs.Halts.{Halt, is_deletion}
-use Rattle.cc_grammar.proofs.Swap.{Change, Next, Pair, Fitting, IsLimit, anything, no_colon, a_key, token}
-use Rattle.cc_grammar.proofs.Swap as swap
-use Rattle.cc_grammar.proofs.SwapSites.{change}
-use Rattle.cc_grammar.proofs.Verdicts.{Said, said_refused, said_limited, said_passed, said_fallen, said, verdict, unlimited}
+use Rattle.cc_grammar.proofs.Swapping.Swap.{Change, Next, Pair, Fitting, IsLimit, anything, no_colon, a_key, token}
+use Rattle.cc_grammar.proofs.Swapping.Swap as swap
+use Rattle.cc_grammar.proofs.Swapping.SwapSites.{change}
+use Rattle.cc_grammar.proofs.Refusing.Verdicts.{Said, said_refused, said_limited, said_passed, said_fallen, said, verdict, unlimited}
 use Rattle.cc_grammar.proofs.GoesOn.{pair_delete, goes_on_front}
-use Rattle.cc_grammar.proofs.Refutations.{Course, Deleting, Rest, at_last, one_more_last, one_less_last, name_last, key_last, delete_last, delete_within, key_pair, name_pair, next_look, no_remedy, denied, examined}
+use Rattle.cc_grammar.proofs.Refusing.Refutations.{Course, Deleting, Rest, at_last, one_more_last, one_less_last, name_last, key_last, delete_last, delete_within, key_pair, name_pair, next_look, no_remedy, denied, examined}
 use Rattle.cc_grammar.proofs.OnSymbols as symbols
 use Rattle.cc_grammar.proofs.Firsts.{names}
 

@@ -9,10 +9,10 @@ use Rattle.cc_grammar.specs.Reading as r
 use Rattle.cc_grammar.specs.Signs.{refused_kind}
 use Rattle.cc_grammar.proofs.Clashes.{same_head, same_tail, nothing_some, head_is, not_real}
 use Rattle.cc_grammar.proofs.Mono.{higher_body}
-use Rattle.cc_grammar.proofs.NoFront.{no_front}
-use Rattle.cc_grammar.proofs.Paired.{Paired}
-use Rattle.cc_grammar.proofs.Copies.{L, Copy, end, take, insert, put, StopsAt, Just}
-use Rattle.cc_grammar.proofs.SoundTokens.{Inserted, at_insertion, no_limit}
+use Rattle.cc_grammar.proofs.Refusing.NoFront.{no_front}
+use Rattle.cc_grammar.proofs.Copying.Paired.{Paired}
+use Rattle.cc_grammar.proofs.Copying.Copies.{L, Copy, end, take, insert, put, StopsAt, Just}
+use Rattle.cc_grammar.proofs.Soundness.SoundTokens.{Inserted, at_insertion, no_limit}
 
 -- ---- lists
 

@@ -7,9 +7,9 @@ use Rattle.cc_ast.specs.Syntax.{Prim}
 use Rattle.cc_lexer.specs.declared.token.Mark.{Mark}
 use Rattle.cc_lexer.specs.declared.token.Mark.TheVariants as mark
 use Rattle.cc_lexer.specs.contracts.token.Mark as the_mark
-use Rattle.cc_grammar.specs.declared.word.Word.{Word}
-use Rattle.cc_grammar.specs.declared.word.Word.TheVariants as word
-use Rattle.cc_grammar.specs.contracts.word.Word as the_word
+use Rattle.cc_lexer.specs.declared.word.Word.{Word}
+use Rattle.cc_lexer.specs.declared.word.Word.TheVariants as word
+use Rattle.cc_lexer.specs.contracts.word.Word as the_word
 use Rattle.cc_grammar.specs.Symbols.{Kind, is_mark, is_word}
 use Rattle.cc_grammar.specs.Symbols as k
 use Rattle.cc_grammar.specs.Fronts.{is_end}

@@ -5,10 +5,10 @@ use Rattle.cc_grammar.specs.Symbols.{real}
 use Rattle.cc_grammar.specs.RawTree.{RawStmt}
 use Rattle.cc_grammar.specs.Laws.{IsText, IsWhole}
 use Rattle.cc_grammar.specs.Reading.{Sized, read_symbols}
-use Rattle.cc_grammar.proofs.Sound.{symbols_sound, ended_at}
-use Rattle.cc_grammar.proofs.Copies.{L, put, put_lexemes, lexemes_real, Copies, read, Quiet}
-use Rattle.cc_grammar.proofs.CopyPrograms.{program_copy}
-use Rattle.cc_grammar.proofs.CompleteTokens.{whole_text}
+use Rattle.cc_grammar.proofs.Soundness.Sound.{symbols_sound, ended_at}
+use Rattle.cc_grammar.proofs.Copying.Copies.{L, put, put_lexemes, lexemes_real, Copies, read, Quiet}
+use Rattle.cc_grammar.proofs.Copying.CopyPrograms.{program_copy}
+use Rattle.cc_grammar.proofs.Completeness.CompleteTokens.{whole_text}
 
 whole_by : (turns d : ℕ) {ts us : L} {x : Sized (List RawStmt)} → IsText ts → Copies false Quiet (read_symbols turns d) ts (Ok (x, us)) → us ≡ []
 whole_by turns d text (read {a} {us} w e j k z) =

@@ -7,7 +7,7 @@ use Rattle.cc_ast.specs.declared.reading.Construct.TheVariants as construct
 use Rattle.cc_ast.specs.Syntax.{Prim, undefined}
 use Rattle.cc_lexer.specs.declared.token.Mark.{Mark}
 use Rattle.cc_lexer.specs.declared.token.Mark.TheVariants as mark
-use Rattle.cc_grammar.specs.declared.word.Word.{Word}
+use Rattle.cc_lexer.specs.declared.word.Word.{Word}
 use Rattle.cc_grammar.specs.Symbols.{Lexeme, is_mark}
 use Rattle.cc_grammar.specs.RawTree.{RawExpr, RawTarget, RawStmt, RawKey, RawField, RawDeclarator, RawCase, RawInit, RawCatch, RawFinally, MaybeExpr, Named, exprs, fields, cases, stmts}
 use Rattle.cc_grammar.specs.RawTree as raw

@@ -11,9 +11,10 @@ use Rattle.cc_ast.specs.declared.reading.Construct.{Construct}
 use Rattle.cc_ast.specs.declared.reading.Construct.TheVariants as construct
 use Rattle.cc_ast.specs.Syntax.{Prim, undefined, null, truth, whole, text}
 use Rattle.cc_lexer.specs.declared.token.Mark.TheVariants as m
-use Rattle.cc_grammar.specs.declared.word.Word.{Word}
-use Rattle.cc_grammar.specs.declared.word.Word.TheVariants as w
-use Rattle.cc_grammar.specs.Symbols.{Kind, Lexeme, spelling}
+use Rattle.cc_lexer.specs.declared.word.Word.{Word}
+use Rattle.cc_lexer.specs.declared.word.Word.TheVariants as w
+use Rattle.cc_lexer.specs.Words.{spelling}
+use Rattle.cc_grammar.specs.Symbols.{Kind, Lexeme}
 use Rattle.cc_grammar.specs.Symbols as k
 use Rattle.cc_grammar.specs.RawTree.{RawExpr, RawTarget, RawKey}
 use Rattle.cc_grammar.specs.RawTree as raw

@@ -1,6 +1,5 @@
 -- What a program is a list of: its tokens, and the semicolons that are inserted.
-use Rattle.std.specs.Prelude.{ℕ, ℤ, List, [], ◌∷◌, ◌++◌, Bool, false, if◌then◌else◌, Option, Some, None, is_none, codes}
-use Rattle.std.specs.Str.{bytes_eq}
+use Rattle.std.specs.Prelude.{ℕ, ℤ, List, [], ◌∷◌, ◌++◌, Bool, false, Option, Some, None, is_none}
 use denote.Enum.Bare.{sameb}
 use Rattle.cc_ast.specs.declared.place.Place.{Place}
 use Rattle.cc_ast.specs.declared.reading.Construct.{Construct}
@@ -11,61 +10,8 @@ use Rattle.cc_lexer.specs.declared.token.Token.{Token}
 use Rattle.cc_lexer.specs.declared.token.TokenKind.{TokenKind}
 use Rattle.cc_lexer.specs.declared.token.TokenKind.TheVariants as token
 use Rattle.cc_lexer.specs.contracts.token.Mark as the_mark
-use Rattle.cc_grammar.specs.declared.word.Word.{Word}
-use Rattle.cc_grammar.specs.declared.word.Word.TheVariants as w
-use Rattle.cc_grammar.specs.contracts.word.Word as the_word
-
--- how a word is spelled (ECMA-262 5.1, 7.6.1)
-unfoldable pub spelling : Word → List ℕ
-spelling w.Break = codes "break"
-spelling w.Case = codes "case"
-spelling w.Catch = codes "catch"
-spelling w.Class = codes "class"
-spelling w.Const = codes "const"
-spelling w.Continue = codes "continue"
-spelling w.Debugger = codes "debugger"
-spelling w.Default = codes "default"
-spelling w.Delete = codes "delete"
-spelling w.Do = codes "do"
-spelling w.Else = codes "else"
-spelling w.Enum = codes "enum"
-spelling w.Export = codes "export"
-spelling w.Extends = codes "extends"
-spelling w.False = codes "false"
-spelling w.Finally = codes "finally"
-spelling w.For = codes "for"
-spelling w.Function = codes "function"
-spelling w.If = codes "if"
-spelling w.Import = codes "import"
-spelling w.In = codes "in"
-spelling w.Instanceof = codes "instanceof"
-spelling w.New = codes "new"
-spelling w.Null = codes "null"
-spelling w.Return = codes "return"
-spelling w.Super = codes "super"
-spelling w.Switch = codes "switch"
-spelling w.This = codes "this"
-spelling w.Throw = codes "throw"
-spelling w.True = codes "true"
-spelling w.Try = codes "try"
-spelling w.Typeof = codes "typeof"
-spelling w.Var = codes "var"
-spelling w.Void = codes "void"
-spelling w.While = codes "while"
-spelling w.With = codes "with"
-
-unfoldable pub words : List Word
-words = w.Break ∷ w.Case ∷ w.Catch ∷ w.Class ∷ w.Const ∷ w.Continue ∷ w.Debugger ∷ w.Default ∷ w.Delete ∷ w.Do ∷ w.Else ∷ w.Enum
-    ∷ w.Export ∷ w.Extends ∷ w.False ∷ w.Finally ∷ w.For ∷ w.Function ∷ w.If ∷ w.Import ∷ w.In ∷ w.Instanceof ∷ w.New ∷ w.Null
-    ∷ w.Return ∷ w.Super ∷ w.Switch ∷ w.This ∷ w.Throw ∷ w.True ∷ w.Try ∷ w.Typeof ∷ w.Var ∷ w.Void ∷ w.While ∷ w.With ∷ []
-
-abbrev pub spelled_in : List Word → List ℕ → Option Word
-spelled_in [] u = None
-spelled_in (w ∷ ws) u = if bytes_eq (spelling w) u then Some w else spelled_in ws u
-
--- the word of this spelling
-unfoldable pub word_of : List ℕ → Option Word
-word_of = spelled_in words
+use Rattle.cc_lexer.specs.declared.word.Word.{Word}
+use Rattle.cc_lexer.specs.contracts.word.Word as the_word
 
 -- A part of a program that is due at a place. No text has it as a token: a list that goes on with it is a list
 -- that may go on with any such part. `remedy` stands for what makes a part right that is wrong without it, and `ending` is what an inserted semicolon shows.
@@ -136,14 +82,10 @@ is_word w _ = false
 
 -- ---- from the tokens of a file
 
-abbrev pub worded : Option Word → Kind
-worded (Some w) = word w
-worded None = stop None
-
 -- what a token is, where it is no comment
 abbrev pub kind_of : TokenKind → Option Kind
 kind_of (token.Name u) = Some (name u)
-kind_of (token.Word u) = Some (worded (word_of u))
+kind_of (token.Word w) = Some (word w)
 kind_of (token.Mark m) = Some (mark m)
 kind_of (token.Number n) = Some (number n)
 kind_of (token.Text u) = Some (text u)

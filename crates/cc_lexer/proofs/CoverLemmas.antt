@@ -26,6 +26,7 @@ use Rattle.cc_lexer.specs.Covers.{IsGap, Spells, Covered, StopsAt, IsCovered}
 use Rattle.cc_lexer.proofs.Runs.{run_behind}
 use Rattle.cc_lexer.proofs.CommentLemmas.{comment_is}
 use Rattle.cc_lexer.proofs.MarkLemmas.{longer_spells, single_spells}
+use Rattle.cc_lexer.proofs.PlaceLemmas.{passed_then}
 use Rattle.cc_lexer.proofs.ItemLemmas.{start_part, string_leaves, StringLeaves}
 
 -- the item's own text, before what is behind it
@@ -121,10 +122,6 @@ string_explains q cs (fails f) h i l = tt
 begins_explains : {cs : List ℕ} {i : Item} → Begins cs i → Explains cs i
 begins_explains (string {q} {cs} {e} h i) = string_explains q cs e h i (string_leaves q i)
 begins_explains (other {c} {cs} h) = item_explains c cs
-
-passed_then : {p q r : Place} {cs ds es : List ℕ} → Passed p cs q ds → Passed q ds r es → Passed p cs r es
-passed_then here y = y
-passed_then (over x) y = over (passed_then x y)
 
 stops_before : {p q : Place} {cs ds : List ℕ} (rest : List ℕ) (s : Option Refusal) → Passed p cs q ds → StopsAt q ds rest s → StopsAt p cs rest s
 stops_before rest None w e = e

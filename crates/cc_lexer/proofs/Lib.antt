@@ -2,10 +2,12 @@ pub mod Runs
 pub mod CommentLemmas
 pub mod StringLemmas
 pub mod NameLemmas
-pub mod ReservedWords
+pub mod WordLemmas
 pub mod ItemLemmas
 pub mod PlaceLemmas
 pub mod LexLemmas
 pub mod OnceLemmas
 pub mod MarkLemmas
+pub mod PieceLemmas
+pub mod QuickLemmas
 pub mod CoverLemmas

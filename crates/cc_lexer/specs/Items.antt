@@ -1,8 +1,7 @@
 -- What a text begins with.
-use Rattle.std.specs.Prelude.{◌≡◌, ℕ, pos, List, [], ◌∷◌, Bool, true, false, not, ◌&&◌, ◌==◌, if◌then◌else◌, Option, Some, None, drop, codes, encode_utf8_all}
+use Rattle.std.specs.Prelude.{◌≡◌, ℕ, pos, List, [], ◌∷◌, Bool, true, false, not, ◌&&◌, ◌==◌, if◌then◌else◌, Option, Some, None, drop, encode_utf8_all}
 use Rattle.std.specs.Option.{option_map_or}
-use Rattle.std.specs.List.{list_any}
-use Rattle.std.specs.Str.{bytes_eq, chars, IsUtf8}
+use Rattle.std.specs.Str.{chars, IsUtf8}
 use Rattle.cc_ast.specs.declared.reading.Construct.TheVariants as construct
 use Rattle.cc_text.specs.Characters.{is_digit, is_line_end, first_is}
 use Rattle.cc_text.specs.Utf16.{utf16}
@@ -16,6 +15,7 @@ use Rattle.cc_lexer.specs.declared.token.TokenKind.{TokenKind}
 use Rattle.cc_lexer.specs.declared.token.TokenKind.TheVariants as kind
 use Rattle.cc_lexer.specs.Characters.{is_white, is_start, is_part, is_quote, run, behind}
 use Rattle.cc_lexer.specs.Marks.{single, longer}
+use Rattle.cc_lexer.specs.Words.{word_of}
 use Rattle.cc_lexer.specs.Strings.{StringEnd, closes, fails, InString}
 use Rattle.cc_lexer.specs.Numbers.{is_number_form}
 use Rattle.cc_lexer.specs.Comments.{behind_comment, comment, is_annotation, has_line_end}
@@ -28,21 +28,8 @@ pub data Item : Type 0 where
   annotation : (units : List ℕ) (line : Bool) (rest : List ℕ) → Item
   nothing : Fault → Item
 
--- the reserved words (ECMA-262 5.1, 7.6.1), and null, true and false
-unfoldable pub reserved : List (List ℕ)
-reserved = codes "break" ∷ codes "case" ∷ codes "catch" ∷ codes "continue" ∷ codes "debugger" ∷ codes "default"
-    ∷ codes "delete" ∷ codes "do" ∷ codes "else" ∷ codes "finally" ∷ codes "for" ∷ codes "function" ∷ codes "if"
-    ∷ codes "in" ∷ codes "instanceof" ∷ codes "new" ∷ codes "return" ∷ codes "switch" ∷ codes "this" ∷ codes "throw"
-    ∷ codes "try" ∷ codes "typeof" ∷ codes "var" ∷ codes "void" ∷ codes "while" ∷ codes "with"
-    ∷ codes "class" ∷ codes "const" ∷ codes "enum" ∷ codes "export" ∷ codes "extends" ∷ codes "import" ∷ codes "super"
-    ∷ codes "null" ∷ codes "true" ∷ codes "false" ∷ []
-
--- the bytes are those of one of them
-unfoldable pub is_reserved : List ℕ → Bool
-is_reserved bytes = list_any (λ w. bytes_eq w bytes) reserved
-
 abbrev pub word_or_name : List ℕ → TokenKind
-word_or_name cs = if is_reserved (encode_utf8_all cs) then kind.Word (utf16 cs) else kind.Name (utf16 cs)
+word_or_name cs = option_map_or kind.Word (word_of (encode_utf8_all cs)) (kind.Name (utf16 cs))
 
 -- a number ends where no name character follows
 abbrev pub literal : Option ℕ → List ℕ → Item

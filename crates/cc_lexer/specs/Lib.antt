@@ -1,5 +1,6 @@
 pub mod Characters
 pub mod Marks
+pub mod Words
 pub mod Strings
 pub mod Numbers
 pub mod Comments

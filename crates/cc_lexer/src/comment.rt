@@ -1,15 +1,15 @@
 // Comments.
 
-ghost use Rattle.std.specs.Prelude.{◌≡◌, ◌∷◌, Some, None, MatchOption, IfOk, IfSome};
+ghost use Rattle.std.specs.Prelude.{◌≡◌, ◌∷◌, Some, None, MatchOption, IfSome};
 ghost use Rattle.std.specs.Str.{chars, IsUtf8};
 ghost use Rattle.cc_lexer.specs.Comments as comments;
 ghost use Rattle.cc_lexer.specs.Items as items;
 
 use crate::item::Item;
+use crate::piece::Piece;
 use crate::span::front;
 use crate::token::Fault;
-use cc_text::{is_line_end, split_first, units_of};
-use std::alloc::{AllocError, Global};
+use cc_text::{is_line_end, split_first};
 
 // What is behind the next `*/`.
 fn behind_comment(text: &str) -> Option<&str>
@@ -51,22 +51,18 @@ fn is_annotation(inside: &str) -> bool
 }
 
 /// The comment that a text begins with, whose `/*` ends before the inside.
-pub(crate) fn block<'a>(
-    alloc: Global,
-    text: &'a str,
-    inside: &'a str,
-) -> Result<Item<'a>, AllocError>
+pub(crate) fn block<'a>(text: &'a str, inside: &'a str) -> Item<'a>
     requires { chars text.now ≡ 47 ∷ 42 ∷ chars inside.now }
-    ensures { IfOk result (items.IsItem (items.block (chars inside.now) (comments.behind_comment (chars inside.now)))) }
+    ensures { items.IsItem (items.block (chars inside.now) (comments.behind_comment (chars inside.now))) result }
 {
     let Some(rest) = behind_comment(inside) else {
-        return Ok(Item::Nothing(Fault::Syntax));
+        return Item::Nothing(Fault::Syntax);
     };
     let whole = front(text, rest);
     let line = has_line_end(whole);
     if is_annotation(inside) {
-        Ok(Item::Annotation(units_of(alloc, whole)?, line, rest))
+        Item::Annotation(Piece::new(whole), line, rest)
     } else {
-        Ok(Item::Blank(line, rest))
+        Item::Blank(line, rest)
     }
 }

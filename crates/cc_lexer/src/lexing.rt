@@ -23,7 +23,7 @@ fn refusal(fault: Fault, place: Place) -> Refusal
     }
 }
 
-fn tokens_of(alloc: Global, text: &str, file: u32) -> Result<Tokens, AllocError>
+fn tokens_of<'a>(alloc: Global, text: &'a str, file: u32) -> Result<Tokens<'a>, AllocError>
     requires { length text.now ≤ 16777216 }
     ensures { IfOk result (λ t. lexes.Lexed (chars text.now) file t.list.items t.stop) }
 {
@@ -58,8 +58,8 @@ fn tokens_of(alloc: Global, text: &str, file: u32) -> Result<Tokens, AllocError>
                 place = moved(place, rest, end);
                 rest = end;
             }
-            Ok(Item::Annotation(units, line, end)) => {
-                let kind = TokenKind::Doc(units);
+            Ok(Item::Annotation(piece, line, end)) => {
+                let kind = TokenKind::Doc(piece);
                 list.push(Token {
                     kind,
                     place,
@@ -81,7 +81,7 @@ fn tokens_of(alloc: Global, text: &str, file: u32) -> Result<Tokens, AllocError>
 }
 
 /// The tokens of a source file, of which this is the number.
-pub fn tokens(alloc: Global, bytes: &[u8], file: u32) -> Result<Tokens, Refusal>
+pub fn tokens<'a>(alloc: Global, bytes: &'a [u8], file: u32) -> Result<Tokens<'a>, Refusal>
     requires { length bytes.now ≤ 16777216 }
     ensures text { IfOk result (λ _. IsUtf8 bytes.now) }
     ensures lexed { IfOk result (λ t. lexes.Lexed (chars bytes.now) file t.list.items t.stop) }

@@ -12,9 +12,11 @@ mod lexing;
 mod mark;
 mod name;
 mod number;
+pub mod piece;
 mod place;
 mod span;
 mod string;
 pub mod token;
+pub mod word;
 
 pub use lexing::tokens;

@@ -10,6 +10,7 @@ use crate::token::{Fault, Mark, TokenKind};
 use cc_text::split_first;
 
 // The mark that is one character.
+#[inline(always)]
 pub(crate) fn single(c: char) -> Option<Mark>
     ensures { result ≡ marks.single c }
 {
@@ -77,13 +78,11 @@ pub(crate) fn longer(mark: Mark, c: char) -> Option<Mark>
     Some(longer)
 }
 
-/// The longest mark that a text begins with, by its first character and what is behind that.
-pub(crate) fn mark(c: char, rest: &str) -> Item<'_>
-    ensures { items.IsItem (items.mark c (chars rest.now)) result }
+/// The longest mark that begins with this one, which stands before the text.
+#[inline(always)]
+pub(crate) fn longest(first: Mark, rest: &str) -> Item<'_>
+    ensures { items.IsItem (items.longest first (chars rest.now)) result }
 {
-    let Some(first) = single(c) else {
-        return Item::Nothing(Fault::Syntax);
-    };
     let mut mark = first;
     let mut end = rest;
     while let Some((c, behind)) = split_first(end) {
@@ -94,4 +93,14 @@ pub(crate) fn mark(c: char, rest: &str) -> Item<'_>
         end = behind;
     }
     Item::Token(TokenKind::Mark(mark), end)
+}
+
+/// The longest mark that a text begins with, by its first character and what is behind that.
+pub(crate) fn mark(c: char, rest: &str) -> Item<'_>
+    ensures { items.IsItem (items.mark c (chars rest.now)) result }
+{
+    match single(c) {
+        Some(first) => longest(first, rest),
+        None => Item::Nothing(Fault::Syntax),
+    }
 }

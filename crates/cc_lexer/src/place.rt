@@ -1,8 +1,10 @@
 // Places that go on over a text.
 
-ghost use Rattle.std.specs.Prelude.{◌≡◌, ◌+◌, ◌≤◌, ◌∷◌, length};
+ghost use Rattle.std.specs.Prelude.{◌≡◌, ◌+◌, ◌≤◌, ◌∷◌, length, take, true, nat_lt, ◌&&◌, not};
 ghost use Rattle.std.specs.Char.{len_utf8};
+ghost use Rattle.std.specs.List.{list_all};
 ghost use Rattle.std.specs.Str.{chars};
+ghost use Rattle.cc_text.specs.Characters as class;
 ghost use Rattle.cc_text.specs.Ends.{Ends};
 ghost use Rattle.cc_lexer.specs.Lexes as lexes;
 
@@ -33,8 +35,9 @@ fn beyond(place: Place, c: char, rest: &str) -> Place
     }
 }
 
-/// The place of an end of a text, from the place of the text.
-pub(crate) fn moved(place: Place, text: &str, rest: &str) -> Place
+// The place of an end of a text, character by character.
+#[cold]
+fn walked(place: Place, text: &str, rest: &str) -> Place
     requires ends { Ends (chars text.now) (chars rest.now) }
     requires room { lexes.HasRoom place (length text.now) }
     ensures passed { lexes.Passed place (chars text.now) result (chars rest.now) }
@@ -50,4 +53,48 @@ pub(crate) fn moved(place: Place, text: &str, rest: &str) -> Place
         left = behind;
     }
     current
+}
+
+// Whether a byte is an ASCII character that ends no line.
+fn is_plain(byte: u8) -> bool
+    ensures { result ≡ (nat_lt byte 128 && not (class.is_line_end byte)) }
+{
+    byte < 128 && byte != b'\n' && byte != b'\r'
+}
+
+// How many of the first bytes, of at most so many, are such characters.
+fn plain_length(text: &str, most: usize) -> usize
+    requires { most ≤ length text.now }
+    ensures within { result ≤ most }
+    ensures plain { list_all (λ b. nat_lt b 128 && not (class.is_line_end b)) (take result text.now) ≡ true }
+{
+    let bytes = text.as_bytes();
+    for at in 0..most {
+        if !is_plain(bytes[at]) {
+            return at;
+        }
+    }
+    most
+}
+
+/// The place of an end of a text, from the place of the text. Over ASCII characters that end no
+/// line, as most tokens are, it goes on by their number.
+#[inline(always)]
+pub(crate) fn moved(place: Place, text: &str, rest: &str) -> Place
+    requires ends { Ends (chars text.now) (chars rest.now) }
+    requires room { lexes.HasRoom place (length text.now) }
+    ensures passed { lexes.Passed place (chars text.now) result (chars rest.now) }
+    ensures room { lexes.HasRoom result (length rest.now) }
+{
+    let length = text.len() - rest.len();
+    let plain = plain_length(text, length);
+    let along = Place {
+        offset: place.offset + plain as u32,
+        column: place.column + plain as u32,
+        ..place
+    };
+    if plain == length {
+        return along;
+    }
+    walked(along, &text[plain..], rest)
 }

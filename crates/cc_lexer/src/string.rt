@@ -11,6 +11,7 @@ use crate::token::{Fault, TokenKind};
 use cc_ast::reading::Construct;
 use cc_ast::units::Units;
 use cc_text::{Behind, escape_behind, is_line_end, push_char, split_first};
+use sqlite_items::Boxed;
 use std::alloc::{AllocError, Global};
 
 // The text behind an escape, or its fault.
@@ -48,7 +49,8 @@ pub(crate) fn string<'a>(alloc: Global, quote: char, text: &'a str) -> Result<It
     let mut rest = text;
     while let Some((c, behind)) = split_first(rest) {
         if c == quote {
-            return Ok(Item::Token(TokenKind::Text(Units { list }), behind));
+            let units = Boxed::new(alloc, Units { list })?;
+            return Ok(Item::Token(TokenKind::Text(units), behind));
         }
         if is_line_end(c) {
             return Ok(Item::Nothing(Fault::Syntax));

@@ -1,8 +1,11 @@
 // Tokens.
 
+use crate::piece::Piece;
+use crate::word::Word;
 use cc_ast::place::Place;
 use cc_ast::reading::{Construct, Refusal};
 use cc_ast::units::Units;
+use sqlite_items::Boxed;
 
 /// A punctuator (ECMA-262 5.1, 7.7).
 #[derive(Clone, Copy)]
@@ -60,21 +63,21 @@ pub enum Mark {
 /// A name, a reserved word, a punctuator, a whole number, a string by its value, an annotation
 /// comment by its whole text, or the end of the input.
 #[derive(Drop)]
-pub enum TokenKind {
-    Name(Units),
-    Word(Units),
+pub enum TokenKind<'a> {
+    Name(Piece<'a>),
+    Word(Word),
     Mark(Mark),
     Number(i64),
-    Text(Units),
-    Doc(Units),
+    Text(Boxed<Units>),
+    Doc(Piece<'a>),
     End,
 }
 
 /// A token with the place of its first character. `after_line` tells whether a line end, or a
 /// comment that contains one, stands between it and the token before it that is no comment.
 #[derive(Drop)]
-pub struct Token {
-    pub kind: TokenKind,
+pub struct Token<'a> {
+    pub kind: TokenKind<'a>,
     pub place: Place,
     pub after_line: bool,
 }
@@ -82,8 +85,8 @@ pub struct Token {
 /// The tokens of a text up to the first character that begins none, and what is refused there.
 /// `End` is the last token exactly where nothing is refused.
 #[derive(Drop)]
-pub struct Tokens {
-    pub list: Vec<Token>,
+pub struct Tokens<'a> {
+    pub list: Vec<Token<'a>>,
     pub stop: Option<Refusal>,
 }
 

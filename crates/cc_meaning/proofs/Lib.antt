@@ -19,4 +19,6 @@ mod RowsPrototypes
 mod RowsChains
 mod RowsKeys
 mod WellMadeRow
+mod Listed
+mod RowsWitness
 mod RowsFlat

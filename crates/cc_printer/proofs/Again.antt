@@ -4,7 +4,7 @@ use Rattle.std.proofs.Common.{refl, sym, ap, ap₂, ◌∙◌}
 use Rattle.cc_ast.specs.declared.operator.BinOp.TheVariants as b
 use Rattle.cc_ast.specs.Syntax.{Prim, whole}
 use Rattle.cc_lexer.specs.declared.token.Mark.TheVariants as m
-use Rattle.cc_grammar.specs.declared.word.Word.TheVariants as w
+use Rattle.cc_lexer.specs.declared.word.Word.TheVariants as w
 use Rattle.cc_grammar.specs.Symbols.{Kind}
 use Rattle.cc_grammar.specs.Symbols as k
 use Rattle.cc_grammar.specs.RawTree.{RawExpr, RawTarget, RawExprs, MaybeExpr, RawFields, RawDeclarators, RawInit, RawForTarget, RawStmt, RawStmts, RawCatch, RawFinally, RawCases, Named}

@@ -12,7 +12,7 @@ use Rattle.cc_grammar.specs.Grammar.{of_program}
 use Rattle.cc_grammar.specs.Fronts.{ReadsWithin}
 use Rattle.cc_grammar.specs.Laws.{IsText}
 use Rattle.cc_grammar.proofs.OneReading.{one}
-use Rattle.cc_grammar.proofs.CompleteTokens.{complete}
+use Rattle.cc_grammar.proofs.Completeness.CompleteTokens.{complete}
 use Rattle.cc_grammar.proofs.TextTokens.{has_text}
 use Rattle.cc_printer.specs.Printing.{tokens}
 use Rattle.cc_printer.specs.Heights.{height_stmts}

@@ -11,9 +11,10 @@ use lib.Utf8.{scalar, scalars, low_scalar}
 use Rattle.cc_text.specs.Characters.{first_is}
 use Rattle.cc_lexer.specs.declared.token.Mark.{Mark}
 use Rattle.cc_lexer.specs.declared.token.Mark.TheVariants as m
-use Rattle.cc_grammar.specs.declared.word.Word.{Word}
-use Rattle.cc_grammar.specs.declared.word.Word.TheVariants as w
+use Rattle.cc_lexer.specs.declared.word.Word.{Word}
+use Rattle.cc_lexer.specs.declared.word.Word.TheVariants as w
 use Rattle.cc_lexer.specs.Marks as marks
+use Rattle.cc_lexer.specs.Words as words
 use Rattle.cc_grammar.specs.Symbols.{Kind}
 use Rattle.cc_grammar.specs.Symbols as k
 use Rattle.cc_printer.specs.Spelling.{glyph, letter, unit, units, quote, count, spell, runs_on, is_arrow, gap, glue_after, glue, Units, Sound, AllSound, last, before}
@@ -91,8 +92,8 @@ mark_scalars : (v : Mark) → scalars (marks.spelling v) ≡ true
 mark_scalars m.Plus = refl
 mark_scalars _ = refl
 
-word_scalars : (v : Word) → scalars (k.spelling v) ≡ true
-unfolding k.spelling
+word_scalars : (v : Word) → scalars (words.spelling v) ≡ true
+unfolding words.spelling
 word_scalars w.Break = refl
 word_scalars _ = refl
 

@@ -2,7 +2,7 @@
 use Rattle.std.specs.Prelude.{[], ◌∷◌, codes}
 use Rattle.std.proofs.Common.{refl}
 use Rattle.unicode_ident.proofs.Computing.{unicode_ident}
-use Rattle.cc_lexer.specs.Items.{is_reserved, reserved}
+use Rattle.cc_lexer.specs.Words.{word_of, words, spelling}
 use Rattle.cc_grammar.specs.Symbols.{nowhere}
 use Rattle.cc_grammar.specs.RawTree.{RawExpr, RawStmt, RawStmts}
 use Rattle.cc_grammar.specs.RawTree as raw
@@ -29,11 +29,11 @@ abbrev tree : RawStmts
 tree = raw.stmts (raw.if nowhere a run run ∷ [])
 
 name_a : IsName (codes "a")
-unfolding unicode_ident is_reserved reserved lib.Utf8.encode
+unfolding unicode_ident word_of words spelling lib.Utf8.encode
 name_a = record { begins = refl; goes_on = refl; units = refl; scalars = refl; free = refl }
 
 name_b : IsName (codes "b")
-unfolding unicode_ident is_reserved reserved lib.Utf8.encode
+unfolding unicode_ident word_of words spelling lib.Utf8.encode
 name_b = record { begins = refl; goes_on = refl; units = refl; scalars = refl; free = refl }
 
 printable : PrintableStmts of_program tree

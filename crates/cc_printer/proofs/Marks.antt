@@ -10,10 +10,10 @@ use Rattle.cc_lexer.specs.declared.token.Mark.TheVariants as m
 use Rattle.cc_lexer.specs.declared.token.TokenKind.TheVariants as kind
 use Rattle.cc_lexer.specs.Marks.{longer}
 use Rattle.cc_lexer.specs.Marks as marks
-use Rattle.cc_lexer.specs.Items.{Item, token, item, longest, word_or_name, Begins, other, is_reserved, reserved}
-use Rattle.cc_grammar.specs.declared.word.Word.{Word}
-use Rattle.cc_grammar.specs.declared.word.Word.TheVariants as w
-use Rattle.cc_grammar.specs.Symbols.{word_of, words, spelling}
+use Rattle.cc_lexer.specs.Items.{Item, token, item, longest, word_or_name, Begins, other}
+use Rattle.cc_lexer.specs.declared.word.Word.{Word}
+use Rattle.cc_lexer.specs.declared.word.Word.TheVariants as w
+use Rattle.cc_lexer.specs.Words.{word_of, words, spelling}
 use Rattle.cc_grammar.specs.Symbols.{Kind}
 use Rattle.cc_grammar.specs.Symbols as k
 use Rattle.cc_printer.specs.Spelling.{runs_on}
@@ -102,12 +102,7 @@ mark_begins m.SlashEqual ys h = subst (λ i. ItemOf m.SlashEqual ys i) (stops m.
 
 -- ---- words
 
-pub word_back : (w : Word) → word_of (utf16 (spelling w)) ≡ Some w
-unfolding word_of words spelling
-word_back w.Break = refl
-word_back _ = refl
-
-pub word_reserved : (w : Word) → word_or_name (spelling w) ≡ kind.Word (utf16 (spelling w))
-unfolding is_reserved reserved spelling lib.Utf8.encode
+pub word_reserved : (w : Word) → word_or_name (spelling w) ≡ kind.Word w
+unfolding word_of words spelling lib.Utf8.encode
 word_reserved w.Break = refl
 word_reserved _ = refl

@@ -6,7 +6,7 @@ use Rattle.unicode_ident.proofs.Computing.{unicode_ident}
 use Rattle.cc_ast.specs.declared.operator.UnOp.TheVariants as u
 use Rattle.cc_ast.specs.declared.tree.Ref.TheVariants.{Frame, Global}
 use Rattle.cc_ast.specs.Syntax as S
-use Rattle.cc_grammar.specs.Symbols.{spelling, word_of, words}
+use Rattle.cc_lexer.specs.Words.{spelling, word_of, words}
 use Rattle.cc_printer.specs.Printing.{tokens, stmts}
 use Rattle.cc_printer.specs.Spelling.{glue, spell}
 use Rattle.cc_printer.specs.RawOf.{raw_of}

@@ -7,7 +7,7 @@ use Rattle.std.proofs.lemmas.Bool.Decides.{nat_tests}
 use Rattle.cc_text.specs.Characters.{first_is}
 use Rattle.cc_text.specs.Utf16.{utf16}
 use Rattle.cc_lexer.specs.Characters.{is_start, is_part}
-use Rattle.cc_lexer.specs.Items.{is_reserved}
+use Rattle.cc_lexer.specs.Words.{word_of}
 use lib.Utf8.{scalar, scalars, scalar_cases}
 use Rattle.cc_printer.specs.Spelling.{is_high, is_low, join, characters}
 use Rattle.cc_printer.specs.Laws.{NamesAreNames}
@@ -66,5 +66,5 @@ names_are_names cs s b g f = let e = back cs s in record {
   goes_on = ap (list_all is_part) e ∙ g;
   units = ap utf16 e;
   scalars = ap (λ x. scalars x) e ∙ s;
-  free = ap (λ x. is_reserved (encode_utf8_all x)) e ∙ f;
+  free = ap (λ x. word_of (encode_utf8_all x)) e ∙ f;
 }

@@ -9,7 +9,7 @@ use Rattle.cc_ast.specs.declared.operator.UnOp.{UnOp}
 use Rattle.cc_ast.specs.declared.operator.BinOp.TheVariants as b
 use Rattle.cc_ast.specs.declared.operator.UnOp.TheVariants as u
 use Rattle.cc_ast.specs.Syntax.{undefined, whole, text}
-use Rattle.cc_grammar.specs.Symbols.{spelling, word_of, words}
+use Rattle.cc_lexer.specs.Words.{spelling, word_of, words}
 use Rattle.cc_grammar.specs.Symbols.{nowhere}
 use Rattle.cc_grammar.specs.RawTree.{RawExpr, RawTarget, RawExprs, RawStmt, RawStmts, Named, MaybeExpr}
 use Rattle.cc_grammar.specs.RawTree as raw

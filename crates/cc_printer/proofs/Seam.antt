@@ -15,17 +15,18 @@ use Rattle.cc_lexer.specs.declared.token.TokenKind.{TokenKind}
 use Rattle.cc_lexer.specs.declared.token.TokenKind.TheVariants as kind
 use Rattle.cc_lexer.specs.Characters.{is_start}
 use Rattle.cc_lexer.specs.Marks as marks
+use Rattle.cc_lexer.specs.Words as words
 use Rattle.cc_lexer.specs.Items as items
 use Rattle.cc_lexer.specs.Items.{Begins, other}
 use Rattle.cc_lexer.specs.Lexes.{Passed, Lexes, beyond, token_at}
 use Rattle.cc_lexer.specs.Lexes as lexes
-use Rattle.cc_grammar.specs.declared.word.Word.{Word}
-use Rattle.cc_grammar.specs.declared.word.Word.TheVariants as w
-use Rattle.cc_grammar.specs.Symbols.{Kind, Lexeme, worded, kind_of, lexeme, lexemes, nowhere}
+use Rattle.cc_lexer.specs.declared.word.Word.{Word}
+use Rattle.cc_lexer.specs.declared.word.Word.TheVariants as w
+use Rattle.cc_grammar.specs.Symbols.{Kind, Lexeme, kind_of, lexeme, lexemes, nowhere}
 use Rattle.cc_grammar.specs.Symbols as k
 use Rattle.cc_printer.specs.Spelling.{characters, spell, runs_on, is_arrow, glue_after, glue, IsName, Sound, AllSound, last, before}
 use Rattle.cc_printer.specs.Placed.{at_places}
-use Rattle.cc_printer.proofs.Marks.{mark_begins, word_back}
+use Rattle.cc_printer.proofs.Marks.{mark_begins}
 use Rattle.cc_printer.proofs.Names.{spelled_begins, word_begins}
 use Rattle.cc_printer.proofs.Numerals.{number_begins}
 use Rattle.cc_printer.proofs.Strings.{string_begins}
@@ -39,7 +40,7 @@ pub record Begun (t : Kind) (ys : List ℕ) : Type 0 where
 pub reads_one : (t : Kind) (ys : List ℕ) → Sound t → first_is (runs_on t) ys ≡ false → Begun t ys
 unfolding spell
 reads_one (k.name v) ys s h = record { token = kind.Name v; begins = spelled_begins v ys s h; kind = refl }
-reads_one (k.word w) ys s h = record { token = kind.Word (utf16 (k.spelling w)); begins = word_begins w ys h; kind = ap (λ o. Some (worded o)) (word_back w) }
+reads_one (k.word w) ys s h = record { token = kind.Word w; begins = word_begins w ys h; kind = refl }
 reads_one (k.mark m) ys s h = record { token = kind.Mark m; begins = mark_begins m ys h; kind = refl }
 reads_one (k.number (pos n)) ys s h = record { token = kind.Number (pos n); begins = number_begins n ys s h; kind = refl }
 reads_one (k.number (negsuc n)) ys s h = absurd s
@@ -69,15 +70,15 @@ mark_filled : (v : Mark) → length (marks.spelling v) ≡ 0 → ⊥
 mark_filled m.Plus e = cc
 mark_filled _ e = cc
 
-word_filled : (v : Word) → length (k.spelling v) ≡ 0 → ⊥
-unfolding k.spelling
+word_filled : (v : Word) → length (words.spelling v) ≡ 0 → ⊥
+unfolding words.spelling
 word_filled w.Break e = cc
 word_filled _ e = cc
 
 first_spelt : (u : Kind) (p : ℕ → Bool) (zs : List ℕ) → Sound u → first_is p (spell u ++ zs) ≡ first_is p (spell u)
 unfolding spell
 first_spelt (k.name v) p zs s = filled p (characters v) zs (named v s)
-first_spelt (k.word v) p zs s = filled p (k.spelling v) zs (word_filled v)
+first_spelt (k.word v) p zs s = filled p (words.spelling v) zs (word_filled v)
 first_spelt (k.mark v) p zs s = filled p (marks.spelling v) zs (mark_filled v)
 first_spelt (k.number (pos n)) p zs s = filled p (decimal n) zs (λ e. let l : n < 2 ^ 53 = grind (arith, nat_tests, s) in let h = decimal_nonempty n (omega arith) in omega arith)
 first_spelt (k.number (negsuc n)) p zs s = absurd s

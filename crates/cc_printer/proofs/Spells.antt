@@ -7,7 +7,7 @@ use Rattle.cc_ast.specs.declared.operator.UnOp.{UnOp}
 use Rattle.cc_ast.specs.declared.operator.UnOp.TheVariants as u
 use Rattle.cc_ast.specs.Syntax.{Prim, undefined, null, truth, whole, text}
 use Rattle.cc_lexer.specs.declared.token.Mark.{Mark}
-use Rattle.cc_grammar.specs.declared.word.Word.{Word}
+use Rattle.cc_lexer.specs.declared.word.Word.{Word}
 use Rattle.cc_grammar.specs.Symbols.{Kind}
 use Rattle.cc_grammar.specs.Symbols as k
 use Rattle.cc_grammar.specs.RawTree.{RawExpr, RawTarget, RawExprs, MaybeExpr, RawFields, RawKey, RawDeclarators, RawInit, RawForTarget, RawStmt, RawStmts, RawCatch, RawFinally, RawCases, Named}

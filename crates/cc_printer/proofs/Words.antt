@@ -3,8 +3,8 @@ use Rattle.std.specs.Prelude.{◌≡◌, ℕ, pos, negsuc, List, [], ◌∷◌, 
 use Rattle.std.specs.Str.{bytes_eq}
 use Rattle.std.proofs.lemmas.Slice.Eq.{bytes_eq-Decides}
 use Rattle.std.proofs.Common.{refl, ap, subst}
-use Rattle.cc_grammar.specs.declared.word.Word.{Word}
-use Rattle.cc_grammar.specs.Symbols.{word_of, spelled_in, spelling, words}
+use Rattle.cc_lexer.specs.declared.word.Word.{Word}
+use Rattle.cc_lexer.specs.Words.{word_of, spelled_in, spelling, words}
 use Rattle.cc_grammar.specs.RawTree.{RawKey}
 use Rattle.cc_grammar.specs.RawTree as raw
 use Rattle.cc_grammar.specs.Signs.{property_of, key_of}

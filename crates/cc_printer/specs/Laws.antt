@@ -9,7 +9,7 @@ use Rattle.cc_lexer.specs.declared.token.Token.{Token}
 use Rattle.cc_text.specs.Characters.{first_is}
 use Rattle.cc_text.specs.Utf16.{utf16}
 use Rattle.cc_lexer.specs.Characters.{is_start, is_part}
-use Rattle.cc_lexer.specs.Items.{is_reserved}
+use Rattle.cc_lexer.specs.Words.{word_of}
 use Rattle.cc_lexer.specs.Lexes.{Lexed}
 use Rattle.cc_grammar.specs.Symbols.{Kind, Symbols, lexemes}
 use Rattle.cc_grammar.specs.RawTree.{RawExpr, RawStmt, RawStmts, stmts}
@@ -80,7 +80,7 @@ ReadsBack = (ss : RawStmts) (file : ℕ) → PrintableStmts of_program ss → Sp
 
 -- The units of what the lexer reads as a name are a name.
 abbrev pub NamesAreNames : Type 0
-NamesAreNames = (cs : List ℕ) → scalars cs ≡ true → first_is is_start cs ≡ true → list_all is_part cs ≡ true → is_reserved (encode_utf8_all cs) ≡ false → IsName (utf16 cs)
+NamesAreNames = (cs : List ℕ) → scalars cs ≡ true → first_is is_start cs ≡ true → list_all is_part cs ≡ true → word_of (encode_utf8_all cs) ≡ None → IsName (utf16 cs)
 
 -- Trees that are the same up to places and casts have the same tokens, so what is read back has the same text.
 abbrev pub SameTokens : Type 0

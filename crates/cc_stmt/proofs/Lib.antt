@@ -1,2 +1,5 @@
 pub mod NoteLemmas
 pub mod FileLemmas
+pub mod KnotLemmas
+pub mod ListLemmas
+pub mod ReadLemmas

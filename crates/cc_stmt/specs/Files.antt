@@ -4,7 +4,7 @@ use Rattle.cc_ast.specs.declared.reading.Refusal.{Refusal}
 use Rattle.cc_lexer.specs.declared.token.Tokens as code
 use Rattle.cc_lexer.specs.Lexes.{Lexed}
 use Rattle.cc_grammar.specs.Symbols.{nowhere}
-use Rattle.cc_expr.specs.ReadList.{tokens, IsRead, IsRefused}
+use Rattle.cc_stmt.specs.ReadList.{tokens, IsRead, IsRefused}
 use Rattle.cc_stmt.specs.declared.tree.Tree.{Tree}
 use Rattle.cc_stmt.specs.Notes.{notes, licences}
 

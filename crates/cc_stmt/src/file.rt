@@ -1,20 +1,20 @@
 // A file by its tokens.
 
 ghost use Rattle.std.specs.Prelude.{IfOk, IfErr};
-ghost use Rattle.cc_expr.specs.ReadList as lists;
-ghost use Rattle.cc_expr.specs.ReadList.{IsLexed, IsRefused};
+ghost use Rattle.cc_stmt.specs.ReadList as lists;
+ghost use Rattle.cc_stmt.specs.ReadList.{IsLexed, IsRefused};
 ghost use Rattle.cc_stmt.specs.Files.{IsFile};
 
 use crate::note::{licences_of, notes_of};
+use crate::read::read_list;
 use crate::tree::Tree;
 use cc_ast::reading::Refusal;
-use cc_expr::read_list;
 use cc_lexer::token::Tokens;
 use std::alloc::Global;
 
 /// The file of this number that has these tokens: its statements, its annotation comments and its
-/// licences. The refusals are those of `cc_expr::read_list`.
-pub fn read_file(alloc: Global, tokens: &Tokens, file: u32) -> Result<Tree, Refusal>
+/// licences. The refusals are those of `read_list`.
+pub fn read_file(alloc: Global, tokens: &Tokens<'_>, file: u32) -> Result<Tree, Refusal>
     requires { IsLexed tokens.now }
     ensures read { IfOk result (λ tree. IsFile tokens.now file tree) }
     ensures refused { IfErr result (λ e. IsRefused (lists.tokens tokens.now) e) }

@@ -20,7 +20,7 @@ const NOWHERE: Place = Place {
 };
 
 /// The annotation comments, in order.
-pub(crate) fn notes_of(alloc: Global, tokens: &[Token]) -> Result<Vec<Note>, AllocError>
+pub(crate) fn notes_of(alloc: Global, tokens: &[Token<'_>]) -> Result<Vec<Note>, AllocError>
     ensures { IfOk result (λ notes. notes.items ≡ spec.notes nowhere tokens.now) }
 {
     let mut found = Vec::new(alloc);
@@ -32,7 +32,7 @@ pub(crate) fn notes_of(alloc: Global, tokens: &[Token]) -> Result<Vec<Note>, All
             TokenKind::Doc(text) => found.push(Note {
                 place: token.place,
                 next,
-                text: text.copy_of(alloc)?,
+                text: text.units(alloc)?,
             })?,
             _ => next = token.place,
         }

@@ -1,3 +1,4 @@
 pub mod TreeLemmas
 pub mod TargetLemmas
 pub mod PartLemmas
+pub mod Chains

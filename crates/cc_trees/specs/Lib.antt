@@ -1,1 +1,2 @@
 pub mod StatementParts
+pub mod Nests

@@ -9,9 +9,10 @@ use Rattle.cc_raw.specs.declared.tree.RawInit.{RawInit}
 use Rattle.cc_raw.specs.declared.tree.RawDeclarator.{RawDeclarator}
 use Rattle.cc_raw.specs.declared.tree.RawCase.{RawCase}
 use Rattle.cc_raw.specs.declared.tree.RawCatch.{RawCatch}
-use Rattle.cc_raw.specs.Bridge.{raw_expr, raw_stmt, raw_init, raw_declarator, raw_case, raw_catch}
+use Rattle.cc_raw.specs.Bridge.{named, raw_expr, raw_stmt, raw_init, raw_declarator, raw_case, raw_catch}
 use Rattle.cc_trees.specs.declared.statement_trees.Jump.{Jump}
 use Rattle.cc_trees.specs.declared.statement_trees.Jump.TheVariants as J
+use Rattle.cc_trees.specs.declared.function.Function.{Function}
 
 -- ---- expressions
 
@@ -38,6 +39,14 @@ sized_declarators x = (declarators x.0, x.1)
 
 abbrev pub sized_init : RawInit × ℕ → r.Sized S.RawInit
 sized_init x = (raw_init x.0, x.1)
+
+-- ---- functions
+
+abbrev pub function : Function → List S.Named × List S.RawStmt
+function f = (map named f.params, map raw_stmt f.body)
+
+abbrev pub sized_function : Function × ℕ → r.Sized (List S.Named × List S.RawStmt)
+sized_function x = (function x.0, x.1)
 
 -- ---- statements
 

@@ -1,10 +1,11 @@
 // The trees of statements.
 
-ghost use Rattle.std.specs.Prelude.{◌≡◌, [], ◌∷◌, ◌++◌, map, Some, IfOk};
+ghost use Rattle.std.specs.Prelude.{◌≡◌, [], ◌∷◌, map, Some, IfOk};
 ghost use Rattle.cc_grammar.specs.RawTree as raw;
 ghost use Rattle.cc_raw.specs.Bridge.{named, raw_expr, raw_for_target, raw_init, raw_stmt, raw_target};
 ghost use Rattle.cc_trees.specs.StatementParts as parts;
 
+use crate::lists::only;
 use cc_ast::place::Place;
 use cc_ast::units::Units;
 use cc_raw::tree::{
@@ -19,30 +20,6 @@ use std::alloc::{AllocError, Global};
 pub enum Jump {
     Continue,
     Break,
-}
-
-// A list of this alone. One that grows has room for four, which is too much for the one statement of
-// most bodies.
-fn only<T: Drop>(alloc: Global, item: T) -> Result<Items<T>, AllocError>
-    ensures { IfOk result (λ all. all ≡ item ∷ []) }
-{
-    let mut all = Vec::with_capacity(alloc, 1)?;
-    all.push(item)?;
-    Ok(Items::from_vec(all))
-}
-
-/// Statements behind others.
-pub fn joined(
-    mut statements: Items<RawStmt>,
-    more: Items<RawStmt>,
-) -> Result<Items<RawStmt>, AllocError>
-    ensures { IfOk result (λ all. all ≡ statements ++ more) }
-{
-    if statements.is_empty() {
-        return Ok(more);
-    }
-    statements.append(more)?;
-    Ok(statements)
 }
 
 /// An expression statement.

@@ -1,9 +1,13 @@
 // What is written to.
 
-ghost use Rattle.std.specs.Prelude.{◌≡◌, IsTrue, IfOk, Some, is_some};
+ghost use Rattle.std.specs.Prelude.{◌≡◌, IsTrue, IfOk, IfSome, Some, is_some};
+ghost use Rattle.cc_grammar.specs.RawTree as raw;
 ghost use Rattle.cc_grammar.specs.Signs as signs;
 ghost use Rattle.cc_raw.specs.Bridge.{raw_expr, raw_target};
 
+use crate::trees::{assign, step};
+use cc_ast::operator::BinOp;
+use cc_ast::place::Place;
 use cc_raw::tree::{RawExpr, RawTarget};
 use sqlite_items::Boxed;
 use std::alloc::{AllocError, Global};
@@ -55,4 +59,34 @@ pub fn boxed_target(alloc: Global, e: Boxed<RawExpr>) -> Result<Boxed<RawTarget>
     ensures { IfOk result (λ target. signs.target_of (raw_expr e) ≡ Some (raw_target target)) }
 {
     Boxed::new(alloc, into_target(e))
+}
+
+/// A step of an expression that can be written to.
+pub fn stepped(
+    alloc: Global,
+    place: Place,
+    up: bool,
+    prefix: bool,
+    e: Boxed<RawExpr>,
+) -> Result<Boxed<RawExpr>, AllocError>
+    requires { IsTrue (is_some (signs.target_of (raw_expr e))) }
+    ensures { IfOk result (λ r. IfSome (signs.target_of (raw_expr e)) (λ target. raw_expr r ≡ raw.step place up prefix target)) }
+{
+    let target = boxed_target(alloc, e)?;
+    step(alloc, place, up, prefix, target)
+}
+
+/// An assignment to an expression that can be written to.
+pub fn assigned(
+    alloc: Global,
+    place: Place,
+    operator: Option<BinOp>,
+    e: Boxed<RawExpr>,
+    value: Boxed<RawExpr>,
+) -> Result<Boxed<RawExpr>, AllocError>
+    requires { IsTrue (is_some (signs.target_of (raw_expr e))) }
+    ensures { IfOk result (λ r. IfSome (signs.target_of (raw_expr e)) (λ target. raw_expr r ≡ raw.assign place operator target (raw_expr value))) }
+{
+    let target = boxed_target(alloc, e)?;
+    assign(alloc, place, operator, target, value)
 }

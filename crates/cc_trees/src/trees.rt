@@ -14,16 +14,17 @@ use cc_ast::operator::{BinOp, UnOp};
 use cc_ast::place::Place;
 use cc_ast::units::Units;
 use cc_cursor::signs::{Infix, Leaf};
+use cc_lexer::piece::Piece;
 use cc_raw::tree::{Named, RawExpr, RawField, RawFunction, RawStmt, RawTarget};
 use sqlite_items::{Boxed, Items};
 use std::alloc::{AllocError, Global};
 
 /// A variable.
 #[tactic(auto, using(cc_raw::specs::Terms::raw_steps))]
-pub fn variable(alloc: Global, place: Place, name: &Units) -> Result<Boxed<RawExpr>, AllocError>
+pub fn variable(alloc: Global, place: Place, name: &Piece<'_>) -> Result<Boxed<RawExpr>, AllocError>
     ensures { IfOk result (λ e. raw_expr e ≡ raw.var place name.now) }
 {
-    let name = name.copy_of(alloc)?;
+    let name = name.units(alloc)?;
     Boxed::new(alloc, RawExpr::Var(place, name))
 }
 

@@ -1,5 +1,5 @@
 -- The value of the meaning for which one of src/ stands, and what an answer says.
-use Rattle.std.specs.Prelude.{◌≡◌, ℕ, Bool, false, List, map, ◌++◌, ◌≤◌, unsigned_abs, nat_eq, ⊤, Option, Some, None, IsSome, Result, Ok, Err}
+use Rattle.std.specs.Prelude.{◌≡◌, ℕ, Bool, false, List, ◌++◌, ◌≤◌, unsigned_abs, nat_eq, ⊤, Option, Some, None, IsSome, Result, Ok, Err}
 use Rattle.cc_ast.specs.Syntax.{undefined, null, truth, whole, text}
 use Rattle.cc_meaning.specs.Values.{Val, prim, obj, out}
 use Rattle.cc_meaning.specs.Operators.{Outcome, gives, breaks, greatest_whole, prim_text, prim_less, equal_prims, equal_object, is_nothing, on_wholes, on_whole, type_text}

@@ -1,16 +1,13 @@
 // Graphs of chunks. Each case tells whether its line could be read.
-ghost use Rattle.std.specs.Prelude.{◌≡◌, IfOk};
 
+mod program;
 mod specs;
 
+use crate::chunks::program::program_with;
 use crate::chunks::specs::specs_of;
 use crate::page::Page;
 use crate::text::{number, numbers_of, split_word};
-use cc_ast::copy::table::CopyOf;
-use cc_ast::program::Program;
-use cc_ast::tables::ChunkInfo;
 use cc_chunks::ChunkGraph;
-use sqlite_items::Items;
 use std::alloc::{AllocError, Global};
 use std::fmt::Debug;
 
@@ -102,36 +99,9 @@ fn add_deepest(graph: &ChunkGraph, list: &[u32], page: &mut Page) -> bool {
     true
 }
 
-fn copies_of(alloc: Global, chunks: &[ChunkInfo]) -> Result<Items<ChunkInfo>, AllocError>
-    ensures { IfOk result (λ copies. copies ≡ chunks.now) }
-{
-    let mut copies = Items::new(alloc);
-    for chunk in chunks {
-        copies.push(chunk.copy_of(alloc)?)?;
-    }
-    Ok(copies)
-}
-
-/// A program with these chunks and nothing else.
-fn program_with(alloc: Global, chunks: Items<ChunkInfo>) -> Program
-    ensures { result.chunks ≡ chunks }
-{
-    Program {
-        scopes: Items::new(alloc),
-        chunks,
-        globals: Items::new(alloc),
-        props: Items::new(alloc),
-        kept: Items::new(alloc),
-        classes: Items::new(alloc),
-        places: Items::new(alloc),
-        docs: Items::new(alloc),
-    }
-}
-
 /// The graph of a program with the chunks of another graph.
 fn graph_again(alloc: Global, graph: &ChunkGraph) -> Result<ChunkGraph, AllocError> {
-    let chunks = copies_of(alloc, graph.chunks())?;
-    let program = program_with(alloc, chunks);
+    let program = program_with(alloc, graph.chunks())?;
     ChunkGraph::from_program(alloc, &program)
 }
 

@@ -5,7 +5,7 @@ use crate::answers::tell_rule;
 use crate::machine::Machine;
 use crate::names::op_named;
 use crate::values::{optional_units_at, optional_value_at, units_at, value_at, values_from};
-use crate::words::{flag_at, number_at, pair, word_at};
+use crate::words::{flag_at, is_spelled_whole, number_at, pair, word_at};
 use cc_conform::act::{Access, Act, Variable};
 use cc_conform::judge::judge;
 use sqlite_items::Items;
@@ -33,12 +33,12 @@ pub enum ActLine {
 }
 
 fn tell_last(machine: &mut Machine) -> Option<()> {
-    match machine.acts.as_slice().last() {
-        Some(act) => {
-            let rule = judge(&machine.program, &machine.heap, act);
+    match (&machine.program, machine.acts.as_slice().last()) {
+        (Some(program), Some(act)) => {
+            let rule = judge(program, &machine.heap, act);
             tell_rule(&mut machine.out, rule)
         }
-        None => None,
+        _ => None,
     }
 }
 
@@ -56,20 +56,36 @@ fn dotted(words: &[&str]) -> Option<Access> {
     }
 }
 
-// The key of an access: `dotted PROP`, `quoted NAME` or `runtime NAME`.
-fn make_key(alloc: Global, words: &[&str]) -> Option<Access> {
-    let Some(kind) = word_at(words, 2) else {
-        return None;
-    };
-    if kind == "dotted" {
-        return dotted(words);
+fn quoted(alloc: Global, words: &[&str]) -> Option<Access> {
+    match units_at(alloc, words, 3) {
+        Some(name) => Some(Access::Quoted(name)),
+        None => None,
     }
-    let Some(name) = units_at(alloc, words, 3) else {
-        return None;
-    };
-    match kind {
-        "quoted" => Some(Access::Quoted(name)),
-        "runtime" => Some(Access::Runtime(name)),
+}
+
+fn runtime(alloc: Global, words: &[&str], whole: bool) -> Option<Access> {
+    match units_at(alloc, words, 3) {
+        Some(text) => Some(Access::Runtime { text, whole }),
+        None => None,
+    }
+}
+
+// A number is spelled as it is made a text, so that its word is the text.
+fn whole(alloc: Global, words: &[&str]) -> Option<Access> {
+    match words.get(3) {
+        Some(word) if is_spelled_whole(word) => runtime(alloc, words, true),
+        _ => None,
+    }
+}
+
+// The key of an access: `dotted PROP`, `quoted NAME`, `runtime NAME` for a text that is no literal,
+// or `whole NUMBER`.
+fn make_key(alloc: Global, words: &[&str]) -> Option<Access> {
+    match word_at(words, 2) {
+        Some("dotted") => dotted(words),
+        Some("quoted") => quoted(alloc, words),
+        Some("runtime") => runtime(alloc, words, false),
+        Some("whole") => whole(alloc, words),
         _ => None,
     }
 }

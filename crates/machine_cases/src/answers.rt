@@ -7,6 +7,7 @@ use cc_value::value::{OpFault, Value};
 use std::alloc::AllocError;
 use std::fmt::Write;
 
+/// An answer in words.
 pub fn tell(out: &mut String, answer: &str) -> Option<()> {
     writeln!(out, "  {answer}").ok()
 }

@@ -126,7 +126,7 @@ fn constant(doc: &mut SiteDoc) -> Option<()> {
 
 fn doc(machine: &mut Machine) -> Option<()> {
     let doc = mem::replace(&mut machine.parts.doc, blank_doc(machine.alloc));
-    machine.program.docs.push(doc).ok()
+    machine.tables.docs.push(doc).ok()
 }
 
 pub fn doc_line(machine: &mut Machine, line: DocLine, words: &[&str]) -> Option<()> {

@@ -31,19 +31,28 @@ pub enum LookupLine {
     Wanted,
 }
 
+fn tell_named(
+    heap: &Heap,
+    out: &mut String,
+    line: LookupLine,
+    object: usize,
+    name: &Units,
+) -> Option<()> {
+    match line {
+        LookupLine::OwnSlot => tell_slot(out, heap.own_slot(object, name)),
+        LookupLine::ReadOwn => tell_held(out, heap.read_own(object, name)),
+        _ => tell_held(out, heap.read_slot(object, name)),
+    }
+}
+
 // `own_slot OBJECT NAME`, `read_own OBJECT NAME` or `read_slot OBJECT NAME`
 fn named(machine: &mut Machine, line: LookupLine, words: &[&str]) -> Option<()> {
     let Some(object) = place_at(words, 1) else {
         return None;
     };
-    let Some(name) = units_at(machine.alloc, words, 2) else {
-        return None;
-    };
-    let heap = &machine.heap;
-    match line {
-        LookupLine::OwnSlot => tell_slot(&mut machine.out, heap.own_slot(object, &name)),
-        LookupLine::ReadOwn => tell_held(&mut machine.out, heap.read_own(object, &name)),
-        _ => tell_held(&mut machine.out, heap.read_slot(object, &name)),
+    match units_at(machine.alloc, words, 2) {
+        Some(name) => tell_named(&machine.heap, &mut machine.out, line, object, &name),
+        None => None,
     }
 }
 

@@ -6,7 +6,8 @@ use crate::lines::{Line, line_of};
 use crate::lookups::lookup_line;
 use crate::made::made_line;
 use crate::operators::operator_line;
-use crate::statements::tree_line;
+use crate::share::{Tables, begin_tables, make_program, no_tables};
+use crate::statements::{TreeLine, tree_line};
 use crate::tables::table_line;
 use crate::trees::Trees;
 use cc_ast::program::Program;
@@ -29,29 +30,18 @@ pub struct Parts {
 }
 
 /// A program and a heap, the parts that were read for them, the acts that were judged on them, and
-/// the last answer.
+/// the last answer. The program is made where a line asks for it first, and then its tables stay as
+/// they are.
 #[derive(Drop)]
 pub struct Machine {
     pub alloc: Global,
-    pub program: Program,
+    pub tables: Tables,
+    pub program: Option<Program>,
     pub heap: Heap,
     pub parts: Parts,
     pub acts: Items<Act>,
     pub trees: Trees,
     pub out: String,
-}
-
-fn empty_program(alloc: Global) -> Program {
-    Program {
-        scopes: Items::new(alloc),
-        chunks: Items::new(alloc),
-        globals: Items::new(alloc),
-        props: Items::new(alloc),
-        kept: Items::new(alloc),
-        classes: Items::new(alloc),
-        places: Items::new(alloc),
-        docs: Items::new(alloc),
-    }
 }
 
 fn no_parts(alloc: Global) -> Parts {
@@ -69,7 +59,8 @@ impl Machine {
     pub fn new(alloc: Global) -> Result<Box<Machine>, AllocError> {
         let machine = Machine {
             alloc,
-            program: empty_program(alloc),
+            tables: no_tables(alloc),
+            program: None,
             heap: Heap::new(alloc),
             parts: no_parts(alloc),
             acts: Items::new(alloc),
@@ -80,30 +71,39 @@ impl Machine {
     }
 }
 
-// A program whose one entry is the doc that says nothing.
-fn begin_program(alloc: Global, program: &mut Program) -> Option<()> {
-    *program = empty_program(alloc);
-    program.docs.push(blank_doc(alloc)).ok()
+fn begin_heap(alloc: Global, heap: &mut Heap) {
+    *heap = Heap::new(alloc);
 }
 
 fn begin_parts(alloc: Global, parts: &mut Parts) {
     *parts = no_parts(alloc);
 }
 
-fn begin_heap(alloc: Global, heap: &mut Heap) {
-    *heap = Heap::new(alloc);
-}
-
 fn begin(machine: &mut Machine) -> Option<()> {
     begin_heap(machine.alloc, &mut machine.heap);
     begin_parts(machine.alloc, &mut machine.parts);
-    begin_program(machine.alloc, &mut machine.program)
+    machine.program = None;
+    begin_tables(machine.alloc, &mut machine.tables)
 }
 
-fn answer_words(machine: &mut Machine, words: &[&str]) -> Option<()> {
-    let Some(line) = line_of(words) else {
-        return None;
-    };
+fn share_tables(machine: &mut Machine) -> bool {
+    if machine.program.is_none() {
+        machine.program = make_program(machine.alloc, &mut machine.tables);
+    }
+    machine.program.is_some()
+}
+
+// Whether a line comes where it may: what makes tables comes before what asks for the program.
+fn is_ready(machine: &mut Machine, line: Line) -> bool {
+    match line {
+        Line::New | Line::Made(_) | Line::Lookup(_) | Line::Operator(_) => true,
+        Line::Table(_) | Line::Doc(_) => machine.program.is_none(),
+        Line::Tree(TreeLine::Declare | TreeLine::Scope) => machine.program.is_none(),
+        Line::Act(_) | Line::Tree(_) => share_tables(machine),
+    }
+}
+
+fn answer_ready(machine: &mut Machine, line: Line, words: &[&str]) -> Option<()> {
     match line {
         Line::New => begin(machine),
         Line::Table(line) => table_line(machine, line, words),
@@ -116,7 +116,21 @@ fn answer_words(machine: &mut Machine, words: &[&str]) -> Option<()> {
     }
 }
 
-// Prints a line, and its answer behind it.
+fn answer_words(machine: &mut Machine, words: &[&str]) -> Option<()> {
+    match line_of(words) {
+        Some(line) if is_ready(machine, line) => answer_ready(machine, line, words),
+        _ => None,
+    }
+}
+
+fn answer_case(machine: &mut Machine, line: &str) -> Option<()> {
+    match line.split_whitespace().collect::<Vec<&str>>(machine.alloc) {
+        Ok(words) => answer_words(machine, words.as_slice()),
+        Err(_) => None,
+    }
+}
+
+// Prints a line, and the answer behind it where it is a case.
 fn answer_line(machine: &mut Machine, line: &str) -> Option<()> {
     if writeln!(machine.out, "{line}").is_err() {
         return None;
@@ -124,10 +138,7 @@ fn answer_line(machine: &mut Machine, line: &str) -> Option<()> {
     if line.is_empty() || line.starts_with('#') {
         return Some(());
     }
-    match line.split_whitespace().collect::<Vec<&str>>(machine.alloc) {
-        Ok(words) => answer_words(machine, words.as_slice()),
-        Err(_) => None,
-    }
+    answer_case(machine, line)
 }
 
 /// Does what a line says, and leaves in `out` what is printed. Tells whether the line could be read.

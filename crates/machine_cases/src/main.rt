@@ -1,8 +1,9 @@
 //! Cases of values, of the heap, of the rules of conforming programs, and of small trees that are
 //! folded or copied. Each line of standard input makes a part of a program or of a heap, or asks
 //! what a public call answers there; the line is printed, and the answer behind it. A line that
-//! begins with `#` says what the next ones show. A line that can't be read, or for which there is no
-//! memory, is printed behind `?`, and the status is 2.
+//! begins with `#` says what the next ones show. Since a program shares its tables, what makes them
+//! stands before what asks for the program. A line that can't be read, that stands elsewhere, or for
+//! which there is no memory, is printed behind `?`, and the status is 2.
 #![tactic(auto)]
 
 mod acts;
@@ -16,6 +17,7 @@ mod made;
 mod marked;
 mod names;
 mod operators;
+mod share;
 mod shown;
 mod statements;
 mod tables;
@@ -37,7 +39,9 @@ fn answer_all(
         if !answer(machine, line) {
             status = 2;
         }
-        rt.print(machine.out.as_str())?;
+        if let Err(fault) = rt.print(machine.out.as_str()) {
+            return Err(fault);
+        }
     }
     Ok(status)
 }

@@ -39,7 +39,10 @@ fn apply_binary(
     if op == BinOp::Instance || op == BinOp::Has || !is_made(left) || !is_made(right) {
         return None;
     }
-    tell_outcome(out, binary(alloc, op, left, right))
+    match tell_outcome(out, binary(alloc, op, left, right)) {
+        Some(()) => tell_rule(out, binary_rule(op, left, right)),
+        None => None,
+    }
 }
 
 fn on_two(alloc: Global, out: &mut String, words: &[&str]) -> Option<()> {
@@ -49,11 +52,8 @@ fn on_two(alloc: Global, out: &mut String, words: &[&str]) -> Option<()> {
     let Some(left) = value_at(alloc, words, 2) else {
         return None;
     };
-    let Some(right) = value_at(alloc, words, 3) else {
-        return None;
-    };
-    match apply_binary(alloc, out, op, &left, &right) {
-        Some(()) => tell_rule(out, binary_rule(op, &left, &right)),
+    match value_at(alloc, words, 3) {
+        Some(right) => apply_binary(alloc, out, op, &left, &right),
         None => None,
     }
 }
@@ -73,15 +73,19 @@ fn apply_unary(alloc: Global, out: &mut String, op: UnOp, value: &Value) -> Opti
     }
 }
 
+fn tell_unary(alloc: Global, out: &mut String, op: UnOp, value: &Value) -> Option<()> {
+    match apply_unary(alloc, out, op, value) {
+        Some(()) => tell_rule(out, unary_rule(op, value)),
+        None => None,
+    }
+}
+
 fn on_one(alloc: Global, out: &mut String, words: &[&str]) -> Option<()> {
     let Some(op) = unary_at(words, 1) else {
         return None;
     };
-    let Some(value) = value_at(alloc, words, 2) else {
-        return None;
-    };
-    match apply_unary(alloc, out, op, &value) {
-        Some(()) => tell_rule(out, unary_rule(op, &value)),
+    match value_at(alloc, words, 2) {
+        Some(value) => tell_unary(alloc, out, op, &value),
         None => None,
     }
 }

@@ -38,7 +38,7 @@ fn name_of(e: &Expr) -> &'static str {
     }
 }
 
-// The first, the second and the third operand.
+// The first, the second and the third operand. A call that was read has no arguments.
 fn operands_of(e: &Expr) -> (Option<&Expr>, Option<&Expr>, Option<&Expr>) {
     match e {
         Expr::Unary(_, _, a) => (Some(a.get()), None, None),
@@ -71,38 +71,55 @@ fn push_head(out: &mut String, e: &Expr) -> Result<(), AllocError> {
     push_site(out, site_of(e))
 }
 
-fn push_operand<'a>(tasks: &mut Vec<Task<'a>>, operand: Option<&'a Expr>) -> Option<()> {
+fn push_task<'a>(tasks: &mut Vec<Task<'a>>, operand: Option<&'a Expr>) -> bool {
     match operand {
-        Some(e) => tasks.push(Task::Tree(e)).ok(),
-        None => Some(()),
+        Some(e) => tasks.push(Task::Tree(e)).is_ok(),
+        None => true,
     }
 }
 
-fn push_node<'a>(out: &mut String, tasks: &mut Vec<Task<'a>>, e: &'a Expr) -> Option<()> {
+// Leaves the operands to print, the first one last.
+fn push_operands<'a>(tasks: &mut Vec<Task<'a>>, e: &'a Expr) -> bool {
     let (first, second, third) = operands_of(e);
-    if first.is_some() {
-        out.push_str(" (").ok()?;
-        tasks.push(Task::Close).ok()?;
+    push_task(tasks, third) && push_task(tasks, second) && push_task(tasks, first)
+}
+
+// What begins a tree, and what ends it where it stands in brackets.
+fn open(out: &mut String, tasks: &mut Vec<Task<'_>>, in_brackets: bool) -> bool {
+    if in_brackets {
+        out.push_str(" (").is_ok() && tasks.push(Task::Close).is_ok()
     } else {
-        out.push(' ').ok()?;
+        out.push(' ').is_ok()
     }
-    push_operand(tasks, third)?;
-    push_operand(tasks, second)?;
-    push_operand(tasks, first)?;
-    push_head(out, e).ok()
+}
+
+fn push_node<'a>(out: &mut String, tasks: &mut Vec<Task<'a>>, e: &'a Expr) -> bool {
+    open(out, tasks, operands_of(e).0.is_some())
+        && push_operands(tasks, e)
+        && push_head(out, e).is_ok()
+}
+
+// Prints what is left, a part at a time.
+fn push_tasks(out: &mut String, tasks: &mut Vec<Task<'_>>) -> Option<()> {
+    for _ in 0..MOST_PARTS {
+        let is_printed = match tasks.pop() {
+            Some(Task::Tree(e)) => push_node(out, tasks, e),
+            Some(Task::Close) => out.push(')').is_ok(),
+            None => return Some(()),
+        };
+        if !is_printed {
+            return None;
+        }
+    }
+    None
 }
 
 fn push_tree(alloc: Global, out: &mut String, tree: &Expr) -> Option<()> {
     let mut tasks = Vec::new(alloc);
-    tasks.push(Task::Tree(tree)).ok()?;
-    for _ in 0..MOST_PARTS {
-        match tasks.pop() {
-            Some(Task::Tree(e)) => push_node(out, &mut tasks, e)?,
-            Some(Task::Close) => out.push(')').ok()?,
-            None => return Some(()),
-        }
+    match tasks.push(Task::Tree(tree)) {
+        Ok(()) => push_tasks(out, &mut tasks),
+        Err(_) => None,
     }
-    None
 }
 
 // A variable and its site.
@@ -114,16 +131,20 @@ fn push_variable(out: &mut String, declarator: &Declarator) -> Result<(), AllocE
 
 // A variable of a `var`, with its value where it has one.
 fn push_declarator(alloc: Global, out: &mut String, declarator: &Declarator) -> Option<()> {
-    push_variable(out, declarator).ok()?;
+    if push_variable(out, declarator).is_err() {
+        return None;
+    }
     match &declarator.value {
-        Some(value) => push_tree(alloc, out, value),
+        Some(value) => push_tree(alloc, out, value.get()),
         None => Some(()),
     }
 }
 
 fn push_declarators(alloc: Global, out: &mut String, declarators: &[Declarator]) -> Option<()> {
     for declarator in declarators {
-        push_declarator(alloc, out, declarator)?;
+        if push_declarator(alloc, out, declarator).is_none() {
+            return None;
+        }
     }
     Some(())
 }
@@ -143,19 +164,26 @@ fn stmt_name(stmt: &Stmt) -> (&'static str, u32) {
 
 fn push_parts(alloc: Global, out: &mut String, stmt: &Stmt) -> Option<()> {
     match stmt {
-        Stmt::Simple(_, e) => push_tree(alloc, out, e),
+        Stmt::Simple(_, e) => push_tree(alloc, out, e.get()),
         Stmt::Var(_, declarators) => push_declarators(alloc, out, declarators.as_slice()),
         _ => Some(()),
     }
 }
 
+fn tell_stmt(alloc: Global, out: &mut String, stmt: &Stmt) -> Option<()> {
+    let (name, site) = stmt_name(stmt);
+    if push_name(out, name, site).is_err() || push_parts(alloc, out, stmt).is_none() {
+        return None;
+    }
+    out.push('\n').ok()
+}
+
 /// Statements, each in a line.
 pub fn tell_stmts(alloc: Global, out: &mut String, body: &[Stmt]) -> Option<()> {
     for stmt in body {
-        let (name, site) = stmt_name(stmt);
-        push_name(out, name, site).ok()?;
-        push_parts(alloc, out, stmt)?;
-        out.push('\n').ok()?;
+        if tell_stmt(alloc, out, stmt).is_none() {
+            return None;
+        }
     }
     Some(())
 }

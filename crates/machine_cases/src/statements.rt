@@ -8,10 +8,11 @@ use crate::shown::tell_stmts;
 use crate::words::{number_at, place_at, word_at};
 use cc_ast::copy::{copy_program, copy_scope};
 use cc_ast::program::{Program, Scope};
+use cc_ast::shared::Shared;
 use cc_ast::tree::{Declarator, Expr, Stmt};
 use cc_fold::{plan, rewrite};
 use sqlite_items::{Boxed, Items};
-use std::alloc::{AllocError, Global};
+use std::alloc::Global;
 use std::fmt::Write;
 use std::mem;
 
@@ -33,7 +34,7 @@ fn make_declarator(variable: &str, tree: Boxed<Expr>) -> Option<Declarator> {
         Some(variable) => Some(Declarator {
             site,
             variable,
-            value: Some(tree.into_inner()),
+            value: Some(tree),
         }),
         None => None,
     }
@@ -66,17 +67,27 @@ fn declare(machine: &mut Machine, words: &[&str]) -> Option<()> {
     }
 }
 
+fn make_scope(alloc: Global, params: u32, doc: u32, body: Items<Stmt>) -> Option<Scope> {
+    match Shared::new(alloc, body) {
+        Ok(body) => Some(Scope {
+            params,
+            names: 0,
+            own: false,
+            body,
+            parent: None,
+            doc,
+        }),
+        Err(_) => None,
+    }
+}
+
 // A scope of the statements that were read.
 fn push_scope(machine: &mut Machine, params: u32, doc: u32) -> Option<()> {
-    let scope = Scope {
-        params,
-        names: 0,
-        own: false,
-        body: mem::replace(&mut machine.parts.body, Items::new(machine.alloc)),
-        parent: None,
-        doc,
-    };
-    machine.program.scopes.push(scope).ok()
+    let body = mem::replace(&mut machine.parts.body, Items::new(machine.alloc));
+    match make_scope(machine.alloc, params, doc, body) {
+        Some(scope) => machine.tables.scopes.push(scope).ok(),
+        None => None,
+    }
 }
 
 fn scope(machine: &mut Machine, words: &[&str]) -> Option<()> {
@@ -86,26 +97,26 @@ fn scope(machine: &mut Machine, words: &[&str]) -> Option<()> {
     }
 }
 
-fn folded(alloc: Global, program: &Program) -> Option<Scope> {
-    let scope = program.scopes.as_slice().last()?;
+// A scope of one parameter and this statement.
+fn make_simple(alloc: Global, tree: Boxed<Expr>) -> Option<Scope> {
+    let mut body = Items::new(alloc);
+    match body.push(Stmt::Simple(10, tree)) {
+        Ok(()) => make_scope(alloc, 1, 0, body),
+        Err(_) => None,
+    }
+}
+
+fn folded(alloc: Global, program: &Program, scope: &Scope) -> Option<Scope> {
     match plan(alloc, program) {
         Ok(plan) => rewrite(alloc, &plan, 0, scope).ok(),
         Err(_) => None,
     }
 }
 
-fn tell_folded(machine: &mut Machine) -> Option<()> {
-    match folded(machine.alloc, &machine.program) {
-        Some(scope) => tell_stmts(machine.alloc, &mut machine.out, scope.body.as_slice()),
+fn tell_folded(alloc: Global, out: &mut String, program: &Program, scope: &Scope) -> Option<()> {
+    match folded(alloc, program, scope) {
+        Some(scope) => tell_stmts(alloc, out, scope.body.get().as_slice()),
         None => None,
-    }
-}
-
-fn push_simple(machine: &mut Machine, tree: Boxed<Expr>) -> Option<()> {
-    let simple = Stmt::Simple(10, tree.into_inner());
-    match machine.parts.body.push(simple) {
-        Ok(()) => push_scope(machine, 1, 0),
-        Err(_) => None,
     }
 }
 
@@ -113,51 +124,58 @@ fn fold(machine: &mut Machine, words: &[&str]) -> Option<()> {
     let Some(tree) = machine.trees.read(machine.alloc, words, 1) else {
         return None;
     };
-    match push_simple(machine, tree) {
-        Some(()) => tell_folded(machine),
+    let Some(scope) = make_simple(machine.alloc, tree) else {
+        return None;
+    };
+    match &machine.program {
+        Some(program) => tell_folded(machine.alloc, &mut machine.out, program, &scope),
         None => None,
     }
 }
 
 fn tell_copy(alloc: Global, out: &mut String, scope: &Scope) -> Option<()> {
-    match copy_scope(alloc, scope) {
-        Ok(copy) => tell_stmts(alloc, out, copy.body.as_slice()),
+    match copy_scope(scope) {
+        Ok(copy) => tell_stmts(alloc, out, copy.body.get().as_slice()),
         Err(_) => None,
     }
 }
 
 fn scope_copy(machine: &mut Machine, words: &[&str]) -> Option<()> {
-    let Some(at) = place_at(words, 1) else {
+    let (Some(at), Some(program)) = (place_at(words, 1), &machine.program) else {
         return None;
     };
-    match machine.program.scopes.get(at) {
+    match program.scopes.get(at) {
         Some(scope) => tell_copy(machine.alloc, &mut machine.out, scope),
         None => None,
     }
 }
 
-// How many entries each table has.
-fn tell_counts(out: &mut String, program: &Program) -> Result<(), AllocError> {
+// How many scopes, chunks, globals, properties, kept names, classes, places and docs there are.
+fn tell_counts(out: &mut String, program: &Program) -> Option<()> {
     let counts = [
-        ("scopes", program.scopes.len()),
-        ("chunks", program.chunks.len()),
-        ("globals", program.globals.len()),
-        ("props", program.props.len()),
-        ("kept", program.kept.len()),
-        ("classes", program.classes.len()),
-        ("places", program.places.len()),
-        ("docs", program.docs.len()),
+        program.scopes.len(),
+        program.chunks.get().len(),
+        program.globals.get().len(),
+        program.props.get().len(),
+        program.kept.get().len(),
+        program.classes.get().len(),
+        program.places.get().len(),
+        program.docs.get().len(),
     ];
-    for (name, count) in &counts {
-        writeln!(out, "  {name} {count}")?;
+    writeln!(out, "  {counts:?}").ok()
+}
+
+fn tell_program(alloc: Global, out: &mut String, program: &Program) -> Option<()> {
+    match copy_program(alloc, program) {
+        Ok(copy) => tell_counts(out, &copy),
+        Err(_) => None,
     }
-    Ok(())
 }
 
 fn program_copy(machine: &mut Machine) -> Option<()> {
-    match copy_program(machine.alloc, &machine.program) {
-        Ok(copy) => tell_counts(&mut machine.out, &copy).ok(),
-        Err(_) => None,
+    match &machine.program {
+        Some(program) => tell_program(machine.alloc, &mut machine.out, program),
+        None => None,
     }
 }
 

@@ -41,12 +41,12 @@ fn prop(machine: &mut Machine, words: &[&str]) -> Option<()> {
     let Some(name) = units_at(machine.alloc, words, 1) else {
         return None;
     };
-    machine.program.props.push(PropInfo { name, kept }).ok()
+    machine.tables.props.push(PropInfo { name, kept }).ok()
 }
 
 fn kept(machine: &mut Machine, words: &[&str]) -> Option<()> {
     match units_at(machine.alloc, words, 1) {
-        Some(name) => machine.program.kept.push(name).ok(),
+        Some(name) => machine.tables.kept.push(name).ok(),
         None => None,
     }
 }
@@ -75,7 +75,7 @@ fn global(machine: &mut Machine, words: &[&str]) -> Option<()> {
         doc,
         flat: mem::replace(&mut machine.parts.flat, Items::new(machine.alloc)),
     };
-    machine.program.globals.push(global).ok()
+    machine.tables.globals.push(global).ok()
 }
 
 // A field or a method.
@@ -106,7 +106,7 @@ fn class(machine: &mut Machine, words: &[&str]) -> Option<()> {
         methods: mem::replace(&mut machine.parts.methods, Items::new(machine.alloc)),
         fields: mem::replace(&mut machine.parts.fields, Items::new(machine.alloc)),
     };
-    machine.program.classes.push(class).ok()
+    machine.tables.classes.push(class).ok()
 }
 
 fn chunk(machine: &mut Machine, words: &[&str]) -> Option<()> {
@@ -118,7 +118,7 @@ fn chunk(machine: &mut Machine, words: &[&str]) -> Option<()> {
     };
     let name = ChunkName { text };
     let deps = Items::new(machine.alloc);
-    machine.program.chunks.push(ChunkInfo { name, deps }).ok()
+    machine.tables.chunks.push(ChunkInfo { name, deps }).ok()
 }
 
 fn make_place(words: &[&str]) -> Option<Place> {
@@ -144,7 +144,7 @@ fn make_place(words: &[&str]) -> Option<Place> {
 
 fn place(machine: &mut Machine, words: &[&str]) -> Option<()> {
     match make_place(words) {
-        Some(place) => machine.program.places.push(place).ok(),
+        Some(place) => machine.tables.places.push(place).ok(),
         None => None,
     }
 }

@@ -84,10 +84,9 @@ pub fn optional_value_at(alloc: Global, words: &[&str], at: usize) -> Option<Opt
     }
 }
 
-/// The values from a place on.
-pub fn values_from(alloc: Global, words: &[&str], from: usize) -> Option<Vec<Value>> {
+fn make_values(alloc: Global, words: &[&str]) -> Option<Vec<Value>> {
     let mut values = Vec::new(alloc);
-    for word in words.iter().skip(from) {
+    for word in words {
         let Some(value) = make_value(alloc, word) else {
             return None;
         };
@@ -96,6 +95,14 @@ pub fn values_from(alloc: Global, words: &[&str], from: usize) -> Option<Vec<Val
         }
     }
     Some(values)
+}
+
+/// The values from a place on.
+pub fn values_from(alloc: Global, words: &[&str], from: usize) -> Option<Vec<Value>> {
+    match words.get(from..) {
+        Some(words) => make_values(alloc, words),
+        None => None,
+    }
 }
 
 /// A name, which stands without quotes.

@@ -20,6 +20,20 @@ pub fn pair(word: &str) -> Option<(u32, u32)> {
     }
 }
 
+/// Whether a word is a whole number that is spelled as JavaScript spells it: without a sign but a
+/// minus, and without a zero before other digits.
+pub fn is_spelled_whole(word: &str) -> bool {
+    let digits = match word.strip_prefix('-') {
+        Some(digits) => digits,
+        None => word,
+    };
+    match word.parse::<i64>() {
+        Ok(0) => word == "0",
+        Ok(_) => !digits.starts_with('0') && !digits.starts_with('+'),
+        Err(_) => false,
+    }
+}
+
 pub fn word_at<'a>(words: &[&'a str], at: usize) -> Option<&'a str> {
     match words.get(at) {
         Some(word) => Some(*word),

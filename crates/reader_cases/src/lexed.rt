@@ -1,7 +1,7 @@
 // What is done with the tokens of a text.
 
 ghost use Rattle.std.specs.Prelude.{◌≤◌, length};
-ghost use Rattle.cc_expr.specs.ReadList.{IsLexed};
+ghost use Rattle.cc_stmt.specs.ReadList.{IsLexed};
 
 use crate::lists::{push_file, push_list};
 use crate::names::push_names;
@@ -21,11 +21,11 @@ pub(crate) enum Use {
     File,
 }
 
-fn push_used(alloc: Global, page: &mut Page, used: Use, tokens: &Tokens)
+fn push_used(alloc: Global, page: &mut Page, used: Use, tokens: &Tokens<'_>)
     requires { IsLexed tokens.now }
 {
     match used {
-        Use::Tokens => push_tokens(page, tokens),
+        Use::Tokens => push_tokens(alloc, page, tokens),
         Use::Names => push_names(alloc, page, tokens),
         Use::List => push_list(alloc, page, tokens),
         Use::File => push_file(alloc, page, tokens),

@@ -1,13 +1,12 @@
 // Lists of tokens that are read.
 
-ghost use Rattle.cc_expr.specs.ReadList.{IsLexed};
+ghost use Rattle.cc_stmt.specs.ReadList.{IsLexed};
 
 use crate::page::Page;
 use crate::refusal::{place_of, push_stop};
 use cc_ast::reading::Refusal;
-use cc_expr::read_list;
 use cc_lexer::token::Tokens;
-use cc_stmt::read_file;
+use cc_stmt::{read_file, read_list};
 use std::alloc::Global;
 
 // What is refused, with the file.
@@ -20,7 +19,7 @@ fn push_refused(page: &mut Page, refusal: &Refusal) {
 }
 
 /// The number of the statements that tokens are.
-pub(crate) fn push_list(alloc: Global, page: &mut Page, tokens: &Tokens)
+pub(crate) fn push_list(alloc: Global, page: &mut Page, tokens: &Tokens<'_>)
     requires { IsLexed tokens.now }
 {
     page.row();
@@ -34,7 +33,7 @@ pub(crate) fn push_list(alloc: Global, page: &mut Page, tokens: &Tokens)
 }
 
 /// The number of the file that tokens are read as.
-pub(crate) fn push_file(alloc: Global, page: &mut Page, tokens: &Tokens)
+pub(crate) fn push_file(alloc: Global, page: &mut Page, tokens: &Tokens<'_>)
     requires { IsLexed tokens.now }
 {
     page.row();

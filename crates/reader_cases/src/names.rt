@@ -53,7 +53,7 @@ fn push_fault(page: &mut Page, fault: Fault) {
 
 /// A name, an own name of a function where there is one, and parameters in parentheses, each with
 /// its column.
-pub(crate) fn push_names(alloc: Global, page: &mut Page, tokens: &Tokens) {
+pub(crate) fn push_names(alloc: Global, page: &mut Page, tokens: &Tokens<'_>) {
     page.put("\n ");
     let mut cursor = Cursor::new(tokens);
     match push_all(alloc, page, &mut cursor) {

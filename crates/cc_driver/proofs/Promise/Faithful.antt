@@ -2,7 +2,7 @@
 use Rattle.std.proofs.Common.{◌≡◌, ℕ, List, length, sym, subst, Some}
 use Rattle.cc_meaning.specs.Alike.{In, Alike}
 use Rattle.cc_ast.specs.Syntax.{Program}
-use Rattle.cc_tied.proofs.AlikeEnds.{joining}
+use Rattle.cc_tied.proofs.Alike.Ends.{joining}
 use Rattle.cc_passes.specs.Phases.{optimised}
 use Rattle.cc_passes.specs.Lawful.{rounds_keep}
 use Rattle.cc_driver.specs.Form.{IsExterns, IsSource, IsReading}

@@ -1,6 +1,6 @@
 -- Statements of the form are sound: what is called and what else is named are so, texts are plain, numbers in range and chains short.
-use Rattle.std.proofs.Common.{ℕ, ◌+◌, ◌≤◌, List, [], ◌∷◌, ◌++◌, length, arith, All, Contains}
-use Rattle.std.proofs.lemmas.List.Elements.{All-nil, All-cons, All-append}
+use Rattle.std.proofs.Common.{ℕ, ◌+◌, List, [], ◌∷◌, length, All, Contains}
+use Rattle.std.proofs.lemmas.List.Elements.{All-nil, All-cons}
 use Rattle.cc_meaning.specs.Alike.{In, here}
 use Rattle.cc_driver.specs.Names.{IsName}
 use Rattle.cc_driver.specs.Form as form

@@ -8,7 +8,7 @@ use Rattle.cc_ast.specs.Bridge.{exprs}
 use Rattle.cc_ast.specs.StmtBridge.{stmts}
 use Rattle.cc_ast.specs.Syntax as S
 use Rattle.cc_meaning.specs.Values.{prim}
-use Rattle.cc_meaning.specs.Operators.{is_exact, number, add_prims, prim_binary, binary_of, gives, breaks, prim_text}
+use Rattle.cc_meaning.specs.Operators.{is_exact, number, add_prims, prim_binary, binary_of}
 use Rattle.cc_meaning.specs.Parts.{exact_prim}
 use Rattle.cc_meaning.specs.Monad.{pick}
 use Rattle.cc_tied.specs.Placed.{a_value, a_callee, keeps, guard}
@@ -19,7 +19,6 @@ use Rattle.cc_passes.specs.Phases.{folded, rounds, optimised}
 use Rattle.cc_driver.specs.Source.{global_of_no_chunk, global_of_main, number_of, operand_tree, chain_tree, value_tree, statement_tree, global_names, main_scope, program_of}
 use Rattle.cc_driver.specs.Sound.{IsSmall, small, OperandFit, MoreFit, ValueFit, ValuesFit, StatementFit, StatementsFit, AreSound}
 use Rattle.cc_driver.specs.Names.{IsName, built_in_names}
-use Rattle.cc_driver.specs.Form.{declared}
 use Rattle.cc_driver.specs.declared.form.Operand.{Operand}
 use Rattle.cc_driver.specs.declared.form.Operand.TheVariants.{Named, Text, Whole}
 use Rattle.cc_driver.specs.declared.form.Added.{Added}

@@ -1,6 +1,6 @@
 -- What folding makes of statements of the form: sums of literals become literals, at the place of the `+`.
-use Rattle.std.proofs.Common.{◌≡◌, refl, sym, ap, ◌∙◌, subst, ℕ, zero, suc, ◌+◌, ◌<◌, ◌≤◌, nat_le, Bool, true, false, List, [], ◌∷◌, ◌++◌, map, length, Option, Some, None, arith, leb-true}
-use Rattle.std.specs.Prelude.{ℤ, pos, ◌+ℤ◌, IsTrue, All, Contains, if◌then◌else◌}
+use Rattle.std.proofs.Common.{◌≡◌, refl, sym, ap, ◌∙◌, subst, ℕ, zero, suc, ◌+◌, ◌≤◌, nat_le, Bool, true, false, List, [], ◌∷◌, ◌++◌, map, length, Option, Some, None, arith, leb-true}
+use Rattle.std.specs.Prelude.{ℤ, pos, ◌+ℤ◌, All, Contains, if◌then◌else◌}
 use Rattle.std.specs.List.{list_all, IsDistinct}
 use Rattle.std.specs.Str.{bytes_eq}
 use Rattle.std.specs.Fmt.{decimal}
@@ -11,9 +11,9 @@ use Rattle.cc_meaning.specs.Values.{prim}
 use Rattle.cc_meaning.specs.Operators as M
 use Rattle.cc_meaning.specs.Operators.{Outcome, gives, breaks, is_exact, add_prims, number, prim_text}
 use Rattle.cc_driver.specs.Names.{IsName}
-use Rattle.cc_driver.specs.Form.{is_plain, whole_limit, named_by_one, named_by_more, named_by, named_by_all, declared_by, called_by, used_by, all_of, declared, called, used}
+use Rattle.cc_driver.specs.Form.{is_plain, named_by_one, named_by_more, named_by, named_by_all, declared_by, called_by, used_by, all_of, declared, called, used}
 use Rattle.cc_driver.specs.FormReading.{is_digit}
-use Rattle.cc_driver.specs.Sound.{IsSmall, small, OperandFit, MoreFit, ValueFit, ValuesFit, StatementFit, StatementsFit, AreSound}
+use Rattle.cc_driver.specs.Sound.{IsSmall, small, OperandFit, MoreFit, ValuesFit, StatementsFit, AreSound}
 use Rattle.cc_driver.specs.declared.form.Operand.{Operand}
 use Rattle.cc_driver.specs.declared.form.Operand.TheVariants.{Named, Text, Whole}
 use Rattle.cc_driver.specs.declared.form.Added.{Added}

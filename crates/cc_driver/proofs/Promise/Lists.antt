@@ -76,6 +76,11 @@ in_got [] k x e = absurd (cc)
 in_got (y ∷ ys) zero x e = let same : y ≡ x = cc in subst (λ z. In z (y ∷ ys)) same here
 in_got (y ∷ ys) (suc k) x e = there (in_got ys k x e)
 
+pub got_within : {A : Type 0} (xs : List A) (k : ℕ) (x : A) → slice_get xs k ≡ Some x → k < length xs
+got_within [] k x e = absurd (cc)
+got_within (y ∷ ys) zero x e = omega arith
+got_within (y ∷ ys) (suc k) x e = let less : k < length ys = got_within ys k x e in omega arith
+
 -- ---- names that differ
 
 pub names_same : (x y : List ℕ) → bytes_eq x y ≡ true → x ≡ y

@@ -1,15 +1,13 @@
 -- The sites of a source's trees stand within its text.
-use Rattle.std.proofs.Common.{◌≡◌, ℕ, suc, ◌+◌, ◌<◌, ◌≤◌, List, [], ◌∷◌, ◌++◌, length, ap, arith, codes, length-append}
+use Rattle.std.proofs.Common.{◌≡◌, ℕ, suc, ◌+◌, ◌≤◌, List, [], ◌∷◌, ◌++◌, length, ap, arith, codes, length-append}
 use Rattle.cc_driver.specs.Names.{IsName}
 use Rattle.cc_driver.specs.Form as form
 use Rattle.cc_driver.specs.Form.{IsOperand, IsMore, IsValue, IsValues, IsStatement, IsStatements, IsSource, declared}
 use Rattle.cc_driver.specs.Sound.{OperandSites, MoreSites, ValueSites, ValuesSites, StatementSites, StatementsSites, AreWithin}
 use Rattle.cc_driver.specs.declared.form.Operand.{Operand}
-use Rattle.cc_driver.specs.declared.form.Operand.TheVariants.{Named, Text, Whole}
 use Rattle.cc_driver.specs.declared.form.Added.{Added}
 use Rattle.cc_driver.specs.declared.form.Value.{Value}
 use Rattle.cc_driver.specs.declared.form.Statement.{Statement}
-use Rattle.cc_driver.specs.declared.form.Statement.TheVariants.{Declares, Calls}
 use Rattle.cc_driver.proofs.WholeLaws.{decimal_some}
 use Rattle.cc_driver.proofs.Resolved.{statements_few}
 

@@ -4,6 +4,7 @@ use Rattle.std.proofs.lemmas.List.{map-append}
 use Rattle.std.proofs.lemmas.Bool.{cases_lt}
 use Rattle.cc_ast.specs.declared.tables.ChunkInfo.{ChunkInfo}
 use Rattle.cc_ast.specs.declared.tables.GlobalInfo.{GlobalInfo}
+use Rattle.cc_ast.specs.declared.tables.SiteDoc.{SiteDoc}
 use Rattle.cc_ast.specs.declared.tree.Ref.TheVariants as ref
 use Rattle.cc_ast.specs.StmtBridge.{stmts}
 use Rattle.cc_ast.specs.Syntax as S
@@ -11,21 +12,21 @@ use Rattle.cc_meaning.specs.Operators.{is_in}
 use Rattle.cc_meaning.specs.Names.{builtin_globals}
 use Rattle.cc_meaning.specs.Alike.{In}
 use Rattle.cc_meaning.specs.Shapes.{tables_of, body_of, body_in}
-use Rattle.cc_meaning.specs.Store.{without_chunk, class_of_function, class_from}
+use Rattle.cc_meaning.specs.Store.{without_chunk}
 use Rattle.cc_meaning.specs.Parts.{has_site, stmts_parts}
 use Rattle.cc_meaning.specs.WellMade as W
-use Rattle.cc_meaning.specs.WellMade.{WellMade, IsScope, IsPart, a_site, a_mention, a_declaration, IsSound, sound_global, sound_outer, IsDeclared, IsPlaced, placed_global, Encloses, directly, further, IsOrdered, IsGlobal, ArePaths, IsMeant, IsCounted, Reached, parts_of, opened, is_chunk, all_functions, outer_names, path_count, method_count, refused_names, stmts_well}
+use Rattle.cc_meaning.specs.WellMade.{WellMade, IsScope, IsPart, a_site, a_mention, a_declaration, IsSound, sound_global, sound_outer, IsNumbered, numbered_global, IsDoc, types_in, types_in_all, type_in, IsDeclared, IsPlaced, placed_global, Encloses, directly, further, IsOrdered, IsGlobal, ArePaths, IsMeant, IsCounted, Reached, parts_of, opened, is_chunk, all_functions, outer_names, path_count, method_count, refused_names, stmts_well}
 use Rattle.cc_driver.specs.Names.{built_in_names, IsName}
 use Rattle.cc_driver.specs.Form.{IsExterns, IsSource, declared}
-use Rattle.cc_driver.specs.Source.{number_of, statement_tree, program_of, global_names, global_of_no_chunk, global_of_main, main_scope, places_from}
+use Rattle.cc_driver.specs.Source.{number_of, statement_tree, program_of, global_names, global_of_no_chunk, global_of_main, main_scope, no_doc, places_from}
 use Rattle.cc_driver.specs.declared.form.Statement.{Statement}
 use Rattle.cc_driver.proofs.SourceLaws.{functions_named, sound_distinct}
 use Rattle.cc_driver.proofs.Resolved.{declared_few}
-use Rattle.cc_driver.proofs.Promise.Lists.{Distinct, distinct_places, all_at}
+use Rattle.cc_driver.proofs.Promise.Lists.{Distinct, distinct_places, all_at, got_within}
 use Rattle.cc_driver.specs.Sound.{StatementsFit, StatementsSites, AreSound, AreWithin}
 use Rattle.cc_driver.proofs.Promise.Fit.{sound_source, sound_fits, declared_named}
 use Rattle.cc_driver.proofs.Promise.SourceSites.{source_within}
-use Rattle.cc_driver.proofs.Promise.SourceKinds.{without_is, outer_count, extern_at, extern_kind, own_kind}
+use Rattle.cc_driver.proofs.Promise.SourceKinds.{without_is, outer_count, extern_at, own_at, extern_kind, own_kind}
 use Rattle.cc_driver.proofs.Promise.SourceParts.{Each, MakesNone, statements_each, declares_in, no_functions, statements_well}
 use Rattle.cc_driver.proofs.Promise.SourceTables.{in_from_test, same_built_ins, no_built_in, not_refused, taken_names, inner_chunk, outer_name, no_paths, Shape, of_outer, of_own, shape_of}
 
@@ -73,6 +74,12 @@ module _ (file : List ℕ) (externs : List (List ℕ)) (size : ℕ) (ss : List S
   extern_sound : (c : ℕ) (x : List ℕ) → In x externs → IsSound P 0 c (ref.Global (number_of G x))
   extern_sound c x h = sound_outer (number_of G x) (global_of_no_chunk x) (extern_at externs size ss x h) refl
 
+  extern_numbered : (x : List ℕ) → In x externs → IsNumbered P (ref.Global (number_of G x))
+  extern_numbered x h = numbered_global (number_of G x) (got_within P.globals (number_of G x) (global_of_no_chunk x) (extern_at externs size ss x h))
+
+  own_numbered : (x : List ℕ) → In x (declared ss) → IsNumbered P (ref.Global (number_of G x))
+  own_numbered x h = numbered_global (number_of G x) (got_within P.globals (number_of G x) (global_of_main x) (own_at externs size ss distinct x h))
+
   here_is_chunk : IsTrue (is_chunk P 0)
   unfolding is_chunk
   here_is_chunk = refl
@@ -84,8 +91,8 @@ module _ (file : List ℕ) (externs : List (List ℕ)) (size : ℕ) (ss : List S
   unfolding parts_of body_of body_in
   parts =
       statements_each (tables_of P) G (λ x. In x externs) (λ x. In x (declared ss)) size (IsPart P 0) site_part
-      (λ x h. a_mention 0 (ref.Global (number_of G x)) (λ _. extern_sound 0 x h))
-      (λ x h. a_mention 0 (ref.Global (number_of G x)) (λ _. own_sound 0 x h))
+      (λ x h. a_mention 0 (ref.Global (number_of G x)) (extern_numbered x h) (λ _. extern_sound 0 x h))
+      (λ x h. a_mention 0 (ref.Global (number_of G x)) (own_numbered x h) (λ _. own_sound 0 x h))
       (λ x h. a_declaration 0 (ref.Global (number_of G x)) (placed_global (number_of G x) 0 here_is_chunk (own_kind externs size ss distinct x h)) (λ _. own_sound 0 x h))
       ss fits sites
 
@@ -130,9 +137,13 @@ module _ (file : List ℕ) (externs : List (List ℕ)) (size : ℕ) (ss : List S
   no_parent f g (directly (suc n) k s e p) = no_some e
   no_parent f g (further a b c h k) = no_parent a b h
 
-  no_class : (f c : ℕ) → class_of_function (tables_of P) f ≡ Some c → ⊥
-  unfolding class_of_function class_from tables_of
-  no_class f c e = no_some e
+  doc_says_nothing : IsDoc P no_doc
+  unfolding types_in types_in_all type_in
+  doc_says_nothing = record { classes = λ t a h k. elim h [ ]; vars = λ n h. elim h [ ] }
+
+  docs : (n : ℕ) (d : SiteDoc) → slice_get P.docs n ≡ Some d → IsDoc P d
+  docs zero d e = subst (IsDoc P) (same_some e) doc_says_nothing
+  docs (suc n) d e = absurd (no_some e)
 
   ordered : IsOrdered P
   unfolding outer_names
@@ -200,7 +211,8 @@ module _ (file : List ℕ) (externs : List (List ℕ)) (size : ℕ) (ss : List S
     prop_names = no_places (List ℕ);
     kept = λ n h. h;
     classes = λ a c e. absurd (no_some e);
-    set_once = λ i j w v f c e d h. absurd (no_class f c h);
+    one_class = λ a b f c d e. absurd (no_some e);
+    docs = docs;
     globals = ordered;
     each_global = λ n g e. global_is g (shape_of (externs ++ built_in_names) (declared ss) n g e);
     paths = λ n g e. paths_are n g (shape_of (externs ++ built_in_names) (declared ss) n g e);

@@ -1,5 +1,5 @@
 -- The text that is written for a source is that of its statements under the new names.
-use Rattle.std.proofs.Common.{◌≡◌, ℕ, nat_lt, lt-ltb, cond, List, [], ◌∷◌, ◌++◌, map, Option, None, Some, refl, sym, ap, ap₂, ◌∙◌, subst, codes, append_assoc, append-nil}
+use Rattle.std.proofs.Common.{◌≡◌, ℕ, lt-ltb, cond, List, [], ◌∷◌, ◌++◌, map, Option, None, Some, refl, sym, ap, ap₂, ◌∙◌, subst, codes, append_assoc, append-nil}
 use Rattle.std.proofs.lemmas.List.Concat.{flat_map-append}
 use Rattle.std.specs.Fmt.{decimal}
 use Rattle.cc_ast.specs.Bridge.{exprs}

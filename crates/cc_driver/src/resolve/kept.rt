@@ -78,7 +78,7 @@ pub(crate) fn names_of(alloc: Global, texts: &[&[u8]]) -> Result<Items<Units>, A
 }
 
 /// The built-in and the standard names.
-#[tactic(auto, unfolding(cc_meaning::specs::Names::always_kept, cc_meaning::specs::Names::builtin_names, cc_meaning::specs::Names::builtin_globals, cc_meaning::specs::Names::array_names, cc_meaning::specs::Names::standard_names))]
+#[tactic(auto, unfolding(cc_meaning::specs::Names::always_kept, cc_meaning::specs::Names::builtin_names, cc_meaning::specs::Names::builtin_globals, cc_meaning::specs::Names::array_names, cc_meaning::specs::Names::standard_names, cc_meaning::specs::Names::common_names, cc_meaning::specs::Names::standard_array_names, cc_meaning::specs::Names::standard_text_names))]
 pub(crate) fn kept_names(alloc: Global) -> Result<Items<Units>, AllocError>
     ensures { IfOk result (λ names. names ≡ always_kept) }
 {

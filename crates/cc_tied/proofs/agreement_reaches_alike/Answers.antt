@@ -1,5 +1,5 @@
 use Rattle.cc_tied.proofs.agreement_reaches_alike.Goals as goal
-use Rattle.cc_tied.proofs.AlikeEnds.{agreement_reaches_alike}
+use Rattle.cc_tied.proofs.Alike.Ends.{agreement_reaches_alike}
 
 pub returns : goal.returns
 returns c = agreement_reaches_alike

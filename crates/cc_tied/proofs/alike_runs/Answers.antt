@@ -1,5 +1,5 @@
 use Rattle.cc_tied.proofs.alike_runs.Goals as goal
-use Rattle.cc_tied.proofs.AlikeEnds.{alike_runs}
+use Rattle.cc_tied.proofs.Alike.Ends.{alike_runs}
 
 pub returns : goal.returns
 returns c = alike_runs

@@ -1,4 +1,4 @@
-use Rattle.std.proofs.Common.{◌≡◌, sym, subst, ◌∙◌, None, All, IsAscii, length}
+use Rattle.std.proofs.Common.{◌≡◌, sym, subst, None, All, IsAscii}
 use Rattle.cc_ast.specs.Syntax.{Program}
 use Rattle.cc_ast.specs.declared.tables.GlobalInfo.{GlobalInfo}
 use Rattle.cc_meaning.specs.WellMade.{WellMade}

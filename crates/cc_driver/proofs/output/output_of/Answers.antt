@@ -1,5 +1,4 @@
-use Rattle.std.proofs.Common.{length, refl}
-use Rattle.cc_driver.specs.Form.{IsSource, IsExterns}
+use Rattle.std.proofs.Common.{refl}
 use Rattle.cc_driver.specs.Compile.{no_externs, no_source}
 use Rattle.cc_driver.proofs.StepLemmas.{memory_refuses}
 use Rattle.cc_driver.proofs.output.output_of.Goals as goal

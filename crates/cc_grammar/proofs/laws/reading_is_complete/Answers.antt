@@ -1,5 +1,5 @@
 use Rattle.cc_grammar.proofs.laws.reading_is_complete.Goals as goal
-use Rattle.cc_grammar.proofs.CompleteTokens.{complete}
+use Rattle.cc_grammar.proofs.Completeness.CompleteTokens.{complete}
 
 pub returns : goal.returns
 returns c = complete

@@ -1,10 +1,9 @@
 use Rattle.std.proofs.Common.{sym, ◌∙◌}
-use Rattle.std.proofs.lemmas.Result.{IfOk-weaker}
-use Rattle.cc_lexer.proofs.ItemLemmas.{begins_string, begins_other}
+use Rattle.cc_lexer.proofs.QuickLemmas.{begins_letter, begins_sign}
 use Rattle.cc_lexer.proofs.begin.begin.Goals as goal
 
-pub returns-then-is_quote : goal.returns-then-is_quote
-returns-then-is_quote c = IfOk-weaker _ _ _ (λ i. begins_string _ _ _ i c.requires (sym c.is_quote.ensures ∙ c.if-is_quote.true)) c.string.ensures
+pub returns-then-is_letter : goal.returns-then-is_letter
+returns-then-is_letter c = begins_letter _ _ _ _ c.requires (sym c.is_letter.ensures ∙ c.if-is_letter.true) c.word.ensures
 
-pub returns-else-is_quote : goal.returns-else-is_quote
-returns-else-is_quote c = IfOk-weaker _ _ _ (λ i. begins_other _ _ _ i c.requires (sym c.is_quote.ensures ∙ c.if-is_quote.false)) c.item.ensures
+pub returns-in-Some : goal.returns-in-Some
+returns-in-Some c = begins_sign _ _ _ c.in-Some.first _ c.requires (sym c.single.ensures ∙ c.in-Some.is) c.if-c-eq46.false c.if-c-eq47.false c.longest.ensures

@@ -9,10 +9,10 @@ use Rattle.cc_lexer.proofs.comment.block.Goals as goal
 pub front-whole-requires : goal.front-whole-requires
 front-whole-requires c = (comment (chars c.args.inside.now), c.requires ∙ comment_is _ _ c.in-Some.ensures.value)
 
-pub returns-in_ok-units_of : goal.returns-in_ok-units_of
-returns-in_ok-units_of c =
+pub returns-then-is_annotation : goal.returns-then-is_annotation
+returns-then-is_annotation c =
     let w : chars c.front-whole.result.now ≡ comment (chars c.args.inside.now) = same_front _ _ _ (sym c.front-whole.ensures ∙ c.requires ∙ comment_is _ _ c.in-Some.ensures.value) in
-    (block_annotation (chars c.args.inside.now) (chars c.in-Some.rest.now) _ _ c.in-Some.ensures.value (sym c.is_annotation.ensures ∙ c.if-is_annotation.true) (c.in_ok-units_of.ensures ∙ ap utf16 w) (c.has_line_end-line.ensures ∙ ap has_line_end w), c.in-Some.ensures.text)
+    (block_annotation (chars c.args.inside.now) (chars c.in-Some.rest.now) _ _ c.in-Some.ensures.value (sym c.is_annotation.ensures ∙ c.if-is_annotation.true) (c.new.ensures ∙ ap utf16 w) (c.has_line_end-line.ensures ∙ ap has_line_end w), c.in-Some.ensures.text)
 
 pub returns-else-is_annotation : goal.returns-else-is_annotation
 returns-else-is_annotation c =

@@ -1,36 +1,29 @@
-use Rattle.std.proofs.Common.{length, subst, arith}
+use Rattle.std.proofs.Common.{subst, sym, refl}
 use Rattle.std.specs.Str.{chars}
-use Rattle.cc_lexer.specs.Lexes.{Passed, HasRoom, here}
-use Rattle.cc_lexer.proofs.PlaceLemmas.{ends_behind, room_is, passed_on, same_end, shorter_end}
+use Rattle.cc_text.specs.Ends.{Ends}
+use Rattle.cc_lexer.proofs.PlaceLemmas.{gone, arrived, gone_on, shorter_end}
 use Rattle.cc_lexer.proofs.place.moved.Goals as goal
 
-pub beyond-current-requires : goal.beyond-current-requires
-beyond-current-requires c = room_is _ _ _ _ c.in-Some.ensures.bytes c.loop-c.invariant.room
+pub overflow_sub-length : goal.overflow_sub-length
+overflow_sub-length c = shorter_end c.args.text.now c.args.rest.now c.utf8.text c.utf8.rest c.requires.ends
 
-pub loop-c-preserved : goal.loop-c-preserved
-loop-c-preserved c = record {
-  utf8 = c.in-Some.ensures.text;
-  ends = ends_behind _ _ _ _ c.loop-c.invariant.utf8 c.utf8.rest c.in-Some.ensures.characters c.loop-c.invariant.ends (omega arith);
-  room = c.beyond-current.ensures.room;
-  passed = passed_on _ _ _ _ _ _ _ c.loop-c.invariant.passed c.in-Some.ensures.characters c.beyond-current.ensures.place;
-}
+pub returns-then-plain-length : goal.returns-then-plain-length
+returns-then-plain-length c =
+    let g = gone c.args.place _ c.args.text.now c.args.rest.now c.plain_length-plain.result c.utf8.text c.utf8.rest c.requires.ends c.plain_length-plain.ensures.within c.plain_length-plain.ensures.plain c.requires.room (refl, refl, refl, refl) in
+    let a = arrived _ _ _ _ _ c.utf8.rest g c.if-plain-length.true (shorter_end c.args.text.now c.args.rest.now c.utf8.text c.utf8.rest c.requires.ends) in
+    record { passed = a.passed; room = a.room }
 
-pub loop-c-init : goal.loop-c-init
-loop-c-init c = record { utf8 = c.utf8.text; ends = c.requires.ends; room = c.requires.room; passed = here }
+pub range_from-requires : goal.range_from-requires
+range_from-requires c =
+    let g = gone c.args.place _ c.args.text.now c.args.rest.now c.plain_length-plain.result c.utf8.text c.utf8.rest c.requires.ends c.plain_length-plain.ensures.within c.plain_length-plain.ensures.plain c.requires.room (refl, refl, refl, refl) in
+    λ _. g.boundary
 
-pub returns-then-left-rest-clause-passed : goal.returns-then-left-rest-clause-passed
-returns-then-left-rest-clause-passed c =
-    let same = same_end _ _ c.loop-c.invariant.utf8 c.utf8.rest c.loop-c.invariant.ends c.if-left-rest.true in
-    subst (λ b. Passed c.args.place (chars c.args.text.now) c.loop-c.current (chars b)) same c.loop-c.invariant.passed
+pub walked-requires-clause-ends : goal.walked-requires-clause-ends
+walked-requires-clause-ends c =
+    let g = gone c.args.place _ c.args.text.now c.args.rest.now c.plain_length-plain.result c.utf8.text c.utf8.rest c.requires.ends c.plain_length-plain.ensures.within c.plain_length-plain.ensures.plain c.requires.room (refl, refl, refl, refl) in
+    subst (λ bs. Ends (chars bs) (chars c.args.rest.now)) (sym c.range_from.ensures.value) g.ends
 
-pub returns-then-left-rest-clause-room : goal.returns-then-left-rest-clause-room
-returns-then-left-rest-clause-room c =
-    let same = same_end _ _ c.loop-c.invariant.utf8 c.utf8.rest c.loop-c.invariant.ends c.if-left-rest.true in
-    subst (λ b. HasRoom c.loop-c.current (length b)) same c.loop-c.invariant.room
-
-pub returns-in_default-clause-room : goal.returns-in_default-clause-room
-returns-in_default-clause-room c =
-    let small = shorter_end _ _ c.loop-c.invariant.utf8 c.utf8.rest c.loop-c.invariant.ends in
-    let none = c.in_default.ensures.shorter in
-    let same = same_end _ _ c.loop-c.invariant.utf8 c.utf8.rest c.loop-c.invariant.ends (omega arith) in
-    subst (λ b. HasRoom c.loop-c.current (length b)) same c.loop-c.invariant.room
+pub returns-clause-passed : goal.returns-clause-passed
+returns-clause-passed c =
+    let g = gone c.args.place _ c.args.text.now c.args.rest.now c.plain_length-plain.result c.utf8.text c.utf8.rest c.requires.ends c.plain_length-plain.ensures.within c.plain_length-plain.ensures.plain c.requires.room (refl, refl, refl, refl) in
+    gone_on _ _ _ _ _ _ _ g c.range_from.ensures.value c.walked.ensures.passed

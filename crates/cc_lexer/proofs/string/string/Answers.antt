@@ -2,7 +2,8 @@ use Rattle.std.proofs.Common.{◌<◌, ◌≤◌, [], length, ap, sym, ◌∙◌
 use Rattle.std.specs.Str.{chars}
 use Rattle.cc_lexer.specs.declared.token.Fault.TheVariants as fault
 use Rattle.cc_lexer.specs.Strings.{closes, fails, before}
-use Rattle.cc_lexer.specs.Items.{string_item}
+use Rattle.cc_lexer.specs.declared.token.TokenKind.TheVariants as kind
+use Rattle.cc_lexer.specs.Items.{token, string_item}
 use Rattle.cc_lexer.proofs.StringLemmas.{read_more, read_plain, read_escape, before_none, escape_shorter, plain_is, fails_at, cut_at, unclosed_at, quote_at}
 use Rattle.cc_lexer.proofs.string.string.Goals as goal
 
@@ -11,7 +12,7 @@ returns-then-c-quote c =
     let rest = chars c.in-Some.behind.now in (
       before c.loop-c.list.items (closes [] rest),
       c.loop-c.invariant.left (closes [] rest) (quote_at _ _ _ _ c.in-Some.ensures.characters c.if-c-quote.true),
-      (ap string_item (before_none c.loop-c.list.items rest), c.in-Some.ensures.text),
+      (ap string_item (before_none c.loop-c.list.items rest) ∙ ap (λ us. token (kind.Text us) rest) (sym c.in_ok-units.ensures), c.in-Some.ensures.text),
     )
 
 pub returns-then-is_line_end : goal.returns-then-is_line_end

@@ -1,8 +1,7 @@
-use Rattle.std.proofs.Common.{◌≡◌, ◌∙◌, sym, subst, Bool, true, List, Option, Some, None}
+use Rattle.std.proofs.Common.{◌≡◌, ◌∙◌, sym, subst, true, Some, None}
 use Rattle.std.specs.Prelude.{if◌then◌else◌}
 use Rattle.cc_ast.specs.declared.tree.Expr.{Expr}
 use Rattle.cc_ast.specs.Bridge.{term}
-use Rattle.cc_driver.specs.declared.spelling.Piece.{Piece}
 use Rattle.cc_driver.specs.Spelling.{join, spell_value}
 use Rattle.cc_driver.specs.Shapes.{is_add, spell_added}
 use Rattle.cc_driver.proofs.SpellingLaws.{sum_put, ok_as}

@@ -13,12 +13,6 @@ returns-in_err-e-clause-reads g c =
     let e = one_more (λ n. spec.arguments c.args.self.now.limits n (map raw_expr c.loop-turn.found) c.loop-turn.height c.loop-turn.cursor) _ c.loop-turn._turn c.loop-turn-test.true c.loop-turn.invariant.reads in
     first_of (search rules, grind (arith, common_steps))
 
-pub returns-in_err-expect-clause-reads : goal.returns-in_err-expect-clause-reads
-unfolding arguments
-returns-in_err-expect-clause-reads g c =
-    let e = one_more (λ n. spec.arguments c.args.self.now.limits n (map raw_expr c.loop-turn.found) c.loop-turn.height c.loop-turn.cursor) _ c.loop-turn._turn c.loop-turn-test.true c.loop-turn.invariant.reads in
-    first_of (search rules, grind (arith, common_steps))
-
 pub returns-then-not-sees-clause-reads : goal.returns-then-not-sees-clause-reads
 unfolding arguments
 returns-then-not-sees-clause-reads g c =

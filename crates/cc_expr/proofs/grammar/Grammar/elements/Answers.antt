@@ -25,12 +25,6 @@ returns-in_err-e-clause-reads g c =
     let e = one_more (λ n. spec.elements c.args.self.now.limits n (map raw_expr c.loop-turn.found) c.loop-turn.height c.loop-turn.cursor) _ c.loop-turn._turn c.loop-turn-test.true c.loop-turn.invariant.reads in
     first_of (search rules, grind (arith, common_steps, map-append))
 
-pub returns-in_err-expect-clause-reads : goal.returns-in_err-expect-clause-reads
-unfolding elements
-returns-in_err-expect-clause-reads g c =
-    let e = one_more (λ n. spec.elements c.args.self.now.limits n (map raw_expr c.loop-turn.found) c.loop-turn.height c.loop-turn.cursor) _ c.loop-turn._turn c.loop-turn-test.true c.loop-turn.invariant.reads in
-    first_of (search rules, grind (arith, common_steps, map-append))
-
 pub returns-then-not-sees-clause-reads : goal.returns-then-not-sees-clause-reads
 unfolding elements
 returns-then-not-sees-clause-reads g c =

@@ -19,12 +19,6 @@ returns-in_err-field-clause-reads g c =
     let e = one_more (λ n. spec.object_fields c.args.self.now.limits n (map shown.field c.loop-turn.found) c.loop-turn.height c.loop-turn.cursor) _ c.loop-turn._turn c.loop-turn-test.true c.loop-turn.invariant.reads in
     first_of (search rules, grind (arith, common_steps, map-append))
 
-pub returns-in_err-expect-clause-reads : goal.returns-in_err-expect-clause-reads
-unfolding object_fields
-returns-in_err-expect-clause-reads g c =
-    let e = one_more (λ n. spec.object_fields c.args.self.now.limits n (map shown.field c.loop-turn.found) c.loop-turn.height c.loop-turn.cursor) _ c.loop-turn._turn c.loop-turn-test.true c.loop-turn.invariant.reads in
-    first_of (search rules, grind (arith, common_steps, map-append))
-
 pub returns-then-not-sees-clause-reads : goal.returns-then-not-sees-clause-reads
 unfolding object_fields
 returns-then-not-sees-clause-reads g c =

@@ -24,8 +24,8 @@ returns-then-height-from-clause-reads g c =
     e ∙ suffixes_high c.args.self.now.limits.turns c.args.self.now.limits.depth c.args.calls _ (raw_expr c.loop-turn.e, c.loop-turn.height) c.in-Some.suffix c.loop-turn.cursor s high
     ∙ ap (λ f. Err (shown.fault f, c.loop-turn.cursor)) (sym c.stop.ensures)
 
-pub returns-in_err-next-clause-reads : goal.returns-in_err-next-clause-reads
-returns-in_err-next-clause-reads g c =
+pub returns-in_err-e-clause-reads : goal.returns-in_err-e-clause-reads
+returns-in_err-e-clause-reads g c =
     let e = one_more (λ n. spec.suffixes c.args.self.now.limits c.args.calls n (raw_expr c.loop-turn.e, c.loop-turn.height) c.loop-turn.cursor) _ c.loop-turn._turn c.loop-turn-test.true c.loop-turn.invariant.reads in
     let s : meant.suffix (Some c.in-Some.suffix) ≡ suffix_of c.args.calls (look_token c.loop-turn.cursor).kind
     = c.in-Some.ensures ∙ ap (suffix_of c.args.calls) c.kind.ensures.shows in

@@ -1,0 +1,10 @@
+pub mod Copies
+pub mod Paired
+pub mod CopySteps
+pub mod CopyLists
+pub mod CopyAhead
+pub mod CopyPrimary
+pub mod CopyExpressions
+pub mod CopyStatements
+pub mod CopyJumps
+pub mod CopyPrograms

@@ -1,0 +1,7 @@
+mod InsertionRows
+mod SyntaxRows
+mod RefusedRows
+mod TreeRows
+mod DepthRows
+mod FrontRows
+mod ProgramRows

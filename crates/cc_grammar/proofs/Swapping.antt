@@ -1,0 +1,11 @@
+pub mod Swap
+pub mod SwapSites
+pub mod SwapAhead
+pub mod SwapParts
+pub mod SwapLists
+pub mod SwapPrimary
+pub mod SwapOperators
+pub mod SwapExpressions
+pub mod SwapStatements
+pub mod SwapClauses
+pub mod SwapPrograms

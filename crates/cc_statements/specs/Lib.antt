@@ -1,0 +1,4 @@
+pub mod ReadsStatements
+pub mod StatementSteps
+pub mod ClauseSteps
+pub mod ForSteps

@@ -1,0 +1,9 @@
+pub mod Frames
+pub mod Objects
+pub mod Tie
+pub mod Store
+pub mod Upkeep
+pub mod Reach
+pub mod Parts
+pub mod Statements
+pub mod Ends

@@ -1,0 +1,4 @@
+pub mod Parts
+pub mod Together
+pub mod Both
+pub mod Scopes
