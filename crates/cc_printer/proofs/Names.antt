@@ -1,6 +1,7 @@
 -- Names and words begin a text.
-use Rattle.std.specs.Prelude.{◌≡◌, ℕ, List, [], ◌∷◌, ◌++◌, true, false, cond, encode_utf8_all}
+use Rattle.std.specs.Prelude.{◌≡◌, ℕ, List, [], ◌∷◌, ◌++◌, true, false, Option, None, encode_utf8_all}
 use Rattle.std.specs.List.{list_all}
+use Rattle.std.specs.Option.{option_map_or}
 use Rattle.std.proofs.Common.{refl, ap, ap₂, ◌∙◌, subst}
 use Rattle.unicode_ident.proofs.Computing.{unicode_ident}
 use Rattle.cc_text.specs.Characters.{first_is}
