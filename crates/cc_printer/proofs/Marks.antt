@@ -4,7 +4,6 @@ use Rattle.std.specs.Option.{option_map_or}
 use Rattle.std.proofs.Common.{refl, ◌∙◌, subst}
 use Rattle.unicode_ident.proofs.Computing.{unicode_ident}
 use Rattle.cc_text.specs.Characters.{is_digit, first_is}
-use Rattle.cc_text.specs.Utf16.{utf16}
 use Rattle.cc_lexer.specs.declared.token.Mark.{Mark}
 use Rattle.cc_lexer.specs.declared.token.Mark.TheVariants as m
 use Rattle.cc_lexer.specs.declared.token.TokenKind.TheVariants as kind

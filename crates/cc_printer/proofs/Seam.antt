@@ -7,7 +7,6 @@ use Rattle.std.proofs.lemmas.Fmt.{decimal_nonempty}
 use Rattle.unicode_ident.proofs.Computing.{unicode_ident}
 use Rattle.cc_ast.specs.declared.place.Place.{Place}
 use Rattle.cc_text.specs.Characters.{first_is}
-use Rattle.cc_text.specs.Utf16.{utf16}
 use Rattle.cc_lexer.specs.declared.token.Mark.{Mark}
 use Rattle.cc_lexer.specs.declared.token.Mark.TheVariants as m
 use Rattle.cc_lexer.specs.declared.token.Token.{Token}
