@@ -13,6 +13,7 @@ pub both : {a b : Bool} → (a && b) ≡ true → (a ≡ true) × (b ≡ true)
 both {a = true} h = (refl, h)
 both {a = false} h = absurd (cc)
 
+
 pick_same : (b : Bool) (e : Expr) → pick b e e ≡ e
 pick_same true e = refl
 pick_same false e = refl
@@ -53,35 +54,35 @@ module _ (built : Ref → Bool) (step : Expr → Expr) (step_call : ℕ → Expr
     re_kept t q (var i r) h = put_kept t q (var i r) h
     re_kept t q (this i) h = put_kept t q (this i) h
     re_kept t q (fun i f) h = put_kept t q (fun i f) h
-    re_kept t q (list i es) h = rw (re_all_kept t es (both h).1) (put_kept t q (list i es) (both h).0)
-    re_kept t q (object i fs) h = rw (re_fields_kept t fs (both h).1) (put_kept t q (object i fs) (both h).0)
-    re_kept t q (unary i op e) h = rw (re_kept t (operand op) e (both h).1) (put_kept t q (unary i op e) (both h).0)
-    re_kept t q (binary i op a b) h = let k = both (both h).1 in rw (re_kept t a_value a k.0, re_kept t a_value b k.1) (put_kept t q (binary i op a b) (both h).0)
-    re_kept t q (and i a b) h = let k = both (both h).1 in rw (re_kept t a_value a k.0, re_kept t a_value b k.1) (put_kept t q (and i a b) (both h).0)
-    re_kept t q (or i a b) h = let k = both (both h).1 in rw (re_kept t a_value a k.0, re_kept t a_value b k.1) (put_kept t q (or i a b) (both h).0)
-    re_kept t q (cond i e a b) h = let k = both (both h).1 in let m = both k.1 in rw (re_kept t a_value e k.0, re_kept t a_value a m.0, re_kept t a_value b m.1) (put_kept t q (cond i e a b) (both h).0)
-    re_kept t q (assign i op u e) h = let k = both (both h).1 in rw (re_target_kept u k.0, re_kept t an_assigned e k.1) (put_kept t q (assign i op u e) (both h).0)
-    re_kept t q (step_of i up prefix u) h = rw (re_target_kept u (both h).1) (put_kept t q (step_of i up prefix u) (both h).0)
-    re_kept t q (member i e p) h = rw (re_kept t an_object e (both h).1) (on_value_kept q (member i e p) (both h).0)
-    re_kept t q (index i e k) h = let m = both (both h).1 in rw (re_kept t an_object e m.0, re_kept t a_value k m.1) (on_value_kept q (index i e k) (both h).0)
-    re_kept t q (call i f es) h = let k = both (both h).1 in rw (re_kept t a_callee f k.0, re_all_kept t es k.1) (put_call_kept t q i f es (both h).0)
-    re_kept t q (new i f es) h = let k = both (both h).1 in rw (re_kept t a_callee f k.0, re_all_kept t es k.1) (put_kept t q (new i f es) (both h).0)
-    re_kept t q (comma i a b) h = let k = both (both h).1 in rw (re_kept t a_value a k.0, re_kept t a_value b k.1) (put_kept t q (comma i a b) (both h).0)
-    re_kept t q (cast i d e) h = rw (re_kept t q e (both h).1) (on_value_kept q (cast i d e) (both h).0)
-    re_kept t q (tick i n e) h = rw (re_kept t q e (both h).1) (on_value_kept q (tick i n e) (both h).0)
+    re_kept t q (list i es) h = let x : (test (list i es) ≡ true) × ((each_exprs test es) ≡ true) = both h in rw (re_all_kept t es x.1) (put_kept t q (list i es) x.0)
+    re_kept t q (object i fs) h = let x : (test (object i fs) ≡ true) × ((each_fields test fs) ≡ true) = both h in rw (re_fields_kept t fs x.1) (put_kept t q (object i fs) x.0)
+    re_kept t q (unary i op e) h = let x : (test (unary i op e) ≡ true) × ((each_expr test e) ≡ true) = both h in rw (re_kept t (operand op) e x.1) (put_kept t q (unary i op e) x.0)
+    re_kept t q (binary i op a b) h = let x : (test (binary i op a b) ≡ true) × ((each_expr test a && each_expr test b) ≡ true) = both h in let y : (each_expr test a ≡ true) × ((each_expr test b) ≡ true) = both x.1 in rw (re_kept t a_value a y.0, re_kept t a_value b y.1) (put_kept t q (binary i op a b) x.0)
+    re_kept t q (and i a b) h = let x : (test (and i a b) ≡ true) × ((each_expr test a && each_expr test b) ≡ true) = both h in let y : (each_expr test a ≡ true) × ((each_expr test b) ≡ true) = both x.1 in rw (re_kept t a_value a y.0, re_kept t a_value b y.1) (put_kept t q (and i a b) x.0)
+    re_kept t q (or i a b) h = let x : (test (or i a b) ≡ true) × ((each_expr test a && each_expr test b) ≡ true) = both h in let y : (each_expr test a ≡ true) × ((each_expr test b) ≡ true) = both x.1 in rw (re_kept t a_value a y.0, re_kept t a_value b y.1) (put_kept t q (or i a b) x.0)
+    re_kept t q (cond i e a b) h = let x : (test (cond i e a b) ≡ true) × ((each_expr test e && (each_expr test a && each_expr test b)) ≡ true) = both h in let y : (each_expr test e ≡ true) × ((each_expr test a && each_expr test b) ≡ true) = both x.1 in let z : (each_expr test a ≡ true) × ((each_expr test b) ≡ true) = both y.1 in rw (re_kept t a_value e y.0, re_kept t a_value a z.0, re_kept t a_value b z.1) (put_kept t q (cond i e a b) x.0)
+    re_kept t q (assign i op u e) h = let x : (test (assign i op u e) ≡ true) × ((each_target test u && each_expr test e) ≡ true) = both h in let y : (each_target test u ≡ true) × ((each_expr test e) ≡ true) = both x.1 in rw (re_target_kept u y.0, re_kept t an_assigned e y.1) (put_kept t q (assign i op u e) x.0)
+    re_kept t q (step_of i up prefix u) h = let x : (test (step_of i up prefix u) ≡ true) × ((each_target test u) ≡ true) = both h in rw (re_target_kept u x.1) (put_kept t q (step_of i up prefix u) x.0)
+    re_kept t q (member i e p) h = let x : (test (member i e p) ≡ true) × ((each_expr test e) ≡ true) = both h in rw (re_kept t an_object e x.1) (on_value_kept q (member i e p) x.0)
+    re_kept t q (index i e k) h = let x : (test (index i e k) ≡ true) × ((each_expr test e && each_expr test k) ≡ true) = both h in let y : (each_expr test e ≡ true) × ((each_expr test k) ≡ true) = both x.1 in rw (re_kept t an_object e y.0, re_kept t a_value k y.1) (on_value_kept q (index i e k) x.0)
+    re_kept t q (call i f es) h = let x : (test (call i f es) ≡ true) × ((each_expr test f && each_exprs test es) ≡ true) = both h in let y : (each_expr test f ≡ true) × ((each_exprs test es) ≡ true) = both x.1 in rw (re_kept t a_callee f y.0, re_all_kept t es y.1) (put_call_kept t q i f es x.0)
+    re_kept t q (new i f es) h = let x : (test (new i f es) ≡ true) × ((each_expr test f && each_exprs test es) ≡ true) = both h in let y : (each_expr test f ≡ true) × ((each_exprs test es) ≡ true) = both x.1 in rw (re_kept t a_callee f y.0, re_all_kept t es y.1) (put_kept t q (new i f es) x.0)
+    re_kept t q (comma i a b) h = let x : (test (comma i a b) ≡ true) × ((each_expr test a && each_expr test b) ≡ true) = both h in let y : (each_expr test a ≡ true) × ((each_expr test b) ≡ true) = both x.1 in rw (re_kept t a_value a y.0, re_kept t a_value b y.1) (put_kept t q (comma i a b) x.0)
+    re_kept t q (cast i d e) h = let x : (test (cast i d e) ≡ true) × ((each_expr test e) ≡ true) = both h in rw (re_kept t q e x.1) (on_value_kept q (cast i d e) x.0)
+    re_kept t q (tick i n e) h = let x : (test (tick i n e) ≡ true) × ((each_expr test e) ≡ true) = both h in rw (re_kept t q e x.1) (on_value_kept q (tick i n e) x.0)
 
     pub re_target_kept : (u : Target) → each_target test u ≡ true → re_target built step step_call u ≡ u
     re_target_kept (to_var i r) h = refl
     re_target_kept (to_member i e p) h = rw (re_kept true an_object e h) refl
-    re_target_kept (to_index i e k) h = rw (re_kept true an_object e (both h).0, re_kept true a_value k (both h).1) refl
+    re_target_kept (to_index i e k) h = let x : (each_expr test e ≡ true) × ((each_expr test k) ≡ true) = both h in rw (re_kept true an_object e x.0, re_kept true a_value k x.1) refl
 
     pub re_all_kept : (t : Bool) (es : Exprs) → each_exprs test es ≡ true → re_all built step step_call t es ≡ es
     re_all_kept t no_exprs h = refl
-    re_all_kept t (more_exprs e es) h = rw (re_kept t a_value e (both h).0, re_all_kept t es (both h).1) refl
+    re_all_kept t (more_exprs e es) h = let x : (each_expr test e ≡ true) × ((each_exprs test es) ≡ true) = both h in rw (re_kept t a_value e x.0, re_all_kept t es x.1) refl
 
     pub re_fields_kept : (t : Bool) (fs : Fields) → each_fields test fs ≡ true → re_fields built step step_call t fs ≡ fs
     re_fields_kept t no_fields h = refl
-    re_fields_kept t (more_fields k e fs) h = rw (re_kept t a_value e (both h).0, re_fields_kept t fs (both h).1) refl
+    re_fields_kept t (more_fields k e fs) h = let x : (each_expr test e ≡ true) × ((each_fields test fs) ≡ true) = both h in rw (re_kept t a_value e x.0, re_fields_kept t fs x.1) refl
 
   pub re_value_kept : (e : Expr) → each_expr test e ≡ true → re_value built step step_call e ≡ e
   unfolding re_value
@@ -100,7 +101,7 @@ module _ (built : Ref → Bool) (step : Expr → Expr) (step_call : ℕ → Expr
     pub re_declarators_kept : (ds : List Declarator) → each_declarators test ds ≡ true → re_declarators built step step_call trim trim_in ds ≡ ds
     unfolding re_declarators each_declarators
     re_declarators_kept [] h = refl
-    re_declarators_kept (d ∷ ds) h = rw (re_declarator_kept d (both h).0, L.by_trim d, re_declarators_kept ds (both h).1) refl
+    re_declarators_kept (d ∷ ds) h = let x : (each_declarator test d ≡ true) × ((each_declarators test ds) ≡ true) = both h in rw (re_declarator_kept d x.0, L.by_trim d, re_declarators_kept ds x.1) refl
 
     pub re_init_kept : (h : ForInit) → each_init test h ≡ true → re_init built step step_call trim trim_in h ≡ h
     unfolding re_init each_init each_declarators init_of
@@ -121,23 +122,23 @@ module _ (built : Ref → Bool) (step : Expr → Expr) (step_call : ℕ → Expr
       re_stmt_kept (simple i e) h = rw (re_value_kept e h) refl
       re_stmt_kept (vars i ds) h = rw (re_declarators_kept ds h) refl
       re_stmt_kept (fun_decl i r f) h = refl
-      re_stmt_kept (if i e a b) h = let k = both (both h).1 in rw (re_value_kept e (both h).0, re_stmts_kept a k.0, re_stmts_kept b k.1) refl
-      re_stmt_kept (while i e b) h = rw (re_value_kept e (both h).0, re_stmts_kept b (both h).1) refl
-      re_stmt_kept (do_while i b e) h = rw (re_stmts_kept b (both h).0, re_value_kept e (both h).1) refl
-      re_stmt_kept (for i n e o b) h = let k = both (both h).1 in let m = both k.1 in rw (re_init_kept n (both h).0, re_option_kept e k.0, re_option_kept o m.0, re_stmts_kept b m.1) refl
-      re_stmt_kept (for_in i u e b) h = let k = both (both h).1 in rw (re_names_kept u (both h).0, re_value_kept e k.0, re_stmts_kept b k.1) refl
+      re_stmt_kept (if i e a b) h = let x : (each_expr test e ≡ true) × ((each_stmts test a && each_stmts test b) ≡ true) = both h in let y : (each_stmts test a ≡ true) × ((each_stmts test b) ≡ true) = both x.1 in rw (re_value_kept e x.0, re_stmts_kept a y.0, re_stmts_kept b y.1) refl
+      re_stmt_kept (while i e b) h = let x : (each_expr test e ≡ true) × ((each_stmts test b) ≡ true) = both h in rw (re_value_kept e x.0, re_stmts_kept b x.1) refl
+      re_stmt_kept (do_while i b e) h = let x : (each_stmts test b ≡ true) × ((each_expr test e) ≡ true) = both h in rw (re_stmts_kept b x.0, re_value_kept e x.1) refl
+      re_stmt_kept (for i n e o b) h = let x : (each_init test n ≡ true) × ((each_option test e && (each_option test o && each_stmts test b)) ≡ true) = both h in let y : (each_option test e ≡ true) × ((each_option test o && each_stmts test b) ≡ true) = both x.1 in let z : (each_option test o ≡ true) × ((each_stmts test b) ≡ true) = both y.1 in rw (re_init_kept n x.0, re_option_kept e y.0, re_option_kept o z.0, re_stmts_kept b z.1) refl
+      re_stmt_kept (for_in i u e b) h = let x : (each_names test u ≡ true) × ((each_expr test e && each_stmts test b) ≡ true) = both h in let y : (each_expr test e ≡ true) × ((each_stmts test b) ≡ true) = both x.1 in rw (re_names_kept u x.0, re_value_kept e y.0, re_stmts_kept b y.1) refl
       re_stmt_kept (return i o) h = rw (re_option_kept o h) refl
       re_stmt_kept (throw i e) h = rw (re_value_kept e h) refl
       re_stmt_kept (break i l) h = refl
       re_stmt_kept (continue i l) h = refl
       re_stmt_kept (label i l b) h = rw (re_stmts_kept b h) refl
-      re_stmt_kept (switch i e cs) h = rw (re_value_kept e (both h).0, re_cases_kept cs (both h).1) refl
-      re_stmt_kept (try i b k f) h = let m = both (both h).1 in rw (re_stmts_kept b (both h).0, re_maybe_kept k m.0, re_maybe_kept f m.1) refl
+      re_stmt_kept (switch i e cs) h = let x : (each_expr test e ≡ true) × ((each_cases test cs) ≡ true) = both h in rw (re_value_kept e x.0, re_cases_kept cs x.1) refl
+      re_stmt_kept (try i b k f) h = let x : (each_stmts test b ≡ true) × ((each_maybe test k && each_maybe test f) ≡ true) = both h in let y : (each_maybe test k ≡ true) × ((each_maybe test f) ≡ true) = both x.1 in rw (re_stmts_kept b x.0, re_maybe_kept k y.0, re_maybe_kept f y.1) refl
       re_stmt_kept (pay_stmt i n) h = refl
 
       pub re_stmts_kept : (ss : Stmts) → each_stmts test ss ≡ true → re_stmts built step step_call trim trim_in cut ss ≡ ss
       re_stmts_kept no_stmts h = refl
-      re_stmts_kept (more_stmts s ss) h = rw (re_stmt_kept s (both h).0, re_stmts_kept ss (both h).1) (L.by_cut s ss)
+      re_stmts_kept (more_stmts s ss) h = let x : (each_stmt test s ≡ true) × ((each_stmts test ss) ≡ true) = both h in rw (re_stmt_kept s x.0, re_stmts_kept ss x.1) (L.by_cut s ss)
 
       pub re_maybe_kept : (b : MaybeStmts) → each_maybe test b ≡ true → re_maybe built step step_call trim trim_in cut b ≡ b
       re_maybe_kept absent h = refl
@@ -145,4 +146,4 @@ module _ (built : Ref → Bool) (step : Expr → Expr) (step_call : ℕ → Expr
 
       pub re_cases_kept : (cs : Cases) → each_cases test cs ≡ true → re_cases built step step_call trim trim_in cut cs ≡ cs
       re_cases_kept no_cases h = refl
-      re_cases_kept (more_cases o b cs) h = let k = both (both h).1 in rw (re_option_kept o (both h).0, re_stmts_kept b k.0, re_cases_kept cs k.1) refl
+      re_cases_kept (more_cases o b cs) h = let x : (each_option test o ≡ true) × ((each_stmts test b && each_cases test cs) ≡ true) = both h in let y : (each_stmts test b ≡ true) × ((each_cases test cs) ≡ true) = both x.1 in rw (re_option_kept o x.0, re_stmts_kept b y.0, re_cases_kept cs y.1) refl
