@@ -8,10 +8,10 @@ module _ {X : Type 0} (test : X → Bool) (all : List X → Bool) (none : all []
   here x h e = sym before ∙ at_drop_more all xs i x h ∙ ap (λ y. all (y ∷ drop (i + 1) xs)) (sym e) ∙ more x (drop (i + 1) xs)
 
   pub refused : (x : X) → i < length xs → x ≡ get_or xs i x → test x ≡ false → false ≡ all xs
-  refused x h e no = sym (here x h e ∙ ap (λ b. b && all (drop (i + 1) xs)) no)
+  refused x h e k = sym (here x h e ∙ ap (λ b. b && all (drop (i + 1) xs)) k)
 
   pub goes_on : (x : X) → i < length xs → x ≡ get_or xs i x → test x ≡ true → all (drop (i + 1) xs) ≡ all xs
-  goes_on x h e yes = sym (here x h e ∙ ap (λ b. b && all (drop (i + 1) xs)) yes)
+  goes_on x h e k = sym (here x h e ∙ ap (λ b. b && all (drop (i + 1) xs)) k)
 
   pub ended : length xs ≤ i → true ≡ all xs
   ended h = sym (sym before ∙ at_drop_all all xs i h ∙ none)

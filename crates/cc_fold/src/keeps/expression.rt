@@ -1,8 +1,8 @@
 // Whether folding keeps each node of an expression. A function for one kind of node takes the node whole,
 // and asks that it is of this kind.
-ghost use Rattle.std.specs.Prelude.{◌≡◌};
+ghost use Rattle.std.specs.Prelude.{◌≡◌, not};
 ghost use Rattle.cc_ast.specs.Bridge.{target, term, term_fields, terms};
-ghost use Rattle.cc_fold.specs.Keeps.{binary_stays, keeps_all, keeps_expr, keeps_fields, keeps_target, unary_stays};
+ghost use Rattle.cc_fold.specs.Keeps.{binary_stays, is_literal, keeps_all, keeps_expr, keeps_fields, keeps_target, unary_stays};
 
 use crate::operators::is_literal;
 use cc_ast::operator::{BinOp, UnOp};
@@ -99,7 +99,7 @@ fn keeps_and(e: &Expr) -> bool
     let Expr::And(_, a, b) = e else {
         unreachable!()
     };
-    !is_literal(a.get()) && keeps_expr(a.get()) && keeps_expr(b.get())
+    no_literal(a.get()) && keeps_expr(a.get()) && keeps_expr(b.get())
 }
 
 #[cycle(expression)]
@@ -111,7 +111,7 @@ fn keeps_or(e: &Expr) -> bool
     let Expr::Or(_, a, b) = e else {
         unreachable!()
     };
-    !is_literal(a.get()) && keeps_expr(a.get()) && keeps_expr(b.get())
+    no_literal(a.get()) && keeps_expr(a.get()) && keeps_expr(b.get())
 }
 
 #[cycle(expression)]
@@ -123,7 +123,7 @@ fn keeps_cond(e: &Expr) -> bool
     let Expr::Cond(_, t, a, b) = e else {
         unreachable!()
     };
-    !is_literal(t.get())
+    no_literal(t.get())
         && keeps_expr(t.get())
         && keeps_expr(a.get())
         && keeps_expr(b.get())
@@ -235,6 +235,13 @@ fn keeps_tick(e: &Expr) -> bool
         unreachable!()
     };
     keeps_expr(a.get())
+}
+
+#[tactic(auto, unfolding(crate::specs::Keeps::is_literal))]
+fn no_literal(e: &Expr) -> bool
+    ensures { result ≡ not (is_literal (term e.now)) }
+{
+    !is_literal(e)
 }
 
 // `void` and `delete` stay, and every other operator whose operand is no literal.

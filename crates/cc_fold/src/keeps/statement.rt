@@ -171,15 +171,19 @@ fn keeps_try(s: &Stmt) -> bool
     let Stmt::Try(_, b, catch, finally) = s else {
         unreachable!()
     };
-    let catches = match catch {
-        None => true,
-        Some(body) => keeps_stmts(body),
-    };
-    let ends = match finally {
-        None => true,
-        Some(body) => keeps_stmts(body),
-    };
-    keeps_stmts(b) && catches && ends
+    if !keeps_stmts(b) {
+        return false;
+    }
+    match catch {
+        None => match finally {
+            None => true,
+            Some(body) => keeps_stmts(body),
+        },
+        Some(body) => match finally {
+            None => keeps_stmts(body),
+            Some(last) => keeps_stmts(body) && keeps_stmts(last),
+        },
+    }
 }
 
 /// The same of a list of statements.
@@ -208,6 +212,7 @@ fn keeps_cases(items: &Items<Case>) -> bool
 }
 
 #[cycle(statement)]
+#[tactic(auto, using(crate::proofs::Clauses::case_at))]
 fn keeps_case(case: &Case) -> bool
     ensures { result ≡ keeps_case (term_case case.now) }
 {
