@@ -1,6 +1,6 @@
 -- A walk along a list that ends at the first element that a test refuses, for an answer that is defined by
 -- the rest of the list.
-use Rattle.std.proofs.Common.{◌≡◌, ◌∙◌, refl, ℕ, ◌+◌, ◌<◌, ◌≤◌, Bool, true, false, ◌&&◌, List, [], ◌∷◌, length, get_or, drop, ap, sym}
+use Rattle.std.proofs.Common.{◌≡◌, ◌∙◌, ℕ, ◌+◌, ◌<◌, ◌≤◌, Bool, true, false, ◌&&◌, List, [], ◌∷◌, length, get_or, drop, ap, sym}
 use Rattle.std.proofs.lemmas.List.{at_drop_more, at_drop_all}
 
 module _ {X : Type 0} (test : X → Bool) (all : List X → Bool) (none : all [] ≡ true) (more : (x : X) (xs : List X) → all (x ∷ xs) ≡ (test x && all xs)) (xs : List X) (i : ℕ) (before : all (drop i xs) ≡ all xs) where

@@ -1,14 +1,14 @@
 -- Whether folding keeps each node, one equation for each kind of statement.
 use Rattle.std.proofs.Common.{◌≡◌, refl, ℕ, Bool, true, false, List, [], ◌∷◌, map, Option, Some, None}
 use Rattle.std.specs.Prelude.{◌&&◌}
-use Rattle.cc_ast.specs.Syntax.{Expr, Target, Declarator, ForInit, no_init, init_value, init_vars, ForTarget, in_target, in_declared, Stmt, simple, vars, fun_decl, if, while, do_while, for, for_in, return, throw, break, continue, label, switch, try, pay_stmt, Stmts, MaybeStmts, absent, present, Cases}
+use Rattle.cc_ast.specs.Syntax.{Expr, Target, Declarator, ForInit, no_init, init_value, init_vars, ForTarget, in_target, in_declared, simple, vars, fun_decl, if, while, do_while, for, for_in, return, throw, break, continue, label, switch, try, pay_stmt, Stmts, MaybeStmts, absent, present, Cases}
 use Rattle.cc_ast.specs.declared.tree.Case.{Case}
 use Rattle.cc_ast.specs.declared.tree.Declarator as Plain
 use Rattle.cc_ast.specs.declared.tree.Ref.{Ref}
 use Rattle.cc_ast.specs.declared.tree.Stmt as Tree
 use Rattle.cc_ast.specs.StmtBridge.{declarator, stmts, cases, term_stmt, term_stmts, term_case, term_cases}
 use Rattle.cc_tied.specs.EachNode.{each_expr, each_option, each_declarator, each_declarators, each_init, each_names, each_stmt}
-use Rattle.cc_fold.specs.Keeps.{stays, keeps_expr, keeps_target, keeps_option, keeps_declarator, keeps_declarators, keeps_init, keeps_names, keeps_stmt, keeps_stmts, keeps_maybe, keeps_cases, keeps_case}
+use Rattle.cc_fold.specs.Keeps.{keeps_expr, keeps_target, keeps_option, keeps_declarator, keeps_declarators, keeps_init, keeps_names, keeps_stmt, keeps_stmts, keeps_maybe, keeps_cases, keeps_case}
 
 pub option-None : keeps_option None ≡ true
 unfolding keeps_option keeps_declarator keeps_declarators keeps_init keeps_names keeps_expr keeps_target each_expr each_option

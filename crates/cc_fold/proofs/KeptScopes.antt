@@ -1,18 +1,16 @@
 -- Where folding keeps each node, it keeps the scope.
-use Rattle.std.proofs.Common.{◌≡◌, refl, sym, ap, ◌∙◌, ℕ, Bool, true, false, List, Option, Some, None, unwrap_or}
+use Rattle.std.proofs.Common.{◌≡◌, refl, sym, ap, ℕ, true, List, Option, Some, None, unwrap_or}
 use Rattle.std.specs.Prelude.{not, is_some, ◌&&◌}
 use Rattle.cc_ast.specs.Syntax.{Expr, unary, binary, and, or, cond, Stmts, Scope}
 use Rattle.cc_ast.specs.declared.operator.BinOp.{BinOp}
 use Rattle.cc_ast.specs.declared.operator.BinOp.TheVariants.{Instance, Has}
 use Rattle.cc_ast.specs.declared.operator.UnOp.{UnOp}
 use Rattle.cc_ast.specs.declared.operator.UnOp.TheVariants.{Void, Delete}
-use Rattle.cc_ast.specs.declared.tree.Ref.{Ref}
 use Rattle.cc_ast.specs.declared.tree.Stmt.{Stmt}
 use Rattle.cc_ast.specs.StmtBridge.{term_stmts}
 use Rattle.cc_tied.proofs.Kept.{KeepsExprs, KeepsLists, re_stmts_kept}
 use Rattle.cc_fold.specs.Fold.{Literal, literal, computed_of_one, computed_of_two, fold_unary, fold_binary, fold_and, fold_or, fold_cond, fold, same_call, same_declarator, same_name, same_stmt, fold_scope}
 use Rattle.cc_fold.specs.Keeps.{is_literal, unary_stays, binary_stays, stays, keeps_stmts, keeps_scope, KeptScopeStays}
-
 
 one_kept : (i : ℕ) (op : UnOp) (e : Expr) (o : Option Literal) → not (is_some o) ≡ true → unwrap_or (computed_of_one i op o) (unary i op e) ≡ unary i op e
 unfolding computed_of_one

@@ -13,7 +13,6 @@ pub both : {a b : Bool} → (a && b) ≡ true → (a ≡ true) × (b ≡ true)
 both {a = true} h = (refl, h)
 both {a = false} h = absurd (cc)
 
-
 pick_same : (b : Bool) (e : Expr) → pick b e e ≡ e
 pick_same true e = refl
 pick_same false e = refl

@@ -108,9 +108,7 @@ fn keeps_or(e: &Expr) -> bool
     requires { (s : _) × ((a : _) × ((b : _) × (e.now ≡ Expr.Or s a b))) }
     ensures { result ≡ keeps_expr (term e.now) }
 {
-    let Expr::Or(_, a, b) = e else {
-        unreachable!()
-    };
+    let Expr::Or(_, a, b) = e else { unreachable!() };
     no_literal(a.get()) && keeps_expr(a.get()) && keeps_expr(b.get())
 }
 
@@ -123,10 +121,7 @@ fn keeps_cond(e: &Expr) -> bool
     let Expr::Cond(_, t, a, b) = e else {
         unreachable!()
     };
-    no_literal(t.get())
-        && keeps_expr(t.get())
-        && keeps_expr(a.get())
-        && keeps_expr(b.get())
+    no_literal(t.get()) && keeps_expr(t.get()) && keeps_expr(a.get()) && keeps_expr(b.get())
 }
 
 #[cycle(expression)]

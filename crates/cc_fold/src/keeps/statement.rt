@@ -132,9 +132,7 @@ fn keeps_throw(s: &Stmt) -> bool
     requires { (i : _) × ((e : _) × (s.now ≡ Stmt.Throw i e)) }
     ensures { result ≡ keeps_stmt (term_stmt s.now) }
 {
-    let Stmt::Throw(_, e) = s else {
-        unreachable!()
-    };
+    let Stmt::Throw(_, e) = s else { unreachable!() };
     keeps_expr(e.get())
 }
 
