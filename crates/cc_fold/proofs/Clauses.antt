@@ -17,7 +17,7 @@ case_made : (t : Option Expr) (b : List Stmt) → term_case (roll-Case (record {
 unfolding term_case term_stmt term_stmts case_layer
 case_made t b = fold-roll-Case S.Stmt CaseTerm stmt_layer case_layer _
 
-case_at : (c : Case) → term_case c ≡ (option_term (out-Case c).test, term_stmts (out-Case c).body)
+pub case_at : (c : Case) → term_case c ≡ (option_term (out-Case c).test, term_stmts (out-Case c).body)
 case_at c = ap term_case (sym (roll-out-Case c)) ∙ case_made (out-Case c).test (out-Case c).body
 
 -- two `try` that are one have the same bodies

@@ -6,3 +6,4 @@ pub mod Literals
 pub mod Places
 pub mod Leaves
 pub mod Law
+pub mod Keeps

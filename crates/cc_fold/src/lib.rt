@@ -11,6 +11,7 @@ ghost use Rattle.cc_fold.specs.Fold.{fold_scope};
 pub mod built;
 mod choice;
 mod expression;
+pub mod keeps;
 pub mod laws;
 mod literal;
 mod make;

@@ -71,8 +71,8 @@ fn computed_of_one(
     }
 }
 
-// Whether the expression is a literal, seen without a copy.
-fn is_literal(e: &Expr) -> bool
+/// Whether the expression is a literal, seen without a copy.
+pub fn is_literal(e: &Expr) -> bool
     ensures { result ≡ is_some (literal (term e.now)) }
 {
     test_of(e).is_some()

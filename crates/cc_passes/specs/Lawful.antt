@@ -12,7 +12,7 @@ use Rattle.cc_core.specs.Work.{Lawful, VisitsAll, with_scopes, mixed, part, phas
 use Rattle.cc_fold.specs.Built.{built_globals, built_in}
 use Rattle.cc_fold.specs.Fold.{fold_scope}
 use Rattle.cc_fold.specs.Law.{folded_by}
-use Rattle.cc_fold.proofs.Keeps.{folding_keeps}
+use Rattle.cc_fold.proofs.FoldingKeeps.{folding_keeps}
 use Rattle.cc_fold.proofs.WellMade.KeepsWellMade.{folding_keeps_well_made}
 use Rattle.cc_passes.specs.Phases.{folded, rounds, folding}
 

@@ -34,3 +34,4 @@ pub mod RightRuns
 pub mod Injection
 pub mod Fine
 pub mod Mixed
+pub mod Kept

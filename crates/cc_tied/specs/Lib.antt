@@ -12,3 +12,4 @@ pub mod PlainFacts
 pub mod Mixed
 pub mod DropExample
 pub mod InlineExample
+pub mod EachNode
