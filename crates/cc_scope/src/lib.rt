@@ -2,7 +2,7 @@
 //! go into one table. The functions here state laws of it, and do nothing.
 #![tactic(auto)]
 
-ghost use Rattle.cc_scope.specs.Promises.{ReadsBack, TablesAreMade, AreCounted, IsExact, NoLoop, IsAnswered, IsWellMade, IsLimited, LastCounts, LastDeclarationCounts, AnnotatedAreDeclared};
+ghost use Rattle.cc_scope.specs.Promises.{ReadsBack, TablesAreMade, AreCounted, IsExact, NoLoop, IsAnswered, IsWellMade, IsLimited, LastCounts, LastDeclarationCounts, AnnotatedAreDeclared, IsOfReading};
 
 /// What is written with names and resolved again is alike to what was written.
 pub fn reads_back()
@@ -22,6 +22,11 @@ pub fn tables_are_made()
 /// What resolution answers is a well made program, where nothing is annotated.
 pub fn resolved_is_well_made()
     ensures { IsWellMade }
+{}
+
+/// Trees that the grammar derives from tokens of the lexer are as resolution takes them to be.
+pub fn read_trees_are_of_the_language()
+    ensures { IsOfReading }
 {}
 
 /// A program is answered exactly where nothing is refused; its scopes and places are counted, and the
