@@ -1,5 +1,5 @@
 -- What the grammar has open where a statement stands is open there, and what the names mean that it tests.
-use Rattle.std.specs.Prelude.{◌≡◌, ℕ, suc, ◌≤◌, Bool, true, false, not, ◌||◌, nat_eq, nat_lt, cond, List, [], ◌∷◌, ◌++◌, Some, None, codes}
+use Rattle.std.specs.Prelude.{◌≡◌, ℕ, ◌≤◌, Bool, true, false, ◌||◌, nat_eq, nat_lt, cond, List, [], ◌∷◌, ◌++◌, Some, None, codes}
 use Rattle.std.specs.Str.{bytes_eq}
 use Rattle.std.proofs.Common.{refl, sym, ap, ◌∙◌, subst, arith}
 use Rattle.std.proofs.lemmas.Bool.Decides.{nat_tests}
@@ -11,7 +11,6 @@ use Rattle.cc_meaning.specs.WellMade as well
 use Rattle.cc_meaning.specs.WellMade.{Open, nested, refused_names}
 use Rattle.cc_grammar.specs.Symbols.{Symbols}
 use Rattle.cc_grammar.specs.RawTree.{RawStmts, RawCase, cases}
-use Rattle.cc_grammar.specs.Signs.{refused_name}
 use Rattle.cc_grammar.specs.Grammar as g
 use Rattle.cc_grammar.specs.Grammar.{Context, Labels, of_program, of_function, inside, in_switch, labelled, is_among, Variable, Cases}
 use Rattle.cc_scope.specs.Lists.{Name}

@@ -1,12 +1,11 @@
 -- What is derived from tokens of the lexer is of the language, and has no index as a property name.
-use Rattle.std.specs.Prelude.{◌≡◌, ℕ, suc, Bool, true, false, not, ◌&&◌, ◌||◌, List, [], ◌∷◌, ◌++◌, Option, Some, None}
+use Rattle.std.specs.Prelude.{◌≡◌, ℕ, Bool, true, false, not, ◌&&◌, ◌||◌, List, [], ◌∷◌, ◌++◌}
 use Rattle.std.proofs.Common.{refl, sym, ap, ◌∙◌, subst, inl, inr, append_assoc}
-use Rattle.cc_ast.specs.declared.place.Place.{Place}
 use Rattle.cc_meaning.specs.Alike.{In, here, there}
 use Rattle.cc_meaning.specs.Names.{is_index}
 use Rattle.cc_meaning.specs.Operators.{is_in}
-use Rattle.cc_meaning.specs.WellMade.{Open, nested, may_break, may_continue, refused_names}
-use Rattle.cc_grammar.specs.Symbols.{Kind, Lexeme, Symbol, Symbols, real, inserted, look, lexemes_of}
+use Rattle.cc_meaning.specs.WellMade.{Open, nested, may_break, may_continue}
+use Rattle.cc_grammar.specs.Symbols.{Lexeme, Symbols, real, inserted, look, lexemes_of}
 use Rattle.cc_grammar.specs.RawTree.{Named, RawExpr, RawStmt, RawStmts, RawField, RawDeclarator, RawDeclarators, RawCase, RawInit, RawCatch, RawFinally, MaybeExpr, exprs, fields, declarators, cases, stmts}
 use Rattle.cc_grammar.specs.RawTree as raw
 use Rattle.cc_grammar.specs.Grammar as g
@@ -14,9 +13,9 @@ use Rattle.cc_grammar.specs.Grammar.{Context, Labels, E, Elements, Field, Fields
 use Rattle.cc_grammar.proofs.MovesDerived.{own_moves, params_move, e_moves, field_moves, declarator_moves, init_moves, optional_moves, catch_moves, t_moves, body_moves}
 use Rattle.cc_scope.specs.Lists.{Name}
 use Rattle.cc_scope.specs.Marks.{Mark, names, expr_marks, exprs_marks, maybe_marks, fields_marks, vars_marks, init_marks, heading_marks, stmt_marks, stmts_marks, catch_marks, finally_marks, cases_marks, key_marks}
-use Rattle.cc_scope.specs.Resolve.{Source, all_marks}
-use Rattle.cc_scope.specs.Grammatical.{at_head, statements, loop_labels, default_clauses, has_catch, has_finally, expr_fits, exprs_fit, maybe_fits, fields_fit, vars_fit, some_vars_fit, init_fits, heading_fits, stmt_fits, stmts_fit, catch_fits, finally_fits, cases_fit}
-use Rattle.cc_scope.specs.Promises.{IsLexed, IsOfTokens, AreOfLanguage, IsOfReading}
+use Rattle.cc_scope.specs.Resolve.{all_marks}
+use Rattle.cc_scope.specs.Grammatical.{at_head, statements, loop_labels, has_catch, has_finally, expr_fits, exprs_fit, maybe_fits, fields_fit, vars_fit, some_vars_fit, init_fits, stmt_fits, stmts_fit, catch_fits, finally_fits, cases_fit}
+use Rattle.cc_scope.specs.Promises.{IsOfTokens}
 use Rattle.cc_scope.proofs.Law.{names_append}
 use Rattle.cc_scope.proofs.Declared.{in_either}
 use Rattle.cc_scope.proofs.Leaving.{Good, past, made, past_variable, skip, skip_to, Fine, nothing, site, a_fun, both, also, told, then_plain, plain_then, named_plain, key_plain, literal_exact, assigned, cast_fine, target_fine, prefix_fine, infix_fine}

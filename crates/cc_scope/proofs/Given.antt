@@ -1,17 +1,16 @@
 -- What is derived declares no refused name, and so what is read is as resolution takes it to be.
-use Rattle.std.specs.Prelude.{◌≡◌, ℕ, Bool, true, false, List, [], ◌∷◌, ◌++◌}
-use Rattle.std.proofs.Common.{refl, sym, subst, inl, inr}
+use Rattle.std.specs.Prelude.{◌≡◌, ℕ, Bool, false, List, [], ◌∷◌, ◌++◌}
+use Rattle.std.proofs.Common.{sym, subst, inl, inr}
 use Rattle.cc_meaning.specs.Alike.{In, here, there}
 use Rattle.cc_meaning.specs.Operators.{is_in}
 use Rattle.cc_meaning.specs.WellMade.{refused_names}
 use Rattle.cc_grammar.specs.Symbols.{Symbols}
 use Rattle.cc_grammar.specs.RawTree.{RawStmt, RawStmts, RawDeclarator, RawCase, RawInit, RawCatch, RawFinally, declarators, cases, stmts}
-use Rattle.cc_grammar.specs.RawTree as raw
 use Rattle.cc_grammar.specs.Grammar as g
 use Rattle.cc_grammar.specs.Grammar.{Context, Declarator, Declarators, Init, Cases, Catch, Finally, T, Body}
 use Rattle.cc_scope.specs.Lists.{Name}
 use Rattle.cc_scope.specs.Marks.{vars_declare, init_declares, heading_declares, stmt_declares, stmts_declare, catch_declares, finally_declares, cases_declare}
-use Rattle.cc_scope.specs.Resolve.{Source, all_declared}
+use Rattle.cc_scope.specs.Resolve.{all_declared}
 use Rattle.cc_scope.specs.Promises.{IsOfTokens, IsOfReading}
 use Rattle.cc_scope.proofs.Declared.{in_left, in_right, in_either}
 use Rattle.cc_scope.proofs.Contexts.{declared_kept}

@@ -1,5 +1,5 @@
 -- What tokens of the lexer leave in a tree: exact numbers, property names that are no indexes, operators that fit.
-use Rattle.std.specs.Prelude.{◌≡◌, ℕ, ℤ, zero, suc, pos, negsuc, Bool, true, false, not, ◌&&◌, cond, List, [], ◌∷◌, ◌++◌, Option, Some, None}
+use Rattle.std.specs.Prelude.{◌≡◌, zero, suc, pos, Bool, true, false, not, ◌&&◌, cond, List, [], ◌∷◌, ◌++◌, Option, Some, None}
 use Rattle.std.specs.Option.{option_map}
 use Rattle.std.proofs.Common.{refl, sym, ap, ◌∙◌, subst, inl, inr}
 use Rattle.cc_ast.specs.declared.operator.BinOp.{BinOp}
@@ -7,7 +7,7 @@ use Rattle.cc_ast.specs.declared.operator.BinOp.TheVariants as b
 use Rattle.cc_ast.specs.declared.operator.UnOp.{UnOp}
 use Rattle.cc_ast.specs.declared.operator.UnOp.TheVariants as u
 use Rattle.cc_ast.specs.declared.place.Place.{Place}
-use Rattle.cc_ast.specs.Syntax.{Prim, undefined, null, truth, whole, text}
+use Rattle.cc_ast.specs.Syntax.{Prim, null, truth, whole, text}
 use Rattle.cc_lexer.specs.declared.token.Mark.TheVariants as m
 use Rattle.cc_lexer.specs.declared.word.Word.{Word}
 use Rattle.cc_lexer.specs.declared.word.Word.TheVariants as w
