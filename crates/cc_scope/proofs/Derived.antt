@@ -15,10 +15,11 @@ use Rattle.cc_scope.specs.Lists.{Name}
 use Rattle.cc_scope.specs.Marks.{Mark, names, expr_marks, exprs_marks, maybe_marks, fields_marks, vars_marks, init_marks, heading_marks, stmt_marks, stmts_marks, catch_marks, finally_marks, cases_marks, key_marks}
 use Rattle.cc_scope.specs.Resolve.{all_marks}
 use Rattle.cc_scope.specs.Grammatical.{at_head, statements, loop_labels, has_catch, has_finally, expr_fits, exprs_fit, maybe_fits, fields_fit, vars_fit, some_vars_fit, init_fits, stmt_fits, stmts_fit, catch_fits, finally_fits, cases_fit}
-use Rattle.cc_scope.specs.Promises.{IsOfTokens}
+use Rattle.cc_scope.specs.Promises.{IsOfText}
 use Rattle.cc_scope.proofs.Law.{names_append}
 use Rattle.cc_scope.proofs.Declared.{in_either}
 use Rattle.cc_scope.proofs.Leaving.{Good, past, made, past_variable, skip, skip_to, Fine, nothing, site, a_fun, both, also, told, then_plain, plain_then, named_plain, key_plain, literal_exact, assigned, cast_fine, target_fine, prefix_fine, infix_fine}
+use Rattle.cc_scope.proofs.Lexing.{tokens_sound}
 use Rattle.cc_scope.proofs.Contexts.{same_among, Within, none, Opens, of_chunk, of_body, in_block, in_nested, in_loop, switched, in_cases, behind, in_label, own_labels, one_default}
 
 -- a `var` has declarators: as rest of them they fit too
@@ -213,15 +214,15 @@ in_tokens (real u ∷ xs) (there i) = there (in_tokens xs i)
 in_tokens (inserted ∷ xs) (there i) = in_tokens xs i
 in_tokens [] i = elim i [ ]
 
-tree_fine : (t : RawStmts) → IsOfTokens t → Fine (stmts_marks t) (stmts_fit (at_head false) [] t)
+tree_fine : (t : RawStmts) → IsOfText t → Fine (stmts_marks t) (stmts_fit (at_head false) [] t)
 tree_fine t r =
-    let all : Good r.derived.symbols = λ x i. r.lexed x (subst (λ ts. In x ts) r.derived.tokens (in_tokens r.derived.symbols i)) in
+    let all : Good r.derived.symbols = λ x i. tokens_sound r.text r.file r.tokens r.stop r.lexed x (subst (λ ts. In x ts) r.derived.tokens (in_tokens r.derived.symbols i)) in
     subst (λ z. Fine (stmts_marks z) (stmts_fit (at_head false) [] z)) (sym r.same) (body_fine (at_head false) [] all of_chunk (none []) r.derived.derives.body)
 
-pub plain_marks : (ts : List RawStmts) → ((t : RawStmts) → In t ts → IsOfTokens t) → (x : Name) → In x (names (all_marks ts)) → is_index x ≡ false
+pub plain_marks : (ts : List RawStmts) → ((t : RawStmts) → In t ts → IsOfText t) → (x : Name) → In x (names (all_marks ts)) → is_index x ≡ false
 unfolding all_marks names
 plain_marks [] r x i = elim i [ ]
 plain_marks (t ∷ ts) r x i = elim (in_either (names (stmts_marks t)) (names (all_marks ts)) (subst (λ z. In x z) (names_append (stmts_marks t) (all_marks ts)) i)) [ inl j ↦ (tree_fine t (r t here)).plain x j | inr j ↦ plain_marks ts (λ u k. r u (there k)) x j ]
 
-pub tree_fits : (t : RawStmts) → IsOfTokens t → stmts_fit (at_head false) [] t ≡ true
+pub tree_fits : (t : RawStmts) → IsOfText t → stmts_fit (at_head false) [] t ≡ true
 tree_fits t r = (tree_fine t r).fits

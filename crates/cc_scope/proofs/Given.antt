@@ -11,7 +11,7 @@ use Rattle.cc_grammar.specs.Grammar.{Context, Declarator, Declarators, Init, Cas
 use Rattle.cc_scope.specs.Lists.{Name}
 use Rattle.cc_scope.specs.Marks.{vars_declare, init_declares, heading_declares, stmt_declares, stmts_declare, catch_declares, finally_declares, cases_declare}
 use Rattle.cc_scope.specs.Resolve.{all_declared}
-use Rattle.cc_scope.specs.Promises.{IsOfTokens, IsOfReading}
+use Rattle.cc_scope.specs.Promises.{IsOfText, IsOfReading}
 use Rattle.cc_scope.proofs.Declared.{in_left, in_right, in_either}
 use Rattle.cc_scope.proofs.Contexts.{declared_kept}
 use Rattle.cc_scope.proofs.Derived.{tree_fits, plain_marks}
@@ -106,10 +106,10 @@ mutual
   body_kept g.done = none
   body_kept (g.next {a} {b} x m) = append_kept a b (t_kept x) (body_kept m)
 
-tree_kept : (t : RawStmts) → IsOfTokens t → Kept (stmts_declare t)
+tree_kept : (t : RawStmts) → IsOfText t → Kept (stmts_declare t)
 tree_kept t r = subst (λ z. Kept (stmts_declare z)) (sym r.same) (body_kept r.derived.derives.body)
 
-all_kept : (ts : List RawStmts) → ((t : RawStmts) → In t ts → IsOfTokens t) → Kept (all_declared ts)
+all_kept : (ts : List RawStmts) → ((t : RawStmts) → In t ts → IsOfText t) → Kept (all_declared ts)
 unfolding all_declared
 all_kept [] r = none
 all_kept (t ∷ ts) r = both (tree_kept t (r t here)) (all_kept ts (λ u k. r u (there k)))

@@ -1,5 +1,5 @@
 -- What tokens of the lexer leave in a tree: exact numbers, property names that are no indexes, operators that fit.
-use Rattle.std.specs.Prelude.{◌≡◌, zero, suc, pos, Bool, true, false, not, ◌&&◌, cond, List, [], ◌∷◌, ◌++◌, Option, Some, None}
+use Rattle.std.specs.Prelude.{◌≡◌, ℤ, zero, suc, pos, Bool, true, false, not, ◌&&◌, cond, List, [], ◌∷◌, ◌++◌, Option, Some, None}
 use Rattle.std.specs.Option.{option_map}
 use Rattle.std.proofs.Common.{refl, sym, ap, ◌∙◌, subst, inl, inr}
 use Rattle.cc_ast.specs.declared.operator.BinOp.{BinOp}
@@ -14,6 +14,7 @@ use Rattle.cc_lexer.specs.declared.word.Word.TheVariants as w
 use Rattle.cc_lexer.specs.Words.{spelling}
 use Rattle.cc_meaning.specs.Alike.{In, here, there}
 use Rattle.cc_meaning.specs.Names.{is_index}
+use Rattle.cc_meaning.specs.Operators.{is_exact}
 use Rattle.cc_meaning.specs.Parts.{exact_prim, assigns}
 use Rattle.cc_grammar.specs.Symbols.{Kind, Lexeme, Symbols, real}
 use Rattle.cc_grammar.specs.Symbols as k
@@ -27,11 +28,15 @@ use Rattle.cc_grammar.proofs.Moves.{Front, Moved, MovedTo}
 use Rattle.cc_scope.specs.Lists.{Name}
 use Rattle.cc_scope.specs.Marks.{Mark, a_site, a_name, a_function, names, key_marks, expr_marks, target_marks}
 use Rattle.cc_scope.specs.Grammatical.{names_variable, operand_fits, expr_fits, target_fits}
-use Rattle.cc_scope.specs.Promises.{IsLexed}
 use Rattle.cc_scope.proofs.Law.{names_append}
 use Rattle.cc_scope.proofs.Declared.{in_right, in_either}
 
 -- ---- the tokens of a list
+
+-- What a token of a text is: a number is exact, and a name is an identifier, which is no index.
+pub record IsLexed (x : Kind) : Type 0 where
+  pub exact : (z : ℤ) → x ≡ k.number z → is_exact z ≡ true
+  pub no_index : (n : Name) → x ≡ k.name n → is_index n ≡ false
 
 abbrev pub Good : Symbols → Type 0
 Good xs = (t : Lexeme) → In (real t) xs → IsLexed t.kind

@@ -1,9 +1,8 @@
 -- The tokens of a text are as the trees need them: whole literals are exact, and names begin with no digit.
-use Rattle.std.specs.Prelude.{◌≡◌, ℕ, ℤ, zero, suc, pos, ◌+◌, ◌-◌, ◌<◌, ◌/◌, ◌%◌, Bool, true, false, not, ◌&&◌, ◌||◌, ◌==◌, nat_eq, nat_le, nat_lt, cond, List, [], ◌∷◌, ◌++◌, Option, Some, None, is_none, encode_utf8_all}
+use Rattle.std.specs.Prelude.{◌≡◌, ℕ, ℤ, zero, suc, pos, ◌+◌, ◌-◌, ◌<◌, ◌/◌, ◌%◌, Bool, true, false, ◌&&◌, ◌||◌, ◌==◌, nat_eq, nat_le, nat_lt, cond, List, [], ◌∷◌, ◌++◌, Option, Some, None, is_none, encode_utf8_all}
 use Rattle.std.specs.Option.{option_map_or}
 use Rattle.std.specs.List.{list_all}
-use Rattle.std.specs.Char.Escape.{encode_utf16}
-use Rattle.std.proofs.Common.{refl, sym, ap, ◌∙◌, subst, arith, inl, inr}
+use Rattle.std.proofs.Common.{refl, sym, ◌∙◌, subst, arith, inl, inr}
 use Rattle.std.proofs.lemmas.Bool.Decides.{nat_tests}
 use Rattle.cc_ast.specs.declared.reading.Refusal.{Refusal}
 use Rattle.cc_ast.specs.declared.reading.Refusal.TheVariants as refusal
@@ -26,7 +25,7 @@ use Rattle.cc_meaning.specs.Names.{is_index}
 use Rattle.cc_meaning.specs.Operators.{is_exact}
 use Rattle.cc_grammar.specs.Symbols.{Kind, Lexeme, kind_of, stop_of, lexeme, lexemes}
 use Rattle.cc_grammar.specs.Symbols as k
-use Rattle.cc_scope.specs.Promises.{IsLexed}
+use Rattle.cc_scope.proofs.Leaving.{IsLexed}
 use Rattle.cc_scope.proofs.Declared.{in_either}
 
 -- ---- numbers

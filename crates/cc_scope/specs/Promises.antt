@@ -1,13 +1,16 @@
 -- What the laws of resolution say.
-use Rattle.std.specs.Prelude.{◌≡◌, ◌↔◌, ℕ, ℤ, zero, suc, ◌+◌, ◌^◌, ◌<◌, ◌≤◌, false, List, [], ◌∷◌, ◌++◌, length, map, slice_get, Some, None, IsTrue, IsFalse}
+use Rattle.std.specs.Prelude.{◌≡◌, ◌↔◌, ℕ, zero, suc, ◌+◌, ◌^◌, ◌<◌, ◌≤◌, false, List, [], ◌∷◌, ◌++◌, length, map, slice_get, Option, Some, None, IsTrue, IsFalse}
 use Rattle.cc_ast.specs.Syntax.{Scope, Program}
 use Rattle.cc_ast.specs.declared.place.Place.{Place}
+use Rattle.cc_ast.specs.declared.reading.Refusal.{Refusal}
 use Rattle.cc_ast.specs.declared.tables.ChunkInfo.{ChunkInfo}
 use Rattle.cc_ast.specs.declared.tables.GlobalInfo.{GlobalInfo}
 use Rattle.cc_ast.specs.declared.tables.PropInfo.{PropInfo}
 use Rattle.cc_ast.specs.declared.tables.Class.{Class}
 use Rattle.cc_ast.specs.declared.tables.SiteDoc.{SiteDoc}
-use Rattle.cc_meaning.specs.Operators.{is_in, is_exact}
+use Rattle.cc_lexer.specs.declared.token.Token.{Token}
+use Rattle.cc_lexer.specs.Lexes.{Lexed}
+use Rattle.cc_meaning.specs.Operators.{is_in}
 use Rattle.cc_meaning.specs.WellMade.{Encloses, IsDistinct, IsProp, IsClass, IsCode, IsDoc, IsOrdered, IsGlobal, ArePaths, opened, stmts_well, refused_names, WellMade}
 use Rattle.cc_meaning.specs.Names.{builtin_globals, always_kept, is_index}
 use Rattle.cc_meaning.specs.Store.{of_chunk, outer_global, global_kind}
@@ -17,8 +20,7 @@ use Rattle.cc_scope.specs.Lists.{Name}
 use Rattle.cc_scope.specs.Resolve.{Source, program_of, all_marks, all_declared}
 use Rattle.cc_scope.specs.Marks.{names, functions, sites, stmts_declare}
 use Rattle.cc_scope.specs.Refusals.{answered, refusals_of, resolve}
-use Rattle.cc_grammar.specs.Symbols.{Kind, Lexeme}
-use Rattle.cc_grammar.specs.Symbols as k
+use Rattle.cc_grammar.specs.Symbols.{lexemes}
 use Rattle.cc_grammar.specs.RawTree.{RawStmt, RawStmts, stmts}
 use Rattle.cc_grammar.specs.Fronts.{ReadsWithin}
 use Rattle.cc_scope.specs.Grammatical.{at_head, stmts_fit}
@@ -82,18 +84,16 @@ AreFew S = length S.trees + (length S.externs + 3) + length (all_declared S.tree
 abbrev pub IsWellMade : Type 0
 IsWellMade = (S : Source) (Q : Program) → Readable S → Grammatical S → AreFew S → resolve S ≡ answered Q → WellMade Q
 
--- What the lexer sees to: a number is exact, and a name is an identifier, which is no index.
-pub record IsLexed (x : Kind) : Type 0 where
-  pub exact : (z : ℤ) → x ≡ k.number z → IsTrue (is_exact z)
-  pub no_index : (n : Name) → x ≡ k.name n → IsFalse (is_index n)
-
--- A tree that the grammar derives from tokens of the lexer, with justified insertions: what reading answers.
-pub record IsOfTokens (t : RawStmts) : Type 0 where
+-- A tree that the grammar derives from the tokens of a text, with justified insertions: what reading answers.
+pub record IsOfText (t : RawStmts) : Type 0 where
+  pub text : List ℕ
+  pub file : ℕ
+  pub tokens : List Token
+  pub stop : Option Refusal
+  pub lexed : Lexed text file tokens stop
   pub height : ℕ
-  pub tokens : List Lexeme
   pub list : List RawStmt
-  pub lexed : (x : Lexeme) → In x tokens → IsLexed x.kind
-  pub derived : ReadsWithin height tokens list
+  pub derived : ReadsWithin height (lexemes false tokens stop) list
   pub same : t ≡ stmts list
 
 -- what resolution takes its trees to be
@@ -104,7 +104,7 @@ pub record AreOfLanguage (S : Source) : Type 0 where
 
 -- Trees that are read are of the language, no property name of theirs is an index, and no name that they declare is refused.
 abbrev pub IsOfReading : Type 0
-IsOfReading = (S : Source) → ((t : RawStmts) → In t S.trees → IsOfTokens t) → AreOfLanguage S
+IsOfReading = (S : Source) → ((t : RawStmts) → In t S.trees → IsOfText t) → AreOfLanguage S
 
 -- the clauses of a well made program that speak of its tables
 pub record HasTables (P : Program) : Type 0 where

@@ -24,7 +24,7 @@ pub fn resolved_is_well_made()
     ensures { IsWellMade }
 {}
 
-/// Trees that the grammar derives from tokens of the lexer are as resolution takes them to be.
+/// Trees that the grammar derives from the tokens of texts are as resolution takes them to be.
 pub fn read_trees_are_of_the_language()
     ensures { IsOfReading }
 {}
