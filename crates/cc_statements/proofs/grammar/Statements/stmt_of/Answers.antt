@@ -1,5 +1,6 @@
-use Rattle.std.proofs.Common.{◌≡◌, ◌∙◌, sym, ap, subst}
-use Rattle.cc_grammar.specs.Reading.{start_of, look_token}
+use Rattle.std.proofs.Common.{◌≡◌, ◌∙◌, sym, ap, subst, map, Ok}
+use Rattle.cc_grammar.specs.Reading.{start_of, look_token, rest_tokens}
+use Rattle.cc_raw.specs.Bridge.{raw_stmt}
 use Rattle.cc_cursor.specs.Shown as shown
 use Rattle.cc_cursor.specs.Reads.{Reads}
 use Rattle.cc_cursor.specs.ShownStarts as starts
@@ -14,11 +15,24 @@ returns-in-Vars-clause-reads g c =
     subst (λ o. Reads shown.stmts o c.vars.result c.vars.new.cursor)
     (stmt_at c.args.self.now.grammar.limits (shown.context c.args.context) c.args.cursor.now _ e) c.vars.ensures.reads
 
+pub returns-in-Empty-clause-reads : goal.returns-in-Empty-clause-reads
+returns-in-Empty-clause-reads g c =
+    let e = ap starts.shown (sym c.in-Empty.is) ∙ c.start_of-start.ensures ∙ ap start_of c.kind.ensures.shows in
+    sym (stmt_at c.args.self.now.grammar.limits (shown.context c.args.context) c.args.cursor.now _ e)
+    ∙ ap (λ found. Ok ((map raw_stmt found, 0), rest_tokens c.args.cursor.now)) (sym c.new.ensures)
+    ∙ ap (λ left. Ok (shown.stmts (c.new.result, 0), left)) (sym c.take.ensures.rest)
+
 pub returns-in-Function-clause-reads : goal.returns-in-Function-clause-reads
 returns-in-Function-clause-reads g c =
     let e = ap starts.shown (sym c.in-Function.is) ∙ c.start_of-start.ensures ∙ ap start_of c.kind.ensures.shows in
     subst (λ o. Reads shown.stmts o c.declaration.result c.declaration.new.cursor)
     (stmt_at c.args.self.now.grammar.limits (shown.context c.args.context) c.args.cursor.now _ e) c.declaration.ensures.reads
+
+pub returns-in-Name-clause-reads : goal.returns-in-Name-clause-reads
+returns-in-Name-clause-reads g c =
+    let e = ap starts.shown (sym c.in-Name.is) ∙ c.start_of-start.ensures ∙ ap start_of c.kind.ensures.shows in
+    subst (λ o. Reads shown.stmts o c.begins_with_name.result c.begins_with_name.new.cursor)
+    (stmt_at c.args.self.now.grammar.limits (shown.context c.args.context) c.args.cursor.now _ e) c.begins_with_name.ensures.reads
 
 pub returns-in-Plain-clause-reads : goal.returns-in-Plain-clause-reads
 returns-in-Plain-clause-reads g c =
