@@ -105,7 +105,11 @@ impl<
         let place = cursor.take();
         let mut declared = Items::new(self.grammar.alloc);
         let height = self.declarators(cursor, true, &mut declared)?;
-        ended(cursor, trees::vars(self.grammar.alloc, place, declared), height)
+        ended(
+            cursor,
+            trees::vars(self.grammar.alloc, place, declared),
+            height,
+        )
     }
 }
 
@@ -137,7 +141,8 @@ impl<
         cursor.take();
         let mut declared = Items::new(self.grammar.alloc);
         let height = self.declarators(cursor, false, &mut declared)?;
-        self.grammar.for_vars(cursor, context, place, (declared, height))
+        self.grammar
+            .for_vars(cursor, context, place, (declared, height))
     }
 
     /// A `for` or `for-in` behind its parenthesis.
@@ -158,7 +163,9 @@ impl<
             return self.for_declared(cursor, context, place);
         }
         if cursor.sees(Mark::Semicolon) {
-            return self.grammar.for_rest(cursor, context, place, (trees::no_init(), 0));
+            return self
+                .grammar
+                .for_rest(cursor, context, place, (trees::no_init(), 0));
         }
         self.grammar.for_valued(cursor, context, place)
     }

@@ -52,7 +52,11 @@ impl<F, G> Grammar<F, G> {
         }
         cursor.take();
         let name = name.copy_of(self.alloc)?;
-        ended(cursor, trees::make_jump(self.alloc, jump, place, Some(name)), 0)
+        ended(
+            cursor,
+            trees::make_jump(self.alloc, jump, place, Some(name)),
+            0,
+        )
     }
 
     /// A `continue`.
@@ -112,7 +116,10 @@ impl<
     {
         let labels = with_label(self.alloc, name, context.labels)?;
         let own = with_label(self.alloc, name, context.own)?;
-        self.inner_stmt(cursor, context.labelled(name, labels.as_slice(), own.as_slice()))
+        self.inner_stmt(
+            cursor,
+            context.labelled(name, labels.as_slice(), own.as_slice()),
+        )
     }
 
     /// A statement behind its label, at the colon.

@@ -167,7 +167,10 @@ impl<
         let place = cursor.take();
         let (test, h) = self.head(cursor)?;
         let (body, i) = self.loop_body(cursor, context)?;
-        sized(trees::while_loop(self.alloc, place, test, body), h.max(i) + 1)
+        sized(
+            trees::while_loop(self.alloc, place, test, body),
+            h.max(i) + 1,
+        )
     }
 
     /// What a `for` has behind its beginning.
@@ -245,7 +248,10 @@ impl<
         cursor.take();
         let ((e, body), h) = self.in_rest(cursor, context)?;
         let _depth = self.limits.depth;
-        sized(trees::for_in(self.alloc, place, target, e, body), height.max(h) + 1)
+        sized(
+            trees::for_in(self.alloc, place, target, e, body),
+            height.max(h) + 1,
+        )
     }
 
     /// A `for` behind its variables.

@@ -74,7 +74,11 @@ impl<
             return ended(cursor, trees::returned(self.grammar.alloc, place, None), 0);
         }
         let (e, height) = self.whole_expr(cursor, 0)?;
-        ended(cursor, trees::returned(self.grammar.alloc, place, Some(e)), height)
+        ended(
+            cursor,
+            trees::returned(self.grammar.alloc, place, Some(e)),
+            height,
+        )
     }
 
     /// A `throw`.

@@ -5,9 +5,8 @@ ghost use Rattle.cc_stmt.specs.ReadList.{IsLexed};
 use crate::page::Page;
 use crate::refusal::{place_of, push_stop};
 use cc_ast::reading::Refusal;
-use cc_stmt::read_list;
 use cc_lexer::token::Tokens;
-use cc_stmt::read_file;
+use cc_stmt::{read_file, read_list};
 use std::alloc::Global;
 
 // What is refused, with the file.
