@@ -14,11 +14,11 @@ use Rattle.cc_meaning.specs.Operators.{truthy, key_text}
 use Rattle.cc_meaning.specs.Store.{Access, dotted, quoted, runtime, Built, Global, extern, built_in, of_chunk, global_kind, name_of, flat_of}
 use Rattle.cc_meaning.specs.Acts.{operate_one, read_var, is_whole, runtime_key, key_given}
 use Rattle.cc_meaning.specs.Shapes.{site_of, longer, path_of, path_of_target, path_of_key, literal_text, literal_key}
-use Rattle.cc_meaning.specs.Calls.{Reach, plain, access, built_global, built_member, value_of, value, member_use, Bodies, apply_unary, delete_at, cast_reach}
+use Rattle.cc_meaning.specs.Calls.{Reach, plain, access, built_global, built_member, value_of, value, member_use, Bodies, apply_unary, delete_at, cast_reach, callee_of, apply}
 use Rattle.cc_meaning.specs.Meaning.{Place, variable_place, slot_place, reference, reach_global, reach_var, reach_member, put_key, key_by, stepped, ev, ev_target, evs, ev_fields, updated, get_place, put_place}
 use Rattle.cc_tied.specs.Tied.{built_of, built_at, RuntimeT, runtime_t, nil_t, cons_t, none_t, prim_t, out_t, obj_t, plain_t, access_t, global_t, member_t, variable_t, slot_t}
 use Rattle.cc_tied.proofs.Kit.{Kit}
-use Rattle.cc_tied.proofs.Parts.{list_on, rel_pick, truthy_tied, V, ListV, ReferenceV, ReachV, PlaceV, Done, PathT, Below, val_later, place_later, callee_later}
+use Rattle.cc_tied.proofs.Parts.{list_on, rel_pick, truthy_tied, V, ListV, ReferenceV, ReachV, PlaceV, CalleeV, Done, PathT, Below, val_later, place_later, callee_later}
 use Rattle.cc_tied.proofs.Laws.{ret_bind, bind_assoc, bind_alike}
 use Rattle.cc_tied.proofs.Judged.{rel_operate, rel_operate_one, rel_runtime_key, rel_read_this, rel_remove_on}
 use Rattle.cc_tied.proofs.Calls.{rel_get, rel_put_to, rel_put_on, rel_keep_flat, rel_value, rel_value_of, rel_callee_of, rel_apply, rel_construct}
@@ -59,6 +59,11 @@ unfolding value
 unary_values J B i op e m =
     bind_alike m _ _ (λ r. ap (λ z. z >>= λ v. ret (plain v)) (unary_on_value J B i op e r) ∙ bind_assoc (value_of J B r) (λ v. operate_one J (at_site i) op v) (λ v. ret (plain v)))
     ∙ sym (bind_assoc m (value_of J B) (λ v. operate_one J (at_site i) op v >>= λ x. ret (plain x)))
+
+-- a call: its callee with the receiver, and then its arguments
+pub call_by : (J : Mode) (B : Bodies) (g : Env) (p : Option Path) (i : ℕ) (f : Expr) (es : Exprs) → ev J B g p (call i f es) ≡ ((ev J B g None f >>= λ r. callee_of J B r) >>= λ c. evs J B g es >>= λ vs. apply J B (at_site i) c vs >>= λ v. ret (plain v))
+unfolding ev
+call_by J B g p i f es = sym (bind_assoc (ev J B g None f) (λ r. callee_of J B r) (λ c. evs J B g es >>= λ vs. apply J B (at_site i) c vs >>= λ v. ret (plain v)))
 
 module _ (K : Kit) (X : Below K) where
   open K use {J, J', tables, tables', World, Later, later, now, SpotT, FlatT, DocT, StandT, ReadT, WriteT, ThisT, QuotedT, WrittenT, read_built, NewT, new_later, new_value, KeyT, key_later, key_runtime, key_quoted, key_written, EnvT, env_later, env_this, Ctx, Rel, rel_as, rel_ret, rel_bind, rel_mark, rel_fault, rel_given, rel_tables, rel_object, rel_array, rel_function, rel_read_var, rel_write_var, rel_cast}
@@ -292,11 +297,56 @@ module _ (K : Kit) (X : Below K) where
           rel_bind (rel_apply K X (later l (later l2 (later l3 l4))) s (callee_later K l4 ft) vt) (λ v5 l5 x y r. rel_ret (plain x) (plain y) (plain_t r)))));
     }
 
+    -- two callees, with their receivers
+    pub record FollowsCallee (f f' : Expr) : Type 0 where
+      pub by : (v : World) → Later w v → (g g' : Env) → EnvT c v g g' → Rel (CalleeV K) v (ev J B g None f >>= λ r. callee_of J B r) (ev J' B' g' None f' >>= λ r. callee_of J' B' r)
+
+    pub callee_reached : {f f' : Expr} → FollowsRef c None None f f' → FollowsCallee f f'
+    callee_reached h = record { by = λ v l g g' t. rel_bind (h.by v l g g' t) (λ v2 l2 r r' q. rel_callee_of K X (later l l2) q) }
+
+    pub follows_called : {i i' : ℕ} → SpotT (at_site i) (at_site i') → {f f' : Expr} {es es' : Exprs} → FollowsCallee f f' → FollowsAll c es es' → {p p' : Option Path} → FollowsRef c p p' (call i f es) (call i' f' es')
+    follows_called {i = i} {i' = i'} s {f = f} {f' = f'} {es = es} {es' = es'} h k {p = p} {p' = p'} = record {
+      by = λ v l g g' t. rw (call_by J B g p i f es, call_by J' B' g' p' i' f' es')
+          (rel_bind (h.by v l g g' t) (λ v3 l3 f f' ft.
+          rel_bind (k.by v3 (later l l3) g g' (env_later l3 t)) (λ v4 l4 vs vs' vt.
+          rel_bind (rel_apply K X (later l (later l3 l4)) s (callee_later K l4 ft) vt) (λ v5 l5 x y r. rel_ret (plain x) (plain y) (plain_t r)))));
+    }
+
+    pub called_tick : (n : ℕ) {i i' : ℕ} {f f' : Expr} → FollowsCallee f f' → FollowsCallee (tick i n f) (tick i' n f')
+    unfolding ev
+    called_tick n {f = f} {f' = f'} h = record {
+      by = λ v l g g' t. rw (bind_assoc (J.mark n) (λ _. ev J B g None f) (λ r. callee_of J B r), bind_assoc (J'.mark n) (λ _. ev J' B' g' None f') (λ r. callee_of J' B' r))
+          (rel_bind (rel_mark n) (λ v2 l2 _ _ _. h.by v2 (later l l2) g g' (env_later l2 t)));
+    }
+
+    pub on_tick : (n : ℕ) {j j' : ℕ} {e e' : Expr} → FollowsOn e e' → FollowsOn (tick j n e) (tick j' n e')
+    unfolding ev
+    on_tick n {e = e} {e' = e'} h = record {
+      by = λ v l g g' t {i} {i'} s {p} {p'} pt {q} {q'} kt. rw (bind_assoc (J.mark n) (λ _. ev J B g None e) (λ r. reach_member J B i p q r), bind_assoc (J'.mark n) (λ _. ev J' B' g' None e') (λ r. reach_member J' B' i' p' q' r))
+          (rel_bind (rel_mark n) (λ v2 l2 _ _ _. h.by v2 (later l l2) g g' (env_later l2 t) s pt kt));
+    }
+
     -- ---- what is written to
+
+    -- places that are read and written alike from a world on, whatever they are
+    pub record Served (v : World) (a b : Place) : Type 0 where
+      pub gets : (u : World) → Later v u → (g g' : Env) → EnvT c u g g' → Rel (V K) u (get_place J B g a) (get_place J' B' g' b)
+      pub puts : (u : World) → Later v u → (g g' : Env) → EnvT c u g g' → (x y : Val) → V K u x y → Rel (Done K) u (put_place J g a x) (put_place J' g' b y)
+
+    pub data PlaceS (Reads : Ref → Ref → Type 0) (v : World) : Place → Place → Type 0 where
+      known_t : {a b : Place} → PlaceV K Reads (WriteT c) v a b → PlaceS Reads v a b
+      served_t : {a b : Place} → Served v a b → PlaceS Reads v a b
+
+    pub served_later : {u v : World} → Later u v → {a b : Place} → Served u a b → Served v a b
+    served_later l h = record { gets = λ z m. h.gets z (later l m); puts = λ z m. h.puts z (later l m) }
+
+    pub places_later : {Reads : Ref → Ref → Type 0} {u v : World} → Later u v → {a b : Place} → PlaceS Reads u a b → PlaceS Reads v a b
+    places_later l (known_t h) = known_t (place_later K l h)
+    places_later l (served_t h) = served_t (served_later l h)
 
     -- a target, whose variable is also read where Reads asks for it
     pub record FollowsTarget (Reads : Ref → Ref → Type 0) (t t' : Target) : Type 0 where
-      pub by : (v : World) → Later w v → (g g' : Env) → EnvT c v g g' → Rel (PlaceV K Reads (WriteT c)) v (ev_target J B g t) (ev_target J' B' g' t')
+      pub by : (v : World) → Later w v → (g g' : Env) → EnvT c v g g' → Rel (PlaceS Reads) v (ev_target J B g t) (ev_target J' B' g' t')
 
     -- what an assignment by an operator reads, and one without an operator doesn't
     pub data ReadsBy : Option BinOp → Ref → Ref → Type 0 where
@@ -306,17 +356,19 @@ module _ (K : Kit) (X : Below K) where
     reads_by : {op : BinOp} {r r' : Ref} → ReadsBy (Some op) r r' → ReadT c r r'
     reads_by (is_read rd) = rd
 
-    rel_get_place : {v : World} → Later w v → {g g' : Env} → EnvT c v g g' → {Reads : Ref → Ref → Type 0} → ((r r' : Ref) → Reads r r' → ReadT c r r') → {a b : Place} → PlaceV K Reads (WriteT c) v a b → Rel (V K) v (get_place J B g a) (get_place J' B' g' b)
+    rel_get_place : {v : World} → Later w v → {g g' : Env} → EnvT c v g g' → {Reads : Ref → Ref → Type 0} → ((r r' : Ref) → Reads r r' → ReadT c r r') → {a b : Place} → PlaceS Reads v a b → Rel (V K) v (get_place J B g a) (get_place J' B' g' b)
     unfolding get_place
-    rel_get_place l t reads (variable_t s rd wr) = rel_read_var s t (reads _ _ rd)
-    rel_get_place l t reads (slot_t h) = rel_get K X l h
+    rel_get_place l t reads (known_t (variable_t s rd wr)) = rel_read_var s t (reads _ _ rd)
+    rel_get_place l t reads (known_t (slot_t h)) = rel_get K X l h
+    rel_get_place {v = v} l {g = g} {g' = g'} t reads (served_t h) = h.gets v (now v) g g' t
 
-    pub rel_put_place : {Reads : Ref → Ref → Type 0} {v : World} {g g' : Env} → EnvT c v g g' → {a b : Place} {x y : Val} → PlaceV K Reads (WriteT c) v a b → V K v x y → Rel (Done K) v (put_place J g a x) (put_place J' g' b y)
+    pub rel_put_place : {Reads : Ref → Ref → Type 0} {v : World} {g g' : Env} → EnvT c v g g' → {a b : Place} {x y : Val} → PlaceS Reads v a b → V K v x y → Rel (Done K) v (put_place J g a x) (put_place J' g' b y)
     unfolding put_place
-    rel_put_place t (variable_t s rd wr) h = rel_write_var s t wr h
-    rel_put_place t (slot_t r) h = rel_put_to K X t r h
+    rel_put_place t (known_t (variable_t s rd wr)) h = rel_write_var s t wr h
+    rel_put_place t (known_t (slot_t r)) h = rel_put_to K X t r h
+    rel_put_place {v = v} {g = g} {g' = g'} t {x = x} {y = y} (served_t r) h = r.puts v (now v) g g' t x y h
 
-    rel_updated : {v : World} → Later w v → {g g' : Env} → EnvT c v g g' → {i i' : ℕ} → SpotT (at_site i) (at_site i') → (op : Option BinOp) {a b : Place} → PlaceV K (ReadsBy op) (WriteT c) v a b → {m m' : M Val} → ((u : World) → Later v u → Rel (V K) u m m') → Rel (V K) v (updated J B g i op a m) (updated J' B' g' i' op b m')
+    rel_updated : {v : World} → Later w v → {g g' : Env} → EnvT c v g g' → {i i' : ℕ} → SpotT (at_site i) (at_site i') → (op : Option BinOp) {a b : Place} → PlaceS (ReadsBy op) v a b → {m m' : M Val} → ((u : World) → Later v u → Rel (V K) u m m') → Rel (V K) v (updated J B g i op a m) (updated J' B' g' i' op b m')
     unfolding updated
     rel_updated {v = v} l t s None h k = k v (now v)
     rel_updated l t s (Some op) h k = rel_bind (rel_get_place l t (λ r r' rd. reads_by rd) h) (λ v2 l2 x x' q. rel_bind (k v2 l2) (λ v3 l3 y y' r. rel_operate K s op (val_later K l3 q) r))
@@ -327,16 +379,16 @@ module _ (K : Kit) (X : Below K) where
       by = λ v l g g' t.
           rel_bind (hu.by v l g g' t) (λ v2 l2 a b pt.
           rel_bind (rel_updated (later l l2) (env_later l2 t) s op pt (λ u lu. h.by u (later l (later l2 lu)) g g' (env_later (later l2 lu) t))) (λ v3 l3 x y q.
-          rel_bind (rel_put_place (env_later (later l2 l3) t) (place_later K l3 pt) q) (λ v4 l4 _ _ _. rel_ret (plain x) (plain y) (plain_t (val_later K l4 q)))));
+          rel_bind (rel_put_place (env_later (later l2 l3) t) (places_later l3 pt) q) (λ v4 l4 _ _ _. rel_ret (plain x) (plain y) (plain_t (val_later K l4 q)))));
     }
 
-    rel_stepped : {v : World} → Later w v → {g g' : Env} → EnvT c v g g' → {i i' : ℕ} → SpotT (at_site i) (at_site i') → (up prefix : Bool) {a b : Place} → PlaceV K (ReadT c) (WriteT c) v a b → Rel (V K) v (stepped J B g i up prefix a) (stepped J' B' g' i' up prefix b)
+    rel_stepped : {v : World} → Later w v → {g g' : Env} → EnvT c v g g' → {i i' : ℕ} → SpotT (at_site i) (at_site i') → (up prefix : Bool) {a b : Place} → PlaceS (ReadT c) v a b → Rel (V K) v (stepped J B g i up prefix a) (stepped J' B' g' i' up prefix b)
     unfolding stepped
     rel_stepped l t s up prefix h =
         rel_bind (rel_get_place l t (λ r r' rd. rd) h) (λ v2 l2 x x' q.
         rel_bind (rel_operate_one K s Plus q) (λ v3 l3 o o' r.
         rel_bind (rel_operate K s (pick up Add Sub) r prim_t) (λ v4 l4 y y' k.
-        rel_bind (rel_put_place (env_later (later l2 (later l3 l4)) t) (place_later K (later l2 (later l3 l4)) h) k) (λ v5 l5 _ _ _. chosen v5 prefix y y' o o' (val_later K l5 k) (val_later K (later l4 l5) r)))))
+        rel_bind (rel_put_place (env_later (later l2 (later l3 l4)) t) (places_later (later l2 (later l3 l4)) h) k) (λ v5 l5 _ _ _. chosen v5 prefix y y' o o' (val_later K l5 k) (val_later K (later l4 l5) r)))))
       where
         chosen : (u : World) (b : Bool) (y y' o o' : Val) → V K u y y' → V K u o o' → Rel (V K) u (ret (pick b y o)) (ret (pick b y' o'))
         chosen u true y y' o o' k r = rel_ret y y' k
@@ -348,14 +400,14 @@ module _ (K : Kit) (X : Below K) where
 
     pub target_var : {Reads : Ref → Ref → Type 0} {i i' : ℕ} → SpotT (at_site i) (at_site i') → {r r' : Ref} → Reads r r' → WriteT c r r' → FollowsTarget Reads (to_var i r) (to_var i' r')
     unfolding ev
-    target_var {i = i} {i' = i'} s {r = r} {r' = r'} rd wr = record { by = λ v l g g' t. rel_ret (variable_place i r) (variable_place i' r') (variable_t s rd wr) }
+    target_var {i = i} {i' = i'} s {r = r} {r' = r'} rd wr = record { by = λ v l g g' t. rel_ret (variable_place i r) (variable_place i' r') (known_t (variable_t s rd wr)) }
 
     pub target_member : {Reads : Ref → Ref → Type 0} {i i' : ℕ} → SpotT (at_site i) (at_site i') → {e e' : Expr} {q q' : ℕ} → PathT K (longer (path_of e) q) (longer (path_of e') q') → PropT q q' → Follows c e e' → FollowsTarget Reads (to_member i e q) (to_member i' e' q')
     unfolding ev
     target_member s pt kt h = record {
       by = λ v l g g' t.
           rel_bind (h.by v l g g' t) (λ v2 l2 o o' q.
-          rel_bind (rel_reference s pt q (kt.keys v2 (later l l2) o o' q)) (λ v3 l3 r r' rt. rel_ret (slot_place r) (slot_place r') (slot_t rt)));
+          rel_bind (rel_reference s pt q (kt.keys v2 (later l l2) o o' q)) (λ v3 l3 r r' rt. rel_ret (slot_place r) (slot_place r') (known_t (slot_t rt))));
     }
 
     pub target_index : {Reads : Ref → Ref → Type 0} {i i' : ℕ} → SpotT (at_site i) (at_site i') → {e e' k k' : Expr} → Follows c e e' → BracketsT k k' → Follows c k k' → FollowsTarget Reads (to_index i e k) (to_index i' e' k')
@@ -364,7 +416,7 @@ module _ (K : Kit) (X : Below K) where
       by = λ v l g g' t.
           rel_bind (h.by v l g g' t) (λ v2 l2 o o' q.
           rel_brackets (later l l2) (env_later l2 t) s bt hk (λ v3 l3 a b kt.
-          rel_bind (rel_reference s no_path (val_later K l3 q) (kt o)) (λ v4 l4 r r' rt. rel_ret (slot_place r) (slot_place r') (slot_t rt))));
+          rel_bind (rel_reference s no_path (val_later K l3 q) (kt o)) (λ v4 l4 r r' rt. rel_ret (slot_place r) (slot_place r') (known_t (slot_t rt)))));
     }
 
     -- ---- `new`, `delete`, casts

@@ -15,6 +15,8 @@ pub mod Sim
 pub mod Upkeep
 pub mod Runs
 pub mod Whole
+pub mod Staged
+pub mod RightAlone
 pub mod Reaching
 pub mod Valued
 pub mod Nodes

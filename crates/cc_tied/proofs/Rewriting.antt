@@ -14,7 +14,7 @@ use Rattle.cc_tied.specs.Rewrites.{put, put_call, put_on_value, re, re_target, r
 use Rattle.cc_tied.specs.Fine.{Allowed, FineRead, Fine, FineTarget, FineAll, FineFields, FineOption, FineDeclarator}
 use Rattle.cc_tied.proofs.Kit.{Kit}
 use Rattle.cc_tied.specs.Tied.{variable_t, slot_t}
-use Rattle.cc_tied.proofs.Parts.{Below, PlaceV}
+use Rattle.cc_tied.proofs.Parts.{Below}
 use Rattle.cc_tied.proofs.Expressions as E
 use Rattle.cc_tied.proofs.Valued as W
 use Rattle.cc_tied.proofs.Nodes as N
@@ -186,9 +186,10 @@ module _ (K : Kit) (X : Below K) (built : Ref → Bool) (Here : K.Ctx → Type 0
       pub data ReadWhere (b : Bool) : Ref → Ref → Type 0 where
         read_where : {r : Ref} → FineRead K.Ctx (allowed K Stands) c b r → ReadWhere b r r
 
-      place_as : {Reads Reads' : Ref → Ref → Type 0} → ((r r' : Ref) → Reads r r' → Reads' r r') → {v : K.World} {a b : M.Place} → PlaceV K Reads (K.WriteT c) v a b → PlaceV K Reads' (K.WriteT c) v a b
-      place_as f (variable_t s rd wr) = variable_t s (f _ _ rd) wr
-      place_as f (slot_t h) = slot_t h
+      place_as : {Reads Reads' : Ref → Ref → Type 0} → ((r r' : Ref) → Reads r r' → Reads' r r') → {v : K.World} {a b : M.Place} → E.PlaceS K X c Reads v a b → E.PlaceS K X c Reads' v a b
+      place_as f (E.known_t (variable_t s rd wr)) = E.known_t (variable_t s (f _ _ rd) wr)
+      place_as f (E.known_t (slot_t h)) = E.known_t (slot_t h)
+      place_as f (E.served_t h) = E.served_t h
 
       target_as : {Reads Reads' : Ref → Ref → Type 0} → ((r r' : Ref) → Reads r r' → Reads' r r') → {u u' : Target} → E.FollowsTarget K X c Reads u u' → E.FollowsTarget K X c Reads' u u'
       target_as f h = record { by = λ v l g g' t. K.rel_as (λ u lu a b q. place_as f q) (h.by v l g g' t) }

@@ -22,7 +22,7 @@ use Rattle.cc_meaning.specs.Alike as A
 use Rattle.cc_tied.specs.Tied.{OptT, none_t, ValT, variable_t, slot_t, access_t}
 use Rattle.cc_tied.proofs.Kit.{Kit}
 use Rattle.cc_tied.proofs.Laws.{bind_ret, said_none}
-use Rattle.cc_tied.proofs.Parts.{V, PlaceV, PathT, Below, callee_later}
+use Rattle.cc_tied.proofs.Parts.{V, PathT, Below, callee_later}
 use Rattle.cc_tied.proofs.Calls.{rel_apply}
 use Rattle.cc_tied.proofs.Expressions as E
 use Rattle.cc_tied.proofs.Sim.{Tie, World, Later, now, later, ResT, ok_t, ahead_t, Sim, said_t, sim_as, sim_bind, sim_ret, sim_fault}
@@ -221,7 +221,7 @@ module _ (P Q : Program) (al : Alike P Q) where
             sim_bind T ((val h).by v l g g' t) (λ v2 l2 o o' q.
             sim_bind T (bracket (later T l l2) g g' (K.env_later l2 t) hk) (λ v3 l3 y y' r.
             sim_bind T (keys_c i i' (literal_text k) (literal_text k') y y' (same_val r.0.0) r.0.1 r.1) (λ v4 l4 a b kt.
-            sim_bind T (E.rel_reference K X tt (paths_c None None) q kt) (λ v5 l5 a b h. sim_ret T (slot_place a) (slot_place b) (slot_t h)))));
+            sim_bind T (E.rel_reference K X tt (paths_c None None) q kt) (λ v5 l5 a b h. sim_ret T (slot_place a) (slot_place b) (E.known_t (slot_t h))))));
       }
 
       -- ---- signs and `void` of literals
@@ -248,9 +248,10 @@ module _ (P Q : Program) (al : Alike P Q) where
       read_by None rd = E.not_read
       read_by (Some op) rd = E.is_read rd
 
-      place_as : (op : Option BinOp) (u : W) {a b : Place} → PlaceV K (K.ReadT c) (K.WriteT c) u a b → PlaceV K (E.ReadsBy K X c op) (K.WriteT c) u a b
-      place_as op u (variable_t s rd wr) = variable_t s (read_by op rd) wr
-      place_as op u (slot_t h) = slot_t h
+      place_as : (op : Option BinOp) (u : W) {a b : Place} → E.PlaceS K X c (K.ReadT c) u a b → E.PlaceS K X c (E.ReadsBy K X c op) u a b
+      place_as op u (E.known_t (variable_t s rd wr)) = E.known_t (variable_t s (read_by op rd) wr)
+      place_as op u (E.known_t (slot_t h)) = E.known_t (slot_t h)
+      place_as op u (E.served_t h) = E.served_t h
 
       written_to : (op : Option BinOp) {t t' : Target} → E.FollowsTarget K X c (K.ReadT c) t t' → E.FollowsTarget K X c (E.ReadsBy K X c op) t t'
       written_to op h = record { by = λ v l g g' t. sim_as T (λ u lu a b q. place_as op u q) (h.by v l g g' t) }

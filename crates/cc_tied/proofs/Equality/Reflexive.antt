@@ -14,7 +14,7 @@ use Rattle.cc_meaning.specs.Shapes.{longer, path_of, path_of_ref, path_of_target
 use Rattle.cc_tied.proofs.Kit.{Kit}
 use Rattle.cc_meaning.specs.Meaning.{Place}
 use Rattle.cc_tied.specs.Tied.{variable_t, slot_t}
-use Rattle.cc_tied.proofs.Parts.{SiteT, PathT, PlaceV, Below}
+use Rattle.cc_tied.proofs.Parts.{SiteT, PathT, Below}
 use Rattle.cc_tied.proofs.Expressions as E
 use Rattle.cc_tied.proofs.Statements as S
 
@@ -53,9 +53,10 @@ module _ (K : Kit) (L : LikeT K) (X : Below K) where
     read_by None rd = E.not_read
     read_by (Some op) rd = E.is_read rd
 
-    place_as : (op : Option BinOp) {w : K.World} {a b : Place} → PlaceV K (K.ReadT c) (K.WriteT c) w a b → PlaceV K (E.ReadsBy K X c op) (K.WriteT c) w a b
-    place_as op (variable_t s rd wr) = variable_t s (read_by op rd) wr
-    place_as op (slot_t h) = slot_t h
+    place_as : (op : Option BinOp) {w : K.World} {a b : Place} → E.PlaceS K X c (K.ReadT c) w a b → E.PlaceS K X c (E.ReadsBy K X c op) w a b
+    place_as op (E.known_t (variable_t s rd wr)) = E.known_t (variable_t s (read_by op rd) wr)
+    place_as op (E.known_t (slot_t h)) = E.known_t (slot_t h)
+    place_as op (E.served_t h) = E.served_t h
 
     -- a target of an assignment is read where there is an operator
     written_to : (op : Option BinOp) {t t' : Target} → E.FollowsTarget K X c (K.ReadT c) t t' → E.FollowsTarget K X c (E.ReadsBy K X c op) t t'

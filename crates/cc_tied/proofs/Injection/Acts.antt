@@ -1,11 +1,11 @@
 -- Acts of two checked runs, where the left one excuses the right one by a broken rule; and changes of tied objects.
-use Rattle.std.proofs.Common.{◌≡◌, ◌≢◌, ◌⊎◌, inl, inr, ℕ, zero, suc, ◌<◌, Bool, true, false, List, [], ◌∷◌, ◌++◌, length, Option, Some, None, is_some, refl, sym, ap, subst, ◌∙◌, arith}
+use Rattle.std.proofs.Common.{◌≡◌, ◌≢◌, ◌⊎◌, inl, inr, ℕ, zero, suc, Bool, true, false, List, [], ◌∷◌, ◌++◌, length, Option, Some, None, is_some, refl, sym, ap, subst, ◌∙◌, arith}
 use Rattle.std.specs.Prelude.{slice_get, slice_set}
 use Rattle.cc_ast.specs.Syntax.{Prim}
 use Rattle.cc_ast.specs.declared.tables.TypeSet.{TypeSet}
 use Rattle.cc_ast.specs.declared.tables.Element.{Element}
 use Rattle.cc_meaning.specs.Values.{Val, obj, Spot}
-use Rattle.cc_meaning.specs.State.{Code, Obj, Path, State, Tables}
+use Rattle.cc_meaning.specs.State.{Code, Obj, State, Tables}
 use Rattle.cc_meaning.specs.Monad.{M, broken, over, ret, skip, stop, ◌>>=◌, after, pick}
 use Rattle.cc_meaning.specs.Store.{changed_at, change}
 use Rattle.cc_meaning.specs.Typed.{entered_in}
@@ -18,12 +18,12 @@ use Rattle.cc_tied.specs.Tied.{ListT, nil_t, cons_t, prim_t, out_t, obj_t}
 use Rattle.cc_tied.specs.Facts.{Facts}
 use Rattle.cc_tied.specs.Injection.{Pair, Both, both, Table}
 use Rattle.cc_tied.proofs.Parts.{list_as}
-use Rattle.cc_tied.proofs.Lists.{place_cases, get_set_other}
+use Rattle.cc_tied.proofs.Lists.{place_cases, get_new, get_set_other}
 use Rattle.cc_tied.proofs.Sim.{Tie, World, ResT, ok_t, broken_t, Sim, fine, sim_bind, sim_ret}
 use Rattle.cc_tied.proofs.Injection.Table.{in_cases, table_more, add_both, set_both, set_left}
 use Rattle.cc_tied.proofs.Injection.Places.{places_more}
 use Rattle.cc_tied.proofs.Injection.World.{Tabs, Ext, Mates, Mate, Mated, AllMated, mates_more, Vals, val_more, ObjT, obj_more, frame_more, known_more}
-use Rattle.cc_tied.proofs.Injection.Tie.{Owned, with_set, TiedI, inject}
+use Rattle.cc_tied.proofs.Injection.Tie.{Other, view, Owned, with_set, TiedI, inject}
 use Rattle.cc_tied.proofs.Injection.Objects.{ObjAt, obj_at, is_some_same}
 use Rattle.cc_tied.proofs.Injection.Types.{entered_both}
 
@@ -81,21 +81,40 @@ owned_set ps os o m h x j p k = owned_one ps os o m h x j p (place_cases m j) k
 pub mated_on : {ps qs : List (Pair (Option Code))} → ((p : Pair (Option Code)) → In p ps → In p qs) → {n : ℕ} → Mated ps n → Mated qs n
 mated_on f h = record { label = h.label; left = h.left; mates = f _ h.mates }
 
-mated_by : (ps : List (Pair (Option Code))) (k : ℕ) (q : Pair (Option Code)) → q.right ≡ k → AllMated ps k → (n : ℕ) → (n ≡ k) ⊎ (n ≢ k) → n < suc k → Mated (q ∷ ps) n
-mated_by ps k q e h n (inl d) l = record { label = q.label; left = q.left; mates = subst (λ z. In (record { label = q.label; left = q.left; right = z }) (q ∷ ps)) (e ∙ sym d) here }
-mated_by ps k q e h n (inr d) l = mated_on (λ p i. there i) (h n (less n k d l))
+abbrev MatedAt : List (Pair (Option Code)) → (o : Obj) → ℕ → Type 0
+MatedAt ps o n = Mated ps n ⊎ (o.chain ≡ [])
+
+pub mated_more : {ps qs : List (Pair (Option Code))} → ((p : Pair (Option Code)) → In p ps → In p qs) → (os : List Obj) → AllMated ps os → AllMated qs os
+mated_more {ps = ps} {qs = qs} f os h n o e = more (h n o e)
   where
-    less : (n k : ℕ) → n ≢ k → n < suc k → n < k
-    less n k d l = below (place_cases n k)
-      where
-        below : (n ≡ k) ⊎ (n ≢ k) → n < k
-        below (inl c) = absurd (d c)
-        below (inr c) = omega arith
+    more : MatedAt ps o n → MatedAt qs o n
+    more (inl m) = inl (mated_on f m)
+    more (inr c) = inr c
 
-pub mated_new : (ps : List (Pair (Option Code))) (os : List Obj) (q : Pair (Option Code)) (x : Obj) → q.right ≡ length os → AllMated ps (length os) → AllMated (q ∷ ps) (length (os ++ x ∷ []))
-mated_new ps os q x e h n l = mated_by ps (length os) q e h n (place_cases n (length os)) (subst (λ z. n < z) (one_longer os x) l)
+pub mated_new : (ps : List (Pair (Option Code))) (os : List Obj) (q : Pair (Option Code)) (x : Obj) → q.right ≡ length os → AllMated ps os → AllMated (q ∷ ps) (os ++ x ∷ [])
+mated_new ps os q x e h n o d = by_place (place_cases n (length os))
+  where
+    by_place : (n ≡ length os) ⊎ (n ≢ length os) → MatedAt (q ∷ ps) o n
+    by_place (inl c) = inl (record { label = q.label; left = q.left; mates = subst (λ z. In (record { label = q.label; left = q.left; right = z }) (q ∷ ps)) (e ∙ sym c) here })
+    by_place (inr c) = mated_more (λ p i. there i) os h n o (sym (get_beside os x n c) ∙ d)
 
-module _ (F : Facts) (S : Tables) (set' : List (Path × ℕ)) where
+-- the right alone makes an object with nothing on its chain
+pub mated_apart : (ps : List (Pair (Option Code))) (os : List Obj) (x : Obj) → x.chain ≡ [] → AllMated ps os → AllMated ps (os ++ x ∷ [])
+mated_apart ps os x e h n o d = by_place (place_cases n (length os))
+  where
+    by_place : (n ≡ length os) ⊎ (n ≢ length os) → MatedAt ps o n
+    by_place (inl c) = let f : slice_get (os ++ x ∷ []) n ≡ Some x = ap (λ z. slice_get (os ++ x ∷ []) z) c ∙ get_new os x in let g : Some o ≡ Some x = sym d ∙ f in let k : o ≡ x = cc in inr (ap (λ z. z.chain) k ∙ e)
+    by_place (inr c) = h n o (sym (get_beside os x n c) ∙ d)
+
+-- an object of a pair changes
+pub mated_set : (ps : List (Pair (Option Code))) (os : List Obj) (m : ℕ) (x : Obj) → Mated ps m → AllMated ps os → AllMated ps (slice_set os m x)
+mated_set ps os m x k h n o d = by_place (place_cases m n)
+  where
+    by_place : (m ≡ n) ⊎ (m ≢ n) → MatedAt ps o n
+    by_place (inl c) = inl (subst (λ z. Mated ps z) c k)
+    by_place (inr c) = h n o (sym (get_set_other os m n x c) ∙ d)
+
+module _ (F : Facts) (S : Tables) (set' : Other S) where
   abbrev R : Tables
   R = with_set S set'
 
@@ -184,18 +203,19 @@ module _ (F : Facts) (S : Tables) (set' : List (Path × ℕ)) where
         handles = list_as (λ a b o. mates_more e o) ti.handles;
         replies = ti.replies;
         budget = ti.budget;
+        extra = set'.rider.both_made (view w s t) x.code x y ti.extra;
       }
 
   pub add_t : {w : W} (x y : Obj) → ObjT F S w.w x.code x y → Sim T (λ v. Vals v.w) w (add_obj x) (add_obj y)
   unfolding add_obj ret
   add_t {w = w} x y h s t ti le le' =
       let q : Pair (Option Code) = record { label = x.code; left = length s.objs; right = length t.objs } in
-      ok_t refl (record { l = w.l; r = w.r; w = with_obj w.w q }) (omega arith, omega arith, record { ext = ext_obj w.w q; still = refl }) tt (obj_t (x.code, here)) (add_tied x y ti h) le le'
+      ok_t refl (record { l = w.l; r = w.r; w = with_obj w.w q }) (omega arith, omega arith, record { ext = ext_obj w.w q; still = refl; stage = refl }) tt (obj_t (x.code, here)) (add_tied x y ti h) le le'
 
   -- ---- tied objects change
 
-  pub with_objs : {w : Tabs} {s t : State} (os ps : List Obj) → Tied w s t → Table (ObjT F S w) (λ y a. a.code ≡ None) w.objs w.spare os ps → AllOwned w.objs os → length ps ≡ length t.objs → Tied w (record s { objs = os }) (record t { objs = ps })
-  with_objs {w = w} os ps ti h o e = record { tables = ti.tables; tables' = ti.tables'; objs = h; owned = o; mated = subst (λ z. AllMated w.objs z) (sym e) ti.mated; frames = ti.frames; globals = ti.globals; known = ti.known; loaded = ti.loaded; begun = ti.begun; failed = ti.failed; constructed = ti.constructed; handles = ti.handles; replies = ti.replies; budget = ti.budget }
+  pub with_objs : {w : Tabs} {s t : State} (os ps : List Obj) → Tied w s t → Table (ObjT F S w) (λ y a. a.code ≡ None) w.objs w.spare os ps → AllOwned w.objs os → AllMated w.objs ps → set'.rider.Rides (view w (record s { objs = os }) (record t { objs = ps })) → Tied w (record s { objs = os }) (record t { objs = ps })
+  with_objs os ps ti h o m x = record { tables = ti.tables; tables' = ti.tables'; objs = h; owned = o; mated = m; frames = ti.frames; globals = ti.globals; known = ti.known; loaded = ti.loaded; begun = ti.begun; failed = ti.failed; constructed = ti.constructed; handles = ti.handles; replies = ti.replies; budget = ti.budget; extra = x }
 
   -- both change an object
   pub change_both : {w : Tabs} {s t : State} → Tied w s t → {m n : ℕ} → Mates w m n → (f g : Obj → Obj) → ((x : Option Code) (a b : Obj) → ObjT F S w x a b → ObjT F S w x (f a) (g b)) → Tied w (change m f s) (change n g t)
@@ -203,7 +223,7 @@ module _ (F : Facts) (S : Tables) (set' : List (Path × ℕ)) where
   change_both {w = w} {s = s} {t = t} ti {m = m} {n = n} o f g keep = by_both (slice_get s.objs m) (slice_get t.objs n) refl refl (ti.objs.tied _ o.1)
     where
       by_both : (a b : Option Obj) → slice_get s.objs m ≡ a → slice_get t.objs n ≡ b → Both (ObjT F S w o.0) a b → Tied w (record s { objs = changed_at s.objs m a f }) (record t { objs = changed_at t.objs n b g })
-      by_both _ _ e d (both {a = a} {b = b} h) = with_objs _ _ ti (set_both ti.objs _ o.1 (f a) (g b) (keep o.0 a b h) a b e d) (owned_set w.objs s.objs ti.owned m (record { label = o.0; right = n; mates = o.1 }) (f a)) (set_length t.objs n (g b))
+      by_both _ _ e d (both {a = a} {b = b} h) = with_objs _ _ ti (set_both ti.objs _ o.1 (f a) (g b) (keep o.0 a b h) a b e d) (owned_set w.objs s.objs ti.owned m (record { label = o.0; right = n; mates = o.1 }) (f a)) (mated_set w.objs t.objs n (g b) (record { label = o.0; left = m; mates = o.1 }) ti.mated) (set'.rider.both_changed (view w s t) _ o.1 (f a) (g b) ti.extra)
 
   -- the left one alone changes it
   pub change_left : {w : Tabs} {s t : State} → Tied w s t → {m n : ℕ} → Mates w m n → (f : Obj → Obj) → ((x : Option Code) (a b : Obj) → ObjT F S w x a b → ObjT F S w x (f a) b) → Tied w (change m f s) t
@@ -211,7 +231,7 @@ module _ (F : Facts) (S : Tables) (set' : List (Path × ℕ)) where
   change_left {w = w} {s = s} {t = t} ti {m = m} {n = n} o f keep = by_both (slice_get s.objs m) (slice_get t.objs n) refl refl (ti.objs.tied _ o.1)
     where
       by_both : (a b : Option Obj) → slice_get s.objs m ≡ a → slice_get t.objs n ≡ b → Both (ObjT F S w o.0) a b → Tied w (record s { objs = changed_at s.objs m a f }) t
-      by_both _ _ e d (both {a = a} {b = b} h) = with_objs (slice_set s.objs m (f a)) t.objs ti (set_left ti.objs _ o.1 (f a) b (keep o.0 a b h) a e d) (owned_set w.objs s.objs ti.owned m (record { label = o.0; right = n; mates = o.1 }) (f a)) refl
+      by_both _ _ e d (both {a = a} {b = b} h) = with_objs (slice_set s.objs m (f a)) t.objs ti (set_left ti.objs _ o.1 (f a) b (keep o.0 a b h) a e d) (owned_set w.objs s.objs ti.owned m (record { label = o.0; right = n; mates = o.1 }) (f a)) ti.mated (set'.rider.left_changed (view w s t) _ o.1 (f a) ti.extra)
 
   pub change_t : {w : W} {m n : ℕ} → Mates w.w m n → (f g : Obj → Obj) → ((x : Option Code) (a b : Obj) → ObjT F S w.w x a b → ObjT F S w.w x (f a) (g b)) → Sim T Done w (changing (change m f)) (changing (change n g))
   unfolding changing change ret

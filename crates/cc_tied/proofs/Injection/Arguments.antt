@@ -1,6 +1,6 @@
 -- Arguments that stand for parameters: what the right reads of a place that is never assigned, or of a
 -- global that holds a function, it reads again wherever the argument stands.
-use Rattle.std.proofs.Common.{◌≡◌, ℕ, suc, Bool, true, false, List, [], Option, Some, None, is_some, refl, sym, ap, subst, ◌∙◌}
+use Rattle.std.proofs.Common.{◌≡◌, ℕ, suc, Bool, true, false, [], Option, Some, None, is_some, refl, sym, ap, subst, ◌∙◌}
 use Rattle.std.specs.Prelude.{slice_get}
 use Rattle.cc_ast.specs.Syntax.{Prim, var}
 use Rattle.cc_ast.specs.declared.tree.Ref.{Ref}
@@ -22,7 +22,7 @@ use Rattle.cc_tied.specs.Facts.{Level, called, Facts, outward, Above, above_here
 use Rattle.cc_tied.specs.Injection.{Pair, Both, both}
 use Rattle.cc_tied.proofs.RightRuns.{Gives, gives_broken, gives_ret}
 use Rattle.cc_tied.proofs.Injection.World.{Label, Tabs, Vals, UpT, an_up, FrameT}
-use Rattle.cc_tied.proofs.Injection.Tie.{ExtI, Given, ArgI, with_set, TiedI}
+use Rattle.cc_tied.proofs.Injection.Tie.{Other, ExtI, Given, ArgI, with_set, TiedI}
 use Rattle.cc_tied.proofs.Injection.Frames.{undefined_tied}
 
 -- ---- acts of the right
@@ -44,7 +44,7 @@ gives_judged {Q = Q} {q = q} i a m t f = by_rule (least_broken t.tables t a) ref
     by_rule None e = f e
     by_rule (Some r) e = gives_refused i (is_fatal a r) r m
 
-module _ (F : Facts) (S : Tables) (set' : List (Path × ℕ)) where
+module _ (F : Facts) (S : Tables) (set' : Other S) where
   abbrev Right : Tables
   Right = with_set S set'
 

@@ -7,7 +7,7 @@ use Rattle.cc_ast.specs.declared.operator.BinOp.TheVariants.{Instance}
 use Rattle.cc_ast.specs.declared.operator.UnOp.TheVariants.{Typeof}
 use Rattle.cc_meaning.specs.Values.{Val, prim, obj, Spot}
 use Rattle.cc_meaning.specs.Operators.{list_eq}
-use Rattle.cc_meaning.specs.State.{Slot, Code, Obj, Path, State, Tables}
+use Rattle.cc_meaning.specs.State.{Slot, Code, Obj, State, Tables}
 use Rattle.cc_meaning.specs.Monad.{ret, ◌>>=◌, after, said, pick}
 use Rattle.cc_meaning.specs.Store.{Access, dotted, quoted, runtime, name_of, drop_slot, change, has_name}
 use Rattle.cc_meaning.specs.SlotRules.{rule_if, rule_unless, object_remove, remove_rule, probe_rule, walk_rule}
@@ -20,7 +20,7 @@ use Rattle.cc_tied.specs.Tied.{ListT, nil_t, cons_t, OptT, none_t, some_t, prim_
 use Rattle.cc_tied.specs.Facts.{Facts}
 use Rattle.cc_tied.proofs.Sim.{Tie, World, Sim, fine, sim_ret}
 use Rattle.cc_tied.proofs.Injection.World.{Tabs, Mates, Vals, SlotT, ObjT}
-use Rattle.cc_tied.proofs.Injection.Tie.{KeyI, same_key, written_key, with_set, TiedI, once, inject}
+use Rattle.cc_tied.proofs.Injection.Tie.{Other, KeyI, same_key, written_key, with_set, TiedI, once, inject}
 use Rattle.cc_tied.proofs.Injection.Rules.{least_none, none_least, name_same, slots_none, walk_same}
 use Rattle.cc_tied.proofs.Injection.Objects.{has_slot_same, slots_at, chain_at, type_same, is_none_same, found_is_value, look_up_tied, chain_of_tied, slots_on_tied, names_on_same}
 use Rattle.cc_tied.proofs.Injection.Acts.{judged_i, judged_left, at_of, change_both}
@@ -39,7 +39,7 @@ module _ {O : ℕ → ℕ → Type 0} where
   slots_dropped nil_t n = nil_t
   slots_dropped (cons_t h t) n = slots_chosen _ _ (ap (λ z. list_eq z n) h.name) t (cons_t h (slots_dropped t n))
 
-module _ (F : Facts) (S : Tables) (set' : List (Path × ℕ)) where
+module _ (F : Facts) (S : Tables) (set' : Other S) where
   abbrev R : Tables
   R = with_set S set'
 

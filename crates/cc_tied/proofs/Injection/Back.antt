@@ -3,7 +3,7 @@ use Rattle.std.proofs.Common.{◌≡◌, ℕ, ◌≤◌, ◌+◌, List, [], ◌�
 use Rattle.cc_ast.specs.Syntax.{Prim, Expr, lit, var, tick, Exprs, no_exprs, more_exprs}
 use Rattle.cc_ast.specs.declared.tree.Ref.{Ref}
 use Rattle.cc_meaning.specs.Values.{Val, prim, Spot, at_site}
-use Rattle.cc_meaning.specs.State.{Env, Path, State, Tables}
+use Rattle.cc_meaning.specs.State.{Env, State, Tables}
 use Rattle.cc_meaning.specs.Monad.{seen, spent, broken, Res, ok, over, M, ret, ◌>>=◌, paid}
 use Rattle.cc_meaning.specs.Store.{Global, global_kind}
 use Rattle.cc_meaning.specs.Acts.{read_var}
@@ -20,7 +20,7 @@ use Rattle.cc_tied.proofs.RightRuns.{Gives, gives_ok, gives_spent, gives_broken,
 use Rattle.cc_tied.proofs.Sim.{Tie, World, Later, ResT, ok_t, threw_t, broken_t, short_t, ahead_t, over_t}
 use Rattle.cc_tied.proofs.Left as L
 use Rattle.cc_tied.proofs.Injection.World.{Tabs, Vals, val_more, ext_on}
-use Rattle.cc_tied.proofs.Injection.Tie.{Ctx, at, ExtI, EnvI, env_at, ArgI, arg_more, with_set, TiedI, with_budget, inject}
+use Rattle.cc_tied.proofs.Injection.Tie.{Other, Ctx, at, ExtI, EnvI, env_at, ArgI, arg_more, with_set, TiedI, with_budget, inject}
 use Rattle.cc_tied.proofs.Injection.Arguments.{Walked, PlaceRead, place_read, place_given, walk_from, walk_later}
 use Rattle.cc_tied.proofs.Injection.Globals.{GlobalRead, read_extern, read_set, global_read, global_given, Back, back_now}
 
@@ -37,7 +37,7 @@ module _ (F : Facts) (S : Tables) where
     plain_argument : {q : ℕ} {e : Expr} {es bs : Exprs} → IsArgument c e → AreArguments c q es bs → AreArguments c q (more_exprs e es) (more_exprs e bs)
     priced_argument : {i j p q : ℕ} {x : Prim} {es bs : Exprs} → AreArguments c q es bs → AreArguments c (p + q) (more_exprs (tick i p (lit j x)) es) (more_exprs (lit j x) bs)
 
-module _ (F : Facts) (S : Tables) (set' : List (Path × ℕ)) where
+module _ (F : Facts) (S : Tables) (set' : Other S) where
   abbrev Right : Tables
   Right = with_set S set'
 
@@ -146,7 +146,7 @@ module _ (F : Facts) (S : Tables) (set' : List (Path × ℕ)) where
       let b = arg_back ti r c in
       let d = args_back xs b.tied (reads_at t.budget b.ext k) (list_as (val_more b.ext.ext) cs) in record {
         world = d.world;
-        ext = record { ext = ext_on b.ext.ext d.ext.ext; still = b.ext.still ∙ d.ext.still };
+        ext = record { ext = ext_on b.ext.ext d.ext.ext; still = b.ext.still ∙ d.ext.still; stage = b.ext.stage ∙ d.ext.stage };
         tied = d.tied;
         says = more_args (arg_more F S set' d.ext b.says) d.says;
       }
@@ -155,7 +155,7 @@ module _ (F : Facts) (S : Tables) (set' : List (Path × ℕ)) where
 
   module _ {A B : Type 0} {R : W → A → B → Type 0} {Q : Tabs → A → Type 0} {P : B → Type 0} {q : ℕ} {w : W} {t : State} (f : (v : W) (s : State) (a : A) (b : B) (n : ℕ) → Later T w v → Tied v.w s (record t { budget = n }) → R v a b → P b → Back F S set' Q v.w s (record t { budget = n }) a) where
     pays_by : {v : W} {s : State} {a : A} {n : ℕ} {u : List Rattle.cc_meaning.specs.Monad.Said} → seen u ≡ seen [] → Later T w v → s.budget ≤ v.l → n ≤ v.r → paid q t.budget ≡ Some n → Back F S set' Q v.w s (record t { budget = n }) a → L.Paying T tt (λ x y. Q x.w y) q w t (ok u a s)
-    pays_by {v = v} d l le le' e k = L.paying_ok d (record { l = v.l; r = v.r; w = k.world }) (l.0, l.1, record { ext = ext_on l.2.ext k.ext.ext; still = l.2.still ∙ k.ext.still }) tt k.says e k.tied le le'
+    pays_by {v = v} d l le le' e k = L.paying_ok d (record { l = v.l; r = v.r; w = k.world }) (l.0, l.1, record { ext = ext_on l.2.ext k.ext.ext; still = l.2.still ∙ k.ext.still; stage = l.2.stage ∙ k.ext.stage }) tt k.says e k.tied le le'
 
     left_ok : {r : Res A} {b : B} {n : ℕ} → paid q t.budget ≡ Some n → P b → ResT T R w r (ok [] b (record t { budget = n })) → L.Paying T tt (λ x y. Q x.w y) q w t r
     left_ok {n = n} e p (ok_t {a = a} {b = b} {s = s} d v l st h ti le le') = pays_by {v = v} d l le le' e (f v s a b n l ti h p)

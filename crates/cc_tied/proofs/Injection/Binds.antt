@@ -4,7 +4,7 @@ use Rattle.std.specs.Prelude.{slice_get, slice_set}
 use Rattle.cc_ast.specs.Syntax.{Stmt, fun_decl, Stmts, no_stmts, more_stmts}
 use Rattle.cc_ast.specs.declared.tree.Ref.{Ref}
 use Rattle.cc_meaning.specs.Values.{Val, Spot, at_site}
-use Rattle.cc_meaning.specs.State.{Path, State, Tables}
+use Rattle.cc_meaning.specs.State.{State, Tables}
 use Rattle.cc_meaning.specs.Monad.{M, ret, stop, ◌>>=◌, after, with_tables}
 use Rattle.cc_meaning.specs.Store.{flat_option}
 use Rattle.cc_meaning.specs.Typed.{global}
@@ -27,12 +27,13 @@ use Rattle.cc_tied.proofs.Whole.{WholeT, ok_w, broken_w, Whole, Nothing, whole_o
 use Rattle.cc_tied.proofs.Injection.Table.{table_more}
 use Rattle.cc_tied.proofs.Injection.Places.{places_more, places_set}
 use Rattle.cc_tied.proofs.Injection.World.{Tabs, Ext, mates_more, Vals, val_more, FunctionAt, no_function, KnownT, function_k, unset_k, literal_k, obj_more, frame_more, known_more}
-use Rattle.cc_tied.proofs.Injection.Tie.{Ctx, at, StandI, WriteI, env_top, BindI, binds_known, with_set, TiedI, inject}
+use Rattle.cc_tied.proofs.Injection.Types.{shared_global}
+use Rattle.cc_tied.proofs.Injection.Tie.{Other, view, Ctx, at, StandI, WriteI, env_top, BindI, binds_known, with_set, TiedI, inject}
 use Rattle.cc_tied.proofs.Injection.Made.{MadeT, function_made_t, function_t}
 use Rattle.cc_tied.proofs.Injection.Frames.{write_var_t, keep_none, received_t, global_budget}
 use Rattle.cc_tied.proofs.Injection.Known.{set_cases}
 
-module _ (F : Facts) (S : Tables) (set' : List (Path × ℕ)) where
+module _ (F : Facts) (S : Tables) (set' : Other S) where
   abbrev Right : Tables
   Right = with_set S set'
 
@@ -88,9 +89,9 @@ module _ (F : Facts) (S : Tables) (set' : List (Path × ℕ)) where
   function_known {w = w} {s = s} ti n f v k u g h d (inr e) = now_still (slice_set s.globals n (Some v)) refl (subst (λ z. KnownT w w.still g h (flat_option z)) (sym (get_set_other s.globals n g (Some v) e)) (ti.known g h d))
 
   -- in a world where known globals hold what they hold now
-  function_bound : {w : Tabs} {s t : State} → Tied w s t → (n f : ℕ) {u v : Val} → MadeT w f u v → ((h : Held) → F.Known n h → h ≡ holds_function f) → Tied (with_still w (slice_set s.globals n (Some u))) (set_global n u s) (set_global n v t)
+  function_bound : {w : Tabs} {s t : State} → Tied w s t → (n f : ℕ) {u v : Val} → MadeT w f u v → ((h : Held) → F.Known n h → h ≡ holds_function f) → (set'.Foreign n → ⊥) → Tied (with_still w (slice_set s.globals n (Some u))) (set_global n u s) (set_global n v t)
   unfolding set_global
-  function_bound {w = w} {s = s} ti n f {u = u} {v = v} m k =
+  function_bound {w = w} {s = s} {t = t} ti n f {u = u} {v = v} m k fo =
       let e = ext_still w (slice_set s.globals n (Some u)) in record {
         tables = ti.tables;
         tables' = ti.tables';
@@ -107,33 +108,34 @@ module _ (F : Facts) (S : Tables) (set' : List (Path × ℕ)) where
         handles = list_as (λ a b o. mates_more e o) ti.handles;
         replies = ti.replies;
         budget = ti.budget;
+        extra = set'.rider.both_set (view w s t) n fo u v ti.extra;
       }
 
   abbrev Always : W → Type 0
   Always v = Unit {0}
 
   module _ (exact : IsExact T) where
-    keep_bound : {w : W} (i i' : Spot) (n f : ℕ) {u v : Val} → MadeT w.w f u v → ((h : Held) → F.Known n h → h ≡ holds_function f) → Whole T Always (Nothing T) w (keep checked i (global n) u (set_global n u)) (keep checked i' (global n) v (set_global n v))
+    keep_bound : {w : W} (i i' : Spot) (n f : ℕ) {u v : Val} → MadeT w.w f u v → ((h : Held) → F.Known n h → h ≡ holds_function f) → (set'.Foreign n → ⊥) → Whole T Always (Nothing T) w (keep checked i (global n) u (set_global n u)) (keep checked i' (global n) v (set_global n v))
     unfolding keep changing ret least_broken
-    keep_bound {w = w} i i' n f {u = u} {v = v} m k =
+    keep_bound {w = w} i i' n f {u = u} {v = v} m k fo =
         whole_bind T {R = λ z a b. Vals z.w u v} (λ s t ti le le'. judged_whole i i' (keeps (global n) u) (keeps (global n) v) (changing (set_global n u)) (changing (set_global n v)) ti (λ q.
         let b = global_budget F S set' n u s in let b' = global_budget F S set' n v t in
         let e = ext_still w.w (slice_set s.globals n (Some u)) in
-        (keep_none F S set' ti (global n) m.vals q, ok_w refl (record { l = w.l; r = w.r; w = with_still w.w (slice_set s.globals n (Some u)) }) (omega arith, omega arith) tt (val_more e _ _ m.vals) (function_bound ti n f m k) (omega arith) (omega arith)))) (λ z l _ _ _ h.
-        whole_of T {R = Nothing T} exact (λ z2 l2. tt) (received_t F S set' (global n) h))
+        (keep_none F S set' ti (shared_global {n = n} fo) m.vals q, ok_w refl (record { l = w.l; r = w.r; w = with_still w.w (slice_set s.globals n (Some u)) }) (omega arith, omega arith) tt (val_more e _ _ m.vals) (function_bound ti n f m k fo) (omega arith) (omega arith)))) (λ z l _ _ _ h.
+        whole_of T {R = Nothing T} exact (λ z2 l2. tt) (received_t F S set' (shared_global {n = n} fo) h))
 
-    write_bound : {w : W} (i i' : Spot) (n f : ℕ) {u v : Val} → MadeT w.w f u v → ((h : Held) → F.Known n h → h ≡ holds_function f) → Whole T Always (Nothing T) w (write_var checked i top (Ref.Global n) u) (write_var checked i' top (Ref.Global n) v)
+    write_bound : {w : W} (i i' : Spot) (n f : ℕ) {u v : Val} → MadeT w.w f u v → ((h : Held) → F.Known n h → h ≡ holds_function f) → (set'.Foreign n → ⊥) → Whole T Always (Nothing T) w (write_var checked i top (Ref.Global n) u) (write_var checked i' top (Ref.Global n) v)
     unfolding write_var
-    write_bound i i' n f m k s t ti le le' = keep_bound i i' n f m k s t ti le le'
+    write_bound i i' n f m k fo s t ti le le' = keep_bound i i' n f m k fo s t ti le le'
 
     -- a declaration of a function that is known of a global
-    pub binds_t : {w : W} (i : ℕ) {r : Ref} {f : ℕ} → StandI F (at None 0) f f → BindI F S (at None 0) r f → Whole T Always (Nothing T) w (hoist_one checked top (fun_decl i r f)) (hoist_one checked top (fun_decl i r f))
+    pub binds_t : {w : W} (i : ℕ) {r : Ref} {f : ℕ} → StandI F (at None 0) f f → BindI F S set'.Foreign (at None 0) r f → Whole T Always (Nothing T) w (hoist_one checked top (fun_decl i r f)) (hoist_one checked top (fun_decl i r f))
     unfolding hoist_one
-    binds_t i {f = f} st (binds_known {n = n} d k) =
+    binds_t i {f = f} st (binds_known {n = n} d k fo) =
         whole_bind T {R = λ v. MadeT v.w f} (whole_of T exact (λ v l. tt) (function_made_t F S set' i i st (env_top F S set' {d = []} {d' = []} (record { keeps = λ g e. e })))) (λ v l _ x y m.
-        write_bound (at_site i) (at_site i) n f m k)
+        write_bound (at_site i) (at_site i) n f m k fo)
 
-    written_t : {w : W} (i : ℕ) {r : Ref} {f : ℕ} → StandI F (at None 0) f f → WriteI F S (at None 0) r r → Sim T (Nothing T) w (hoist_one checked top (fun_decl i r f)) (hoist_one checked top (fun_decl i r f))
+    written_t : {w : W} (i : ℕ) {r : Ref} {f : ℕ} → StandI F (at None 0) f f → WriteI F S set'.Foreign (at None 0) r r → Sim T (Nothing T) w (hoist_one checked top (fun_decl i r f)) (hoist_one checked top (fun_decl i r f))
     unfolding hoist_one
     written_t i st wr = sim_bind T {R = λ v. Vals v.w} (function_t F S set' i i st (env_top F S set' {d = []} {d' = []} (record { keeps = λ g e. e }))) (λ v l x y h. write_var_t F S set' (at_site i) (at_site i) (env_top F S set' {d = []} {d' = []} (record { keeps = λ g e. e })) wr h)
 

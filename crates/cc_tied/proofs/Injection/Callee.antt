@@ -5,7 +5,7 @@ use Rattle.cc_ast.specs.Syntax.{Prim, undefined, var}
 use Rattle.cc_ast.specs.declared.tree.Ref.{Ref}
 use Rattle.cc_meaning.specs.Values.{Val, prim, obj, Spot, at_site}
 use Rattle.cc_meaning.specs.Builtins.{or_undefined}
-use Rattle.cc_meaning.specs.State.{Code, Obj, Env, Path, State, Tables}
+use Rattle.cc_meaning.specs.State.{Code, Obj, Env, State, Tables}
 use Rattle.cc_meaning.specs.Monad.{M, ret, with_tables}
 use Rattle.cc_meaning.specs.Store.{of_chunk, global_kind, flat_option}
 use Rattle.cc_meaning.specs.Rules.{callee_rule}
@@ -25,7 +25,7 @@ use Rattle.cc_tied.proofs.Sim.{Tie, World, ResT, Sim}
 use Rattle.cc_tied.proofs.Upkeep.{runs_some}
 use Rattle.cc_tied.proofs.Left as L
 use Rattle.cc_tied.proofs.Injection.World.{Tabs, Ext, Vals, ObjT, FunctionAt, no_function, a_function, KnownT, function_k}
-use Rattle.cc_tied.proofs.Injection.Tie.{with_set, TiedI, inject}
+use Rattle.cc_tied.proofs.Injection.Tie.{Other, with_set, TiedI, inject}
 use Rattle.cc_tied.proofs.Injection.Acts.{stopped_left}
 use Rattle.cc_tied.proofs.Injection.Frames.{undefined_tied}
 use Rattle.cc_tied.proofs.Injection.Arguments.{val_one}
@@ -34,7 +34,7 @@ use Rattle.cc_tied.proofs.Injection.Back.{left_pays}
 use Rattle.cc_tied.proofs.Injection.Left.{Silent}
 use Rattle.cc_tied.proofs.Injection.Upkeep.{inject_kit}
 
-module _ (F : Facts) (S : Tables) (set' : List (Path × ℕ)) where
+module _ (F : Facts) (S : Tables) (set' : Other S) where
   abbrev Right : Tables
   Right = with_set S set'
 
@@ -64,14 +64,13 @@ module _ (F : Facts) (S : Tables) (set' : List (Path × ℕ)) where
   data CalleeRead (t : State) (n c : ℕ) : Reach → Type 0 where
     callee_read : {v : Val} → GlobalRead F S set' t n (of_chunk c) v → CalleeRead t n c (plain v)
 
-  kind_same : (T : Tables) (n c : ℕ) → T ≡ Right → global_kind S n ≡ of_chunk c → global_kind T n ≡ of_chunk c
-  unfolding global_kind
-  kind_same T n c e d = ap (λ z. global_kind z n) e ∙ d
+  kind_same : (T : Tables) (n c : ℕ) → T ≡ Right → (set'.Foreign n → ⊥) → global_kind S n ≡ of_chunk c → global_kind T n ≡ of_chunk c
+  kind_same T n c e f d = ap (λ z. global_kind z n) e ∙ sym (set'.kinds n f) ∙ d
 
-  right_callee : {w : Tabs} {s t : State} → Tied w s t → (B : Bodies) (h : Env) (i n c : ℕ) → global_kind S n ≡ of_chunk c → Gives (CalleeRead t n c) 0 t (ev checked B h None (var i (Ref.Global n)) t)
+  right_callee : {w : Tabs} {s t : State} → Tied w s t → (B : Bodies) (h : Env) (i n c : ℕ) → (set'.Foreign n → ⊥) → global_kind S n ≡ of_chunk c → Gives (CalleeRead t n c) 0 t (ev checked B h None (var i (Ref.Global n)) t)
   unfolding ev reach_var with_tables read_var
-  right_callee {t = t} ti B h i n c e =
-      let d = kind_same t.tables n c ti.tables' e in
+  right_callee {t = t} ti B h i n c fo e =
+      let d = kind_same t.tables n c ti.tables' fo e in
       subst (λ z. Gives (CalleeRead t n c) 0 t (reach_global checked i h n z t)) (sym d)
       (subst (λ z. Gives (CalleeRead t n c) 0 t (z t)) (sym (reach_once F S set' h i n (of_chunk c) (λ b q. absurd (cc))))
       (gives_then (read_var checked (at_site i) h (Ref.Global n)) (λ v. ret (plain v))
@@ -93,8 +92,8 @@ module _ (F : Facts) (S : Tables) (set' : List (Path × ℕ)) where
       back_now F S set' (plain x) ti (subst (λ z. CalleeI w f (plain z)) (sym e) (callee_by (function_of (ti.known n (holds_function f) k))))
 
   -- a callee that is followed by such a global
-  pub callee_silent : {w : W} (B : Bodies) (h : Env) (i n c f : ℕ) {m : M Reach} → F.Known n (holds_function f) → (F.Unread n → ⊥) → global_kind S n ≡ of_chunk c → Sim T (ReachV K) w m (ev checked B h None (var i (Ref.Global n))) → Silent F S set' (λ v r. CalleeI v.w f r) w m
-  callee_silent {w = w} B h i n c f k u e m = record { by = λ s t ti le le'. L.alone_paid T tt (left_pays F S set' {R = ReachV K} {Q = λ u y. CalleeI u f y} {P = CalleeRead t n c} {q = 0} {w = w} {t = t} (λ v s2 r r' b l ti2 q p. callee_back n b ti2 k u p q) (right_callee ti B h i n c e) (m s t ti le le')) }
+  pub callee_silent : {w : W} (B : Bodies) (h : Env) (i n c f : ℕ) {m : M Reach} → F.Known n (holds_function f) → (F.Unread n → ⊥) → (set'.Foreign n → ⊥) → global_kind S n ≡ of_chunk c → Sim T (ReachV K) w m (ev checked B h None (var i (Ref.Global n))) → Silent F S set' (λ v r. CalleeI v.w f r) w m
+  callee_silent {w = w} B h i n c f k u fo e m = record { by = λ s t ti le le'. L.alone_paid T tt (left_pays F S set' {R = ReachV K} {Q = λ u y. CalleeI u f y} {P = CalleeRead t n c} {q = 0} {w = w} {t = t} (λ v s2 r r' b l ti2 q p. callee_back n b ti2 k u p q) (right_callee ti B h i n c fo e) (m s t ti le le')) }
 
   -- ---- its call
 

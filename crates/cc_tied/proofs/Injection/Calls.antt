@@ -4,7 +4,7 @@ use Rattle.std.specs.Prelude.{slice_get}
 use Rattle.cc_ast.specs.Syntax.{Prim}
 use Rattle.cc_ast.specs.declared.tables.TypeSet.{TypeSet}
 use Rattle.cc_meaning.specs.Values.{Val, obj, Spot}
-use Rattle.cc_meaning.specs.State.{Code, FrameKind, of_call, of_catch, Frame, Env, Path, State, Tables}
+use Rattle.cc_meaning.specs.State.{Code, FrameKind, of_call, of_catch, Frame, Env, State, Tables}
 use Rattle.cc_meaning.specs.Monad.{ret, skip, marks, with_tables}
 use Rattle.cc_meaning.specs.Store.{Access, name_of, has_name, code_class_from, class_of_function, fitted}
 use Rattle.cc_meaning.specs.Typed.{flat, class_in, of_opt_type, receiver_in, params_in, result_in, value_in, function_doc, doc_at}
@@ -23,15 +23,15 @@ use Rattle.cc_tied.proofs.Sim.{Tie, World, ResT, ok_t, Sim, fine, sim_as, sim_bi
 use Rattle.cc_tied.proofs.Injection.Table.{table_more, add_both, add_left, add_right}
 use Rattle.cc_tied.proofs.Injection.Places.{places_more, places_of_list, fitted_tied}
 use Rattle.cc_tied.proofs.Injection.World.{Label, Tabs, Ext, mates_more, Vals, val_more, opt_more, UpT, an_up, Codes, obj_more, FrameT, frame_more, known_more}
-use Rattle.cc_tied.proofs.Injection.Tie.{declares_nothing, Ctx, at, in_catch, KeyI, EnvI, env_at, env_inlined, env_nowhere, with_set, TiedI, inject}
+use Rattle.cc_tied.proofs.Injection.Tie.{Other, declares_nothing, Ctx, at, in_catch, KeyI, EnvI, env_at, env_inlined, env_nowhere, with_set, TiedI, inject}
 use Rattle.cc_tied.proofs.Injection.Rules.{least_none, none_least, unless_none, none_unless, and_true, true_and}
 use Rattle.cc_tied.proofs.Injection.Objects.{class_at, found_is_value, look_up_tied}
-use Rattle.cc_tied.proofs.Injection.Types.{function_doc_same, doc_at_same, of_opt_type_same}
+use Rattle.cc_tied.proofs.Injection.Types.{shared_flat, function_doc_same, doc_at_same, of_opt_type_same}
 use Rattle.cc_tied.proofs.Injection.Acts.{judged_i, at_of, receive_t, receive_each_t}
 use Rattle.cc_tied.proofs.Injection.Store.{name_in_states}
 use Rattle.cc_tied.proofs.Injection.Frames.{take_then, keep_at, with_frames}
 
-module _ (F : Facts) (S : Tables) (set' : List (Path × ℕ)) where
+module _ (F : Facts) (S : Tables) (set' : Other S) where
   abbrev R : Tables
   R = with_set S set'
 
@@ -73,6 +73,7 @@ module _ (F : Facts) (S : Tables) (set' : List (Path × ℕ)) where
         handles = list_as (λ m n o. mates_more e o) ti.handles;
         replies = ti.replies;
         budget = ti.budget;
+        extra = ti.extra;
       }
 
   -- the two frames stand for one another, in a later world
@@ -84,7 +85,7 @@ module _ (F : Facts) (S : Tables) (set' : List (Path × ℕ)) where
   unfolding push_frame ret marks
   push_t {w = w} x k u u' vs us h s t ti le le' =
       let p : Pair Label = record { label = x; left = length s.frames; right = length t.frames } in
-      ok_t refl (record { l = w.l; r = w.r; w = with_frame w.w p }) (omega arith, omega arith, record { ext = ext_frame w.w p; still = refl }) tt (record { pair = here; later = ext_frame w.w p }) (frame_added x (record { kind = k; up = u; values = vs }) (record { kind = k; up = u'; values = us }) ti h) le le'
+      ok_t refl (record { l = w.l; r = w.r; w = with_frame w.w p }) (omega arith, omega arith, record { ext = ext_frame w.w p; still = refl; stage = refl }) tt (record { pair = here; later = ext_frame w.w p }) (frame_added x (record { kind = k; up = u; values = vs }) (record { kind = k; up = u'; values = us }) ti h) le le'
 
   -- frames of which nothing is kept
   push_apart : {w : W} (k : FrameKind) (u u' : Option ℕ) (vs us : List (Option Val)) → Sim T (λ v m n. Unit {0}) w (push_frame k u vs) (push_frame k u' us)
@@ -139,15 +140,15 @@ module _ (F : Facts) (S : Tables) (set' : List (Path × ℕ)) where
   there_same ti out_t k = refl
   there_same {w = w} {s = s} {t = t} ti (obj_t {n = n} o) {a = a} k = found_is_value (look_up_tied F S w s.objs t.objs (at_of F S set' ti) o (name_of s.tables a)) ∙ ap (λ z. is_there t (obj n) z) (name_in_states F S set' ti k)
 
-  pub take_path_t : {w : W} (i i' : Spot) (p : ℕ × ℕ) {x y : Val} → Vals w.w x y → {a b : Access} → KeyI a b → Sim T Done w (take_path checked i (Some p) x a) (take_path checked i' (Some p) y b)
+  pub take_path_t : {w : W} (i i' : Spot) (p : ℕ × ℕ) → set'.Flat p → {x y : Val} → Vals w.w x y → {a b : Access} → KeyI a b → Sim T Done w (take_path checked i (Some p) x a) (take_path checked i' (Some p) y b)
   unfolding take_path
-  take_path_t {w = w} i i' p {x = x} v {a = a} k s t ti le le' =
+  take_path_t {w = w} i i' p fl {x = x} v {a = a} k s t ti le le' =
       subst (λ z. ResT T Done w (judged checked i (takes (flat p.0 p.1) true (is_there s x (name_of s.tables a))) skip s) (judged checked i' (takes (flat p.0 p.1) true z) skip t)) (there_same ti v k)
-      (take_then F S set' i i' (flat p.0 p.1) true skip skip refl (sim_ret T tt tt tt) s t ti le le')
+      (take_then F S set' i i' (shared_flat {g = p.0} {k = p.1} fl) true skip skip refl (sim_ret T tt tt tt) s t ti le le')
 
-  pub keep_path_t : {w : W} (i i' : Spot) (p : ℕ × ℕ) {x y : Val} → Vals w.w x y → Sim T Done w (keep_path checked i (Some p) x) (keep_path checked i' (Some p) y)
+  pub keep_path_t : {w : W} (i i' : Spot) (p : ℕ × ℕ) → set'.Flat p → {x y : Val} → Vals w.w x y → Sim T Done w (keep_path checked i (Some p) x) (keep_path checked i' (Some p) y)
   unfolding keep_path
-  keep_path_t i i' p v s t ti le le' = keep_at F S set' i i' (flat p.0 p.1) v (λ z. z) (λ z. z) ti le le' (λ z. refl) (λ z. refl) ti
+  keep_path_t i i' p fl v s t ti le le' = keep_at F S set' i i' (shared_flat {g = p.0} {k = p.1} fl) v (λ z. z) (λ z. z) ti le le' (λ z. refl) (λ z. refl) ti
 
   cast_none : {w : Tabs} {s t : State} → Tied w s t → (d : ℕ) {x y : Val} → Vals w x y → cast_rule S s d x ≡ None → cast_rule R t d y ≡ None
   unfolding cast_rule

@@ -33,11 +33,11 @@ use Rattle.cc_tied.proofs.Nodes.{SameTables, text_literal, brackets_new}
 use Rattle.cc_tied.proofs.Sim.{Tie, World, ResT, Sim, fine}
 use Rattle.cc_tied.proofs.Left as L
 use Rattle.cc_tied.proofs.Injection.World.{Tabs, ext_same}
-use Rattle.cc_tied.proofs.Injection.Tie.{Ctx, inlined, EnvI, env_inlined, ArgI, arg_more, reads_inlined, TiedI, inject}
+use Rattle.cc_tied.proofs.Injection.Tie.{Other, Ctx, inlined, EnvI, env_inlined, ArgI, arg_more, reads_inlined, TiedI, inject}
 use Rattle.cc_tied.proofs.Injection.Left.{Silent, silent_judged}
 use Rattle.cc_tied.proofs.Injection.Upkeep.{inject_kit}
 
-module _ (F : Facts) (S : Tables) (set' : List (Path × ℕ)) where
+module _ (F : Facts) (S : Tables) (set' : Other S) where
   abbrev T : Tie
   T = inject F S set'
 
@@ -85,7 +85,7 @@ module _ (F : Facts) (S : Tables) (set' : List (Path × ℕ)) where
   given_reach : {w : W} (B' : Bodies) {h : Env} {e : Expr} {x : Val} {r : Reach} (p : Option Path) → r ≡ plain x → ArgI F S set' w.w h e x → Sim T (ReachV K) w (ret r) (ev checked B' h p e)
   unfolding ret
   given_reach {w = w} B' {h = h} {e = e} {x = x} {r = r} p d a s t ti le le' =
-      let k = a.by w.w (record { ext = ext_same w.w; still = refl }) s t ti B' in
+      let k = a.by w.w (record { ext = ext_same w.w; still = refl; stage = refl }) s t ti B' in
       subst (λ z. ResT T (ReachV K) w (ok [] r s) z) (sym (k.reached p)) (subst (λ z. ResT T (ReachV K) w (ok [] z s) (ok [] (plain k.value) t)) (sym d) (fine T (plain x) (plain k.value) (plain_t k.tied) ti le le'))
 
   param_value : {w : W} (B : Bodies) (i : ℕ) (g : Env) (m n : ℕ) (fr : Frame) → g.at ≡ Some m → In (record { place = m; entry = fr }) w.w.alone → Silent F S set' (λ v x. x ≡ value_at fr n) w (value checked B (ev checked B g None (var i (Ref.Frame 0 n))))
@@ -95,7 +95,7 @@ module _ (F : Facts) (S : Tables) (set' : List (Path × ℕ)) where
   given_plain : (X : Below K) (built : Ref → Bool) {w : W} (B' : Bodies) {h : Env} {e : Expr} {x y : Val} → y ≡ x → ArgI F S set' w.w h e x → Sim T (Vd.PlainT K X built) w (ret y) (ev checked B' h None e)
   unfolding ret
   given_plain X built {w = w} B' {h = h} {e = e} {x = x} {y = y} d a s t ti le le' =
-      let k = a.by w.w (record { ext = ext_same w.w; still = refl }) s t ti B' in
+      let k = a.by w.w (record { ext = ext_same w.w; still = refl; stage = refl }) s t ti B' in
       subst (λ z. ResT T (Vd.PlainT K X built) w (ok [] y s) z) (sym (k.reached None)) (subst (λ z. ResT T (Vd.PlainT K X built) w (ok [] z s) (ok [] (plain k.value) t)) (sym d) (fine T x (plain k.value) (Vd.plain_p k.tied) ti le le'))
 
   module _ (X : Below K) (built : Ref → Bool) (same : SameTables K X built) (params : ℕ) (args : Exprs) where
@@ -131,14 +131,14 @@ module _ (F : Facts) (S : Tables) (set' : List (Path × ℕ)) where
     unary_copy i Delete h q q' = E.follows_delete K X Here (same.sites i) (h None None)
     unary_copy i op h q q' = E.follows_unary K X Here (same.sites i) op refl (as_values h)
 
-    module _ (Reads : ℕ → Type 0) (read : (n : ℕ) → Reads n → F.Unread n → ⊥) where
+    module _ (Reads : ℕ → Type 0) (read : (n : ℕ) → Reads n → (F.Unread n → ⊥) × (set'.Foreign n → ⊥)) where
       mutual
         unfolding copy in_place
 
         pub copies : {e : Expr} → IsCopyable params Reads e → Ref2 e (copy args e)
         copies (copy_lit {p = p}) q q' = E.follows_lit K X Here p
         copies (copy_param {i = i} {n = n} less) q q' = param_follows i n less q q'
-        copies (copy_global {i = i} {n = n} r) q q' = E.follows_var K X Here (same.sites i) (reads_inlined (read n r))
+        copies (copy_global {i = i} {n = n} r) q q' = E.follows_var K X Here (same.sites i) (reads_inlined (read n r).0 (read n r).1)
         copies (copy_list h) q q' = E.follows_list K X Here (copies_all h)
         copies (copy_object h) q q' = E.follows_object K X Here (copies_fields h q q')
         copies (copy_unary {i = i} {op = op} h) q q' = unary_copy i op (copies h) q q'
@@ -177,7 +177,7 @@ module _ (F : Facts) (S : Tables) (set' : List (Path × ℕ)) where
       pub copies_plain : {e : Expr} → (able : IsCopyable params Reads e) → reaches built (copy args e) ≡ false → Vd.FollowsPlain K X built Here e (copy args e)
       unfolding copy in_place reaches accesses builds variable
       copies_plain (copy_param {i = i} {n = n} less) r = param_plain i n less
-      copies_plain (copy_global {i = i} {n = n} k) r = Vd.var_plain K X built Here (same.sites i) (reads_inlined (read n k)) (same.builts (Ref.Global n) r)
+      copies_plain (copy_global {i = i} {n = n} k) r = Vd.var_plain K X built Here (same.sites i) (reads_inlined (read n k).0 (read n k).1) (same.builts (Ref.Global n) r)
       copies_plain (copy_cast {i = i} {d = d} h) r = Vd.cast_plain K X built Here (same.sites i) (same.docs d) (copies_plain h r)
       copies_plain (copy_tick {n = n} h) r = Vd.tick_plain K X built Here n (copies_plain h r)
       copies_plain (copy_member h) r = absurd (cc)

@@ -4,7 +4,7 @@ use Rattle.std.specs.Prelude.{slice_get, slice_set}
 use Rattle.cc_ast.specs.Syntax.{Expr, tick, Declarator, Stmt, simple, fun_decl, pay_stmt, Stmts, more_stmts}
 use Rattle.cc_ast.specs.declared.tree.Ref.{Ref}
 use Rattle.cc_meaning.specs.Values.{Val, Spot, at_site}
-use Rattle.cc_meaning.specs.State.{Frame, Env, Path, State, Tables}
+use Rattle.cc_meaning.specs.State.{Frame, Env, State, Tables}
 use Rattle.cc_meaning.specs.Monad.{M, ret, ◌>>=◌}
 use Rattle.cc_meaning.specs.Store.{flat_option}
 use Rattle.cc_meaning.specs.Typed.{Variable, global, local, variable_type}
@@ -30,14 +30,14 @@ use Rattle.cc_tied.proofs.Left as L
 use Rattle.cc_tied.proofs.Injection.Table.{set_left}
 use Rattle.cc_tied.proofs.Injection.Places.{places_left}
 use Rattle.cc_tied.proofs.Injection.World.{Label, Tabs, UpT, an_up, FrameT, KnownT}
-use Rattle.cc_tied.proofs.Injection.Tie.{Ctx, at, EnvI, env_at, env_more, with_set, TiedI, inject}
+use Rattle.cc_tied.proofs.Injection.Tie.{Other, view, Ctx, at, EnvI, env_at, env_more, with_set, TiedI, inject}
 use Rattle.cc_tied.proofs.Injection.Left.{Silent, silent_judged, silent_any, silent_then, silent_tables, left_function, left_receives}
 use Rattle.cc_tied.proofs.Injection.Pure.{left_pure_value}
 use Rattle.cc_tied.proofs.Injection.Frames as G
 use Rattle.cc_tied.proofs.Injection.Frames.{FrameAt, frame_there, with_frames, place_budget, global_budget}
 use Rattle.cc_tied.proofs.Injection.Upkeep.{inject_kit}
 
-module _ (F : Facts) (S : Tables) (set' : List (Path × ℕ)) where
+module _ (F : Facts) (S : Tables) (set' : Other S) where
   abbrev T : Tie
   T = inject F S set'
 
@@ -108,22 +108,22 @@ module _ (F : Facts) (S : Tables) (set' : List (Path × ℕ)) where
   known_left ti n u d g h k (inl e) = absurd (d h (subst (λ z. F.Known z h) (sym e) k))
   known_left {w = w} {s = s} ti n u d g h k (inr e) = subst (λ z. KnownT w w.still g h (flat_option z)) (sym (get_set_other s.globals n g (Some u) e)) (ti.known g h k)
 
-  global_left : {w : Tabs} {s t : State} → Tied w s t → (n : ℕ) → F.Unread n → ((h : Held) → F.Known n h → ⊥) → (u : Val) → Tied w (set_global n u s) t
+  global_left : {w : Tabs} {s t : State} → Tied w s t → (n : ℕ) → F.Unread n → (set'.Foreign n → ⊥) → ((h : Held) → F.Known n h → ⊥) → (u : Val) → Tied w (set_global n u s) t
   unfolding set_global
-  global_left ti n r d u = record { tables = ti.tables; tables' = ti.tables'; objs = ti.objs; owned = ti.owned; mated = ti.mated; frames = ti.frames; globals = places_left ti.globals n u r; known = λ g h k. known_left ti n u d g h k (place_cases n g); loaded = ti.loaded; begun = ti.begun; failed = ti.failed; constructed = ti.constructed; handles = ti.handles; replies = ti.replies; budget = ti.budget }
+  global_left {w = w} {s = s} {t = t} ti n r f d u = record { tables = ti.tables; tables' = ti.tables'; objs = ti.objs; owned = ti.owned; mated = ti.mated; frames = ti.frames; globals = places_left ti.globals n u r; known = λ g h k. known_left ti n u d g h k (place_cases n g); loaded = ti.loaded; begun = ti.begun; failed = ti.failed; constructed = ti.constructed; handles = ti.handles; replies = ti.replies; budget = ti.budget; extra = set'.rider.left_set (view w s t) n f u ti.extra }
 
-  pub left_writes_unread : {w : W} (i : Spot) (g : Env) (n : ℕ) → F.Unread n → ((h : Held) → F.Known n h → ⊥) → (u : Val) → Quiet w (write_var checked i g (Ref.Global n) u)
+  pub left_writes_unread : {w : W} (i : Spot) (g : Env) (n : ℕ) → F.Unread n → (set'.Foreign n → ⊥) → ((h : Held) → F.Known n h → ⊥) → (u : Val) → Quiet w (write_var checked i g (Ref.Global n) u)
   unfolding write_var
-  left_writes_unread i g n r d u = record { by = λ s t ti le le'. (left_keeps i (global n) u (set_global n u) (λ s t ti. global_left ti n r d u) (λ s. global_budget F S set' n u s)).by s t ti le le' }
+  left_writes_unread i g n r f d u = record { by = λ s t ti le le'. (left_keeps i (global n) u (set_global n u) (λ s t ti. global_left ti n r f d u) (λ s. global_budget F S set' n u s)).by s t ti le le' }
 
   -- what a write of the left alone goes to
   pub data Gone : Ctx → Ref → Type 0 where
     gone_place : {o : Option ℕ} {c m n : ℕ} {l : Level} → Above F S (innermost o c) m l → DeadAt F l n → (FixedAt F l n → ⊥) → Gone (at o c) (Ref.Frame m n)
-    gone_global : {c : Ctx} {n : ℕ} → F.Unread n → ((h : Held) → F.Known n h → ⊥) → Gone c (Ref.Global n)
+    gone_global : {c : Ctx} {n : ℕ} → F.Unread n → (set'.Foreign n → ⊥) → ((h : Held) → F.Known n h → ⊥) → Gone c (Ref.Global n)
 
   pub left_sets : {w : W} (i : Spot) {c : Ctx} {g h : Env} {r : Ref} → EnvI F S set' w.w c g h → Gone c r → (u : Val) → Quiet w (write_var checked i g r u)
   left_sets i e (gone_place {n = n} a d f) u = left_writes_dead i e a n d f u
-  left_sets i {g = g} e (gone_global {n = n} r d) u = left_writes_unread i g n r d u
+  left_sets i {g = g} e (gone_global {n = n} r f d) u = left_writes_unread i g n r f d u
 
   -- ---- the pairs
 

@@ -16,7 +16,7 @@ use Rattle.cc_tied.proofs.Kit.{Kit}
 use Rattle.cc_tied.proofs.Rewriting.{anything, allowed, BindsT, bound_by_write, bound_alone, SetsT, set_by_write}
 use Rattle.cc_tied.proofs.Fine.Together.{Each, Together, stmts_together}
 use Rattle.cc_tied.proofs.Fine.Scopes.{by_parts, fine_by_parts}
-use Rattle.cc_tied.proofs.Injection.Tie.{Ctx, at, in_catch, this_at, stands_at, ReadI, WriteI, writes_global, binds_known}
+use Rattle.cc_tied.proofs.Injection.Tie.{same_right, Ctx, at, in_catch, this_at, stands_at, ReadI, WriteI, writes_global, binds_known}
 use Rattle.cc_tied.proofs.Injection.Upkeep.{inject_kit}
 use Rattle.cc_tied.proofs.Injection.Facts.{part_of, parent_is, owner_chunk}
 use Rattle.cc_tied.proofs.Injection.Pass.{mention_sound, declared_sound, declared_placed, made_apart, read_sound, write_sound}
@@ -56,16 +56,16 @@ module _ (P : Program) (W : WellMade P) (function_of : ℕ → Option ℕ) (alon
   F = function_facts P function_of
 
   abbrev K : Kit
-  K = inject_kit F (tables_of P) set'
+  K = inject_kit F (tables_of P) (same_right (tables_of P) set')
 
   -- what is no known global may be written
-  write_free : {f k : ℕ} {r : Ref} → IsSound P f k r → ((n h : ℕ) → function_of n ≡ Some h → r ≡ Ref.Global n → ⊥) → WriteI F (tables_of P) (at (owner P f) k) r r
+  write_free : {f k : ℕ} {r : Ref} → IsSound P f k r → ((n h : ℕ) → function_of n ≡ Some h → r ≡ Ref.Global n → ⊥) → WriteI F (tables_of P) (λ n. ⊥) (at (owner P f) k) r r
   write_free s free = write_sound P W (HoldsKnown function_of) s (λ n h e k. none_held (λ f q. free n f q e) h k)
 
   -- a known global is bound alone, in a chunk's own list
   global_bound : (k n f : ℕ) (o : Option ℕ) → function_of n ≡ o → ((h : ℕ) → o ≡ Some h → f ≡ h) → BindsT K (at None k) (Ref.Global n) f
-  global_bound k n f None e one = bound_by_write (writes_global (none_held (λ h d. absurd (cc))))
-  global_bound k n f (Some h) e one = subst (λ z. BindsT K (at None k) (Ref.Global n) z) (sym (one h refl)) (bound_alone (binds_known (holds_known e) (one_held e)))
+  global_bound k n f None e one = bound_by_write (writes_global (none_held (λ h d. absurd (cc))) (λ z. z))
+  global_bound k n f (Some h) e one = subst (λ z. BindsT K (at None k) (Ref.Global n) z) (sym (one h refl)) (bound_alone (binds_known (holds_known e) (one_held e) (λ z. z)))
 
   bound_placed : {g k : ℕ} {r : Ref} (f : ℕ) → IsSound P g k r → IsPlaced P g k r → ((n h : ℕ) → function_of n ≡ Some h → r ≡ Ref.Global n → f ≡ h) → BindsT K (at (owner P g) k) r f
   bound_placed {g = g} {k = k} f s (placed_global n d c e) one = subst (λ z. BindsT K (at z k) (Ref.Global n) f) (sym (owner_chunk P g c)) (global_bound k n f (function_of n) refl (λ h q. one n h q refl))
@@ -82,8 +82,8 @@ module _ (P : Program) (W : WellMade P) (function_of : ℕ → Option ℕ) (alon
     together : Together (Aspect function_of) Place (asked P g) Ctx (allowed K anything) At
     together = record {
       caught = λ cs x e. ap in_catch e;
-      reads = λ cs x e r h. subst (λ z. ReadI F (tables_of P) z r r) (sym e) (read_sound P W (HoldsKnown function_of) (mention_sound P g _ r reached (part_of P W g _ (h of_parts))));
-      writes = λ cs x e r h. subst (λ z. WriteI F (tables_of P) z r r) (sym e) (write_free (sound_either _ r (h of_parts)) (λ n f q. h (of_global n f q)));
+      reads = λ cs x e r h. subst (λ z. ReadI F (tables_of P) (λ n. ⊥) z r r) (sym e) (read_sound P W (HoldsKnown function_of) (mention_sound P g _ r reached (part_of P W g _ (h of_parts))));
+      writes = λ cs x e r h. subst (λ z. WriteI F (tables_of P) (λ n. ⊥) z r r) (sym e) (write_free (sound_either _ r (h of_parts)) (λ n f q. h (of_global n f q)));
       binds = λ cs x e r f h. let p = part_of P W g _ (h of_parts) in subst (λ z. BindsT K z r f) (sym e) (bound_placed f (declared_sound P g _ r reached p) (declared_placed P g _ r p) (λ n m q. h (of_global n m q)));
       sets = λ cs x e r v h. subst (λ z. SetsT K z r v × Unit {0}) (sym e) (set_by_write (write_free (declared_sound P g _ r reached (part_of P W g _ (h of_parts))) (λ n f q. h (of_global n f q))), tt);
       this_here = λ cs x e h. subst K.ThisT (sym e) this_at;

@@ -26,12 +26,12 @@ use Rattle.cc_tied.proofs.RightRuns.{Gives, gives_broken, gives_ret}
 use Rattle.cc_tied.proofs.Injection.Table.{in_cases, table_more}
 use Rattle.cc_tied.proofs.Injection.Places.{places_more}
 use Rattle.cc_tied.proofs.Injection.World.{Tabs, Ext, ext_same, mates_more, Vals, val_more, KnownT, function_k, known_more, obj_more, frame_more}
-use Rattle.cc_tied.proofs.Injection.Tie.{ExtI, Given, ArgI, with_set, TiedI}
+use Rattle.cc_tied.proofs.Injection.Tie.{Other, ExtI, Given, ArgI, with_set, TiedI}
 use Rattle.cc_tied.proofs.Injection.Rules.{least_none, unless_none}
 use Rattle.cc_tied.proofs.Injection.Frames.{undefined_tied}
 use Rattle.cc_tied.proofs.Injection.Arguments.{judged_free, gives_judged, taken, free_of, set_same, val_one}
 
-module _ (F : Facts) (S : Tables) (set' : List (Path × ℕ)) where
+module _ (F : Facts) (S : Tables) (set' : Other S) where
   abbrev Right : Tables
   Right = with_set S set'
 
@@ -137,7 +137,7 @@ module _ (F : Facts) (S : Tables) (set' : List (Path × ℕ)) where
     pub says : Q world x
 
   pub back_now : {A : Type 0} {Q : Tabs → A → Type 0} {w : Tabs} {s t : State} (x : A) → Tied w s t → Q w x → Back Q w s t x
-  back_now {w = w} x ti q = record { world = w; ext = record { ext = ext_same w; still = refl }; tied = ti; says = q }
+  back_now {w = w} x ti q = record { world = w; ext = record { ext = ext_same w; still = refl; stage = refl }; tied = ti; says = q }
 
   abbrev with_begun : Tabs → ℕ → Tabs
   with_begun w c = record w { begun = c ∷ w.begun }
@@ -162,6 +162,7 @@ module _ (F : Facts) (S : Tables) (set' : List (Path × ℕ)) where
     handles = list_as (λ m n o. mates_more e o) ti.handles;
     replies = ti.replies;
     budget = ti.budget;
+    extra = ti.extra;
   }
     where
       by_case : (d : ℕ) → (d ≡ c) ⊎ In d w.begun → list_any (λ k. nat_eq k d) s.loaded ≡ true
@@ -187,7 +188,7 @@ module _ (F : Facts) (S : Tables) (set' : List (Path × ℕ)) where
       let free : take_rule Right (global n) true (is_some (flat_option (slice_get w.still n))) ≡ None = ap (λ z. take_rule Right (global n) true z) (sym (set_same F S set' (still_tied ti k u))) ∙ d in
       record {
         world = with_begun w c;
-        ext = record { ext = ext_begun w c; still = refl };
+        ext = record { ext = ext_begun w c; still = refl; stage = refl };
         tied = begun_now ti c (loaded_left ti c ld);
         says = record {
           by = λ z l s2 t2 ti2 B.

@@ -32,13 +32,13 @@ use Rattle.cc_tied.proofs.OneReturn.{call_value_is, plain_callee, begin_is, one_
 use Rattle.cc_tied.proofs.Sim.{Tie, World, Later, now, later, Sim, sim_as, sim_bind, sim_ret, sim_pay_less}
 use Rattle.cc_tied.proofs.Left as L
 use Rattle.cc_tied.proofs.Injection.World.{Tabs, val_more}
-use Rattle.cc_tied.proofs.Injection.Tie.{Ctx, inlined, EnvI, env_inlined, env_more, ArgI, inject}
+use Rattle.cc_tied.proofs.Injection.Tie.{Other, Ctx, inlined, EnvI, env_inlined, env_more, ArgI, inject}
 use Rattle.cc_tied.proofs.Injection.Left.{Silent, silent_judged, silent_tables, left_receives, left_receives_each, left_pushes}
 use Rattle.cc_tied.proofs.Injection.Back.{AreArguments, ArgsI, no_args, more_args, args_more, args_pay, literal_arg}
 use Rattle.cc_tied.proofs.Injection.Callee.{CalleeI, callee_unset, callee_function, callee_more, callee_silent, unset_called, function_called}
 use Rattle.cc_tied.proofs.Injection.Upkeep.{inject_kit}
 
-module _ (F : Facts) (S : Tables) (set' : List (Path × ℕ)) where
+module _ (F : Facts) (S : Tables) (set' : Other S) where
   abbrev T : Tie
   T = inject F S set'
 
@@ -130,14 +130,14 @@ module _ (F : Facts) (S : Tables) (set' : List (Path × ℕ)) where
       by_callee i u k _ (callee_function {m = m} p z) = by_value i u k (obj m) (callee_function p z)
 
       -- the call pays the price of its arguments and its own
-      pub called : (i i2 n cn : ℕ) (fe : Expr) (p : Option Path) → F.Known n (holds_function f) → (F.Unread n → ⊥) → global_kind S n ≡ of_chunk cn → E.FollowsRef K (below_of K P Q d d' w tied) c None None fe (var i2 (Ref.Global n)) → Sim T R v (value checked BP (ev checked BP g p (call i fe ls))) (pay (q + 1) >>= λ _. Target h)
+      pub called : (i i2 n cn : ℕ) (fe : Expr) (p : Option Path) → F.Known n (holds_function f) → (F.Unread n → ⊥) × (set'.Foreign n → ⊥) → global_kind S n ≡ of_chunk cn → E.FollowsRef K (below_of K P Q d d' w tied) c None None fe (var i2 (Ref.Global n)) → Sim T R v (value checked BP (ev checked BP g p (call i fe ls))) (pay (q + 1) >>= λ _. Target h)
       called i i2 n cn fe p k u e hf =
           subst (λ m. Sim T R v m (pay (q + 1) >>= λ _. Target h)) (sym (call_value_is checked BP g p i fe ls))
-          (L.rel_left T tt (callee_silent F S set' (bodies checked Q d') h i2 n cn f k u e (hf.by v l g h en)) (λ u2 k2 r cr. by_callee i u2 k2 r cr))
+          (L.rel_left T tt (callee_silent F S set' (bodies checked Q d') h i2 n cn f k u.0 u.1 e (hf.by v l g h en)) (λ u2 k2 r cr. by_callee i u2 k2 r cr))
 
   -- the pair of a call and the copy with its price, as a step over the call's parts
   module _ (P Q : Program) (f j params : ℕ) (e : Expr) (body : body_of P f ≡ more_stmts (return j (Some e)) no_stmts) (heads : (head_in (slice_get S.heads f)).0 ≡ params)
-      (built : Ref → Bool) (same : (X : Below K) → SameTables K X built) (Reads : ℕ → Type 0) (read : (n : ℕ) → Reads n → F.Unread n → ⊥) (able : IsCopyable params Reads e)
+      (built : Ref → Bool) (same : (X : Below K) → SameTables K X built) (Reads : ℕ → Type 0) (read : (n : ℕ) → Reads n → (F.Unread n → ⊥) × (set'.Foreign n → ⊥)) (able : IsCopyable params Reads e)
       (d d' : ℕ) (w : W) (ld : w.l ≤ d) (ld' : w.r ≤ d') (all : AllBodiesT K P Q w) (tied : BodiesT K w (bodies checked P d) (bodies checked Q d')) where
     abbrev X : Below K
     X = below_of K P Q d d' w tied
@@ -162,7 +162,7 @@ module _ (F : Facts) (S : Tables) (set' : List (Path × ℕ)) where
     plain_later : (u v : W) → Later T u v → (x : Val) (y : Reach) → Vd.PlainT K X built u x y → Vd.PlainT K X built v x y
     plain_later u v l x _ (Vd.plain_p h) = Vd.plain_p (val_more l.2.ext _ _ h)
 
-    module _ (c : Ctx) (i i' i2 n cn q : ℕ) (fe : Expr) (ls es bs : Exprs) (known : F.Known n (holds_function f)) (read_n : F.Unread n → ⊥) (kind : global_kind S n ≡ of_chunk cn) (callee : E.FollowsRef K X c None None fe (var i2 (Ref.Global n))) (args : E.FollowsAll K X c ls es) (marks : AreArguments F S c q es bs) where
+    module _ (c : Ctx) (i i' i2 n cn q : ℕ) (fe : Expr) (ls es bs : Exprs) (known : F.Known n (holds_function f)) (read_n : (F.Unread n → ⊥) × (set'.Foreign n → ⊥)) (kind : global_kind S n ≡ of_chunk cn) (callee : E.FollowsRef K X c None None fe (var i2 (Ref.Global n))) (args : E.FollowsAll K X c ls es) (marks : AreArguments F S c q es bs) where
       values : (p p' : Option Path) → E.FollowsAs K X (V K) c p p' (call i fe ls) (tick i' (q + 1) (copy bs e))
       values p p' = record {
         by = λ v l g h en.

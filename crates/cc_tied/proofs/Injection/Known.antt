@@ -4,9 +4,8 @@ use Rattle.std.specs.Prelude.{slice_get, slice_set}
 use Rattle.cc_ast.specs.Syntax.{Prim}
 use Rattle.cc_ast.specs.declared.tree.Ref.{Ref}
 use Rattle.cc_meaning.specs.Values.{Val, prim, Spot}
-use Rattle.cc_meaning.specs.State.{Env, Path, State, Tables}
+use Rattle.cc_meaning.specs.State.{Env, State, Tables}
 use Rattle.cc_meaning.specs.Store.{flat_option}
-use Rattle.cc_meaning.specs.Typed.{global}
 use Rattle.cc_meaning.specs.Acts.{set_global, write_var}
 use Rattle.cc_meaning.specs.Script.{checked}
 use Rattle.cc_tied.specs.Tied.{prim_t}
@@ -15,7 +14,8 @@ use Rattle.cc_tied.proofs.Lists.{place_cases, get_set_other}
 use Rattle.cc_tied.proofs.Sim.{Tie, World, Sim}
 use Rattle.cc_tied.proofs.Injection.Places.{places_set}
 use Rattle.cc_tied.proofs.Injection.World.{Tabs, KnownT, unset_k, literal_k}
-use Rattle.cc_tied.proofs.Injection.Tie.{Ctx, EnvI, SetI, sets_known, TiedI, inject}
+use Rattle.cc_tied.proofs.Injection.Types.{shared_global}
+use Rattle.cc_tied.proofs.Injection.Tie.{Other, view, Ctx, EnvI, SetI, sets_known, TiedI, inject}
 use Rattle.cc_tied.proofs.Injection.Frames.{keep_at, global_budget}
 
 -- a place that was set, or is beyond the end
@@ -25,7 +25,7 @@ set_cases [] n x = inr refl
 set_cases (y ∷ xs) zero x = inl refl
 set_cases (y ∷ xs) (suc n) x = set_cases xs n x
 
-module _ (F : Facts) (S : Tables) (set' : List (Path × ℕ)) where
+module _ (F : Facts) (S : Tables) (set' : Other S) where
   abbrev T : Tie
   T = inject F S set'
 
@@ -50,10 +50,10 @@ module _ (F : Facts) (S : Tables) (set' : List (Path × ℕ)) where
       rw (d, ← e) (literal_here (set_cases s.globals n (prim p)))
   literal_known {w = w} {s = s} ti n p u g h k (inr e) = subst (λ z. KnownT w w.still g h (flat_option z)) (sym (get_set_other s.globals n g (Some (prim p)) e)) (ti.known g h k)
 
-  literal_set : {w : Tabs} {s t : State} → Tied w s t → (n : ℕ) (p : Prim) → ((h : Held) → F.Known n h → h ≡ holds_literal p) → Tied w (set_global n (prim p) s) (set_global n (prim p) t)
+  literal_set : {w : Tabs} {s t : State} → Tied w s t → (n : ℕ) (p : Prim) → ((h : Held) → F.Known n h → h ≡ holds_literal p) → (set'.Foreign n → ⊥) → Tied w (set_global n (prim p) s) (set_global n (prim p) t)
   unfolding set_global
-  literal_set ti n p u = record { tables = ti.tables; tables' = ti.tables'; objs = ti.objs; owned = ti.owned; mated = ti.mated; frames = ti.frames; globals = places_set ti.globals n prim_t; known = λ g h k. literal_known ti n p u g h k (place_cases n g); loaded = ti.loaded; begun = ti.begun; failed = ti.failed; constructed = ti.constructed; handles = ti.handles; replies = ti.replies; budget = ti.budget }
+  literal_set {w = w} {s = s} {t = t} ti n p u f = record { tables = ti.tables; tables' = ti.tables'; objs = ti.objs; owned = ti.owned; mated = ti.mated; frames = ti.frames; globals = places_set ti.globals n prim_t; known = λ g h k. literal_known ti n p u g h k (place_cases n g); loaded = ti.loaded; begun = ti.begun; failed = ti.failed; constructed = ti.constructed; handles = ti.handles; replies = ti.replies; budget = ti.budget; extra = set'.rider.both_set (view w s t) n f (prim p) (prim p) ti.extra }
 
-  pub set_known_t : {w : W} (i i' : Spot) {c : Ctx} {g h : Env} {r : Ref} {p : Prim} → EnvI F S set' w.w c g h → SetI F S c r p → Sim T Done w (write_var checked i g r (prim p)) (write_var checked i' h r (prim p))
+  pub set_known_t : {w : W} (i i' : Spot) {c : Ctx} {g h : Env} {r : Ref} {p : Prim} → EnvI F S set' w.w c g h → SetI F S set'.Foreign c r p → Sim T Done w (write_var checked i g r (prim p)) (write_var checked i' h r (prim p))
   unfolding write_var
-  set_known_t i i' {p = p} e (sets_known {n = n} k u) s t ti le le' = keep_at F S set' i i' (global n) prim_t (set_global n (prim p)) (set_global n (prim p)) ti le le' (global_budget F S set' n (prim p)) (global_budget F S set' n (prim p)) (literal_set ti n p u)
+  set_known_t i i' {p = p} e (sets_known {n = n} k u f) s t ti le le' = keep_at F S set' i i' (shared_global {n = n} f) prim_t (set_global n (prim p)) (set_global n (prim p)) ti le le' (global_budget F S set' n (prim p)) (global_budget F S set' n (prim p)) (literal_set ti n p u f)

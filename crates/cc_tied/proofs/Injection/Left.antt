@@ -5,7 +5,7 @@ use Rattle.cc_ast.specs.Syntax.{Prim}
 use Rattle.cc_ast.specs.declared.tables.TypeSet.{TypeSet}
 use Rattle.cc_ast.specs.declared.tables.Element.{Element}
 use Rattle.cc_meaning.specs.Values.{Val, prim, obj, out, Spot}
-use Rattle.cc_meaning.specs.State.{Kind, Code, Obj, bare, FrameKind, of_own_name, Frame, Env, Path, State, Tables}
+use Rattle.cc_meaning.specs.State.{Kind, Code, Obj, bare, FrameKind, of_own_name, Frame, Env, State, Tables}
 use Rattle.cc_meaning.specs.Monad.{M, Res, broken, ret, stop, ◌>>=◌, after, said, with_tables, pick}
 use Rattle.cc_meaning.specs.Store.{flat_option, Access, name_of, kind_for, find_slot, change, changed_at, put_own, put_by, put_in_array}
 use Rattle.cc_meaning.specs.Names.{index_value, name_prototype}
@@ -24,9 +24,9 @@ use Rattle.cc_tied.proofs.Left as L
 use Rattle.cc_tied.proofs.Injection.Table.{fresh_left, table_more, add_left, add_lone, set_lone, set_any}
 use Rattle.cc_tied.proofs.Injection.Places.{places_more}
 use Rattle.cc_tied.proofs.Injection.World.{Tabs, Ext, ext_same, KnownT, Mate, mates_more, val_more, ObjT, obj_more, FrameT, frame_more, known_more}
-use Rattle.cc_tied.proofs.Injection.Tie.{Owned, TiedI, inject}
+use Rattle.cc_tied.proofs.Injection.Tie.{Other, view, Owned, TiedI, inject}
 use Rattle.cc_tied.proofs.Injection.Types.{entered_old}
-use Rattle.cc_tied.proofs.Injection.Acts.{get_beside, one_longer, set_length, AllOwned, mated_on, with_objs}
+use Rattle.cc_tied.proofs.Injection.Acts.{get_beside, one_longer, set_length, AllOwned, mated_more, with_objs}
 
 -- ---- prototypes of functions, where the left alone makes an object or changes one
 
@@ -69,7 +69,7 @@ owned_change ps os a n o x e d m p (inr i) k = owned_shorter ps os (slice_set os
 pub owned_any : (ps : List (Pair (Option Code))) (os : List Obj) → AllOwned ps os → (n : ℕ) (o x : Obj) → slice_get os n ≡ Some o → prototype_of_function (Some x) ≡ prototype_of_function (Some o) → AllOwned ps (slice_set os n x)
 owned_any ps os a n o x e d m p k = owned_change ps os a n o x e d m p (place_cases n m) k
 
-module _ (F : Facts) (S : Tables) (set' : List (Path × ℕ)) where
+module _ (F : Facts) (S : Tables) (set' : Other S) where
   abbrev T : Tie
   T = inject F S set'
 
@@ -149,13 +149,13 @@ module _ (F : Facts) (S : Tables) (set' : List (Path × ℕ)) where
   ext_spare w n = record { objs = λ q h. h; frames = λ q h. h; spare = λ q h. there h; alone = λ q h. h; begun = λ c h. h }
 
   -- the same state in a world with more of the left alone
-  in_more : {v w : Tabs} {s t : State} → Ext v w → v.still ≡ w.still → v.begun ≡ w.begun → Tied v s t → (os : List Obj) (fs : List Frame) → Table (ObjT F S w) (λ y a. a.code ≡ None) w.objs w.spare os t.objs → AllOwned w.objs os → Table (FrameT F S w) (λ y a. a ≡ y) w.frames w.alone fs t.frames → Tied w (record s { objs = os; frames = fs }) t
-  in_more {w = w} {s = s} e d b ti os fs objs owned frames = record {
+  in_more : {v w : Tabs} {s t : State} → Ext v w → v.still ≡ w.still → v.begun ≡ w.begun → Tied v s t → (os : List Obj) (fs : List Frame) → Table (ObjT F S w) (λ y a. a.code ≡ None) w.objs w.spare os t.objs → AllOwned w.objs os → Table (FrameT F S w) (λ y a. a ≡ y) w.frames w.alone fs t.frames → set'.rider.Rides (view w (record s { objs = os; frames = fs }) t) → Tied w (record s { objs = os; frames = fs }) t
+  in_more {w = w} {s = s} e d b ti os fs objs owned frames x = record {
     tables = ti.tables;
     tables' = ti.tables';
     objs = objs;
     owned = owned;
-    mated = λ n l. mated_on e.objs (ti.mated n l);
+    mated = mated_more e.objs _ ti.mated;
     frames = frames;
     globals = places_more (val_more e) ti.globals;
     known = λ g h k. subst (λ z. KnownT w z g h (flat_option (slice_get s.globals g))) d (known_more e (ti.known g h k));
@@ -166,16 +166,17 @@ module _ (F : Facts) (S : Tables) (set' : List (Path × ℕ)) where
     handles = list_as (λ m n o. mates_more e o) ti.handles;
     replies = ti.replies;
     budget = ti.budget;
+    extra = x;
   }
 
   spare_added : {w : Tabs} {s t : State} (x : Obj) → x.code ≡ None → Tied w s t → Tied (with_spare w (length s.objs)) (record s { objs = s.objs ++ x ∷ [] }) t
-  spare_added {w = w} {s = s} x c ti =
+  spare_added {w = w} {s = s} {t = t} x c ti =
       let e = ext_spare w (length s.objs) in
-      in_more e refl refl ti (s.objs ++ x ∷ []) s.frames (add_lone (table_more ti.objs (obj_more F S e)) tt x c) (owned_left w.objs s.objs x (no_code_lonely w.objs s.objs x c) ti.owned) (table_more ti.frames (frame_more F S e))
+      in_more e refl refl ti (s.objs ++ x ∷ []) s.frames (add_lone (table_more ti.objs (obj_more F S e)) tt x c) (owned_left w.objs s.objs x (no_code_lonely w.objs s.objs x c) ti.owned) (table_more ti.frames (frame_more F S e)) (set'.rider.spare_made (view w s t) x ti.extra)
 
   pub left_adds : {w : W} (x : Obj) → x.code ≡ None → Silent (λ v y. Spare v.w y) w (add_obj x)
   unfolding add_obj ret
-  left_adds {w = w} x c = record { by = λ s t ti le le'. L.alone_ok refl (record { l = w.l; r = w.r; w = with_spare w.w (length s.objs) }) (omega arith, omega arith, record { ext = ext_spare w.w (length s.objs); still = refl }) tt (spare here) (spare_added x c ti) le le' }
+  left_adds {w = w} x c = record { by = λ s t ti le le'. L.alone_ok refl (record { l = w.l; r = w.r; w = with_spare w.w (length s.objs) }) (omega arith, omega arith, record { ext = ext_spare w.w (length s.objs); still = refl; stage = refl }) tt (spare here) (spare_added x c ti) le le' }
 
   pub left_object : {w : W} → Silent (λ v y. Spare v.w y) w make_object
   unfolding make_object
@@ -202,7 +203,10 @@ module _ (F : Facts) (S : Tables) (set' : List (Path × ℕ)) where
       )
 
   function_left : {w : Tabs} {s t : State} (c : Code) (fs : List Frame) → Tied w s t → Table (FrameT F S w) (λ y a. a ≡ y) w.frames w.alone fs t.frames → Tied w (record s { objs = s.objs ++ bare ∷ function_object c (length s.objs) ∷ []; frames = fs }) t
-  function_left {w = w} {s = s} c fs ti h = let k = left_two ti c in in_more (ext_same w) refl refl ti (s.objs ++ bare ∷ function_object c (length s.objs) ∷ []) fs k.0 k.1 h
+  function_left {w = w} {s = s} {t = t} c fs ti h =
+      let k = left_two ti c in
+      in_more (ext_same w) refl refl ti (s.objs ++ bare ∷ function_object c (length s.objs) ∷ []) fs k.0 k.1 h
+      (subst (λ z. set'.rider.Rides (view w (record s { objs = z }) t)) (append_assoc s.objs (bare ∷ []) (function_object c (length s.objs) ∷ [])) (set'.rider.left_made _ (function_object c (length s.objs)) (set'.rider.left_made (view w s t) bare ti.extra)))
 
   left_function_by : {w : W} (b : Bool) (f i : ℕ) (u : Option ℕ) → Silent Any w (add_function_by b f i u)
   unfolding add_function_by add_function push_frame ret ◌>>=◌ after said
@@ -216,13 +220,13 @@ module _ (F : Facts) (S : Tables) (set' : List (Path × ℕ)) where
   -- ---- objects that the left alone changes
 
   -- whichever object it is
-  any_changes : {w : Tabs} {s t : State} (n : ℕ) (f : Obj → Obj) → ((x : Option Code) (a b : Obj) → ObjT F S w x a b → ObjT F S w x (f a) b) → ((a : Obj) → (f a).code ≡ a.code) → ((a : Obj) → prototype_of_function (Some (f a)) ≡ prototype_of_function (Some a)) → Tied w s t → Tied w (change n f s) t
+  any_changes : {w : Tabs} {s t : State} (n : ℕ) (f : Obj → Obj) → ((x : Option Code) (a b : Obj) → ObjT F S w x a b → ObjT F S w x (f a) b) → ((a : Obj) → (f a).code ≡ a.code) → ((a : Obj) → f a ≡ record a { wanted = (f a).wanted }) → ((a : Obj) → prototype_of_function (Some (f a)) ≡ prototype_of_function (Some a)) → Tied w s t → Tied w (change n f s) t
   unfolding change changed_at
-  any_changes {w = w} {s = s} {t = t} n f keep code owner ti = by_object (slice_get s.objs n) refl
+  any_changes {w = w} {s = s} {t = t} n f keep code slots owner ti = by_object (slice_get s.objs n) refl
     where
       by_object : (o : Option Obj) → slice_get s.objs n ≡ o → Tied w (record s { objs = changed_at s.objs n o f }) t
-      by_object None e = with_objs F S set' s.objs t.objs ti ti.objs ti.owned refl
-      by_object (Some o) e = with_objs F S set' (slice_set s.objs n (f o)) t.objs ti (set_any ti.objs n o (f o) e (λ x b h. keep x o b h) (λ y h. code o ∙ h)) (owned_any w.objs s.objs ti.owned n o (f o) e (owner o)) refl
+      by_object None e = with_objs F S set' s.objs t.objs ti ti.objs ti.owned ti.mated ti.extra
+      by_object (Some o) e = with_objs F S set' (slice_set s.objs n (f o)) t.objs ti (set_any ti.objs n o (f o) e (λ x b h. keep x o b h) (λ y h. code o ∙ h)) (owned_any w.objs s.objs ti.owned n o (f o) e (owner o)) ti.mated (set'.rider.any_changed (view w s t) n o (f o) e (slots o) ti.extra)
 
   entered_left : {w : Tabs} (e : Element) (x : Option Code) (a b : Obj) → ObjT F S w x a b → ObjT F S w x (entered_in e a) b
   unfolding entered_in
@@ -240,6 +244,14 @@ module _ (F : Facts) (S : Tables) (set' : List (Path × ℕ)) where
       by_elements true = refl
       by_elements false = refl
 
+  entered_slots : (e : Element) (a : Obj) → entered_in e a ≡ record a { wanted = (entered_in e a).wanted }
+  unfolding entered_in
+  entered_slots e a = by_elements (is_some a.elements)
+    where
+      by_elements : (c : Bool) → pick c (record a { wanted = entered e a.wanted }) a ≡ record a { wanted = (pick c (record a { wanted = entered e a.wanted }) a).wanted }
+      by_elements true = refl
+      by_elements false = refl
+
   entered_owner : (e : Element) (a : Obj) → prototype_of_function (Some (entered_in e a)) ≡ prototype_of_function (Some a)
   unfolding entered_in prototype_of_function
   entered_owner e a = by_elements (is_some a.elements)
@@ -253,7 +265,7 @@ module _ (F : Facts) (S : Tables) (set' : List (Path × ℕ)) where
   left_enters None v = silent_any tt
   left_enters (Some e) (prim p) = silent_any tt
   left_enters (Some e) (out n) = silent_any tt
-  left_enters {w = w} (Some e) (obj n) = record { by = λ s t ti le le'. L.alone_ok refl w (now T w) tt tt (any_changes n (entered_in e) (entered_left e) (entered_code e) (entered_owner e) ti) le le' }
+  left_enters {w = w} (Some e) (obj n) = record { by = λ s t ti le le'. L.alone_ok refl w (now T w) tt tt (any_changes n (entered_in e) (entered_left e) (entered_code e) (entered_slots e) (entered_owner e) ti) le le' }
 
   pub left_receives : {w : W} (t : Option TypeSet) (v : Val) → Silent Any w (receive t v)
   unfolding receive
@@ -295,7 +307,7 @@ module _ (F : Facts) (S : Tables) (set' : List (Path × ℕ)) where
       by_object : (o : Option Obj) → slice_get s.objs m ≡ o → Holds (λ a. a.code ≡ None) o → Tied w (record s { objs = changed_at s.objs m o (put_own n k v) }) t
       by_object _ e (holds {a = a} h) =
           let c : (put_own n k v a).code ≡ None = put_code n k v a ∙ h in
-          with_objs F S set' (slice_set s.objs m (put_own n k v a)) t.objs ti (set_lone ti.objs _ q (put_own n k v a) (λ y. c) a e) (owned_any w.objs s.objs ti.owned m a (put_own n k v a) e (no_owner (put_own n k v a) c ∙ sym (no_owner a h))) refl
+          with_objs F S set' (slice_set s.objs m (put_own n k v a)) t.objs ti (set_lone ti.objs _ q (put_own n k v a) (λ y. c) a e) (owned_any w.objs s.objs ti.owned m a (put_own n k v a) e (no_owner (put_own n k v a) c ∙ sym (no_owner a h))) ti.mated (set'.rider.spare_changed (view w s t) _ q (put_own n k v a) ti.extra)
 
   pub left_writes : {w : W} (i : Spot) {m : ℕ} → Spare w.w (obj m) → (a : Access) (k : Kind) (v : Val) (d : Bool) → Silent Any w (write_slot checked i m a k v d)
   unfolding write_slot changing ret
@@ -314,8 +326,8 @@ module _ (F : Facts) (S : Tables) (set' : List (Path × ℕ)) where
   frame_left : {w : Tabs} {s t : State} (a : Frame) → Tied w s t → Tied (with_alone w (length s.frames) a) (record s { frames = s.frames ++ a ∷ [] }) t
   frame_left {w = w} {s = s} a ti =
       let e = ext_alone w (length s.frames) a in
-      in_more e refl refl ti s.objs (s.frames ++ a ∷ []) (table_more ti.objs (obj_more F S e)) ti.owned (add_lone (table_more ti.frames (frame_more F S e)) a a refl)
+      in_more e refl refl ti s.objs (s.frames ++ a ∷ []) (table_more ti.objs (obj_more F S e)) ti.owned (add_lone (table_more ti.frames (frame_more F S e)) a a refl) ti.extra
 
   pub left_pushes : {w : W} (k : FrameKind) (u : Option ℕ) (vs : List (Option Val)) → Silent (λ v n. In (record { place = n; entry = record { kind = k; up = u; values = vs } }) v.w.alone) w (push_frame k u vs)
   unfolding push_frame ret
-  left_pushes {w = w} k u vs = record { by = λ s t ti le le'. let a : Frame = record { kind = k; up = u; values = vs } in L.alone_ok refl (record { l = w.l; r = w.r; w = with_alone w.w (length s.frames) a }) (omega arith, omega arith, record { ext = ext_alone w.w (length s.frames) a; still = refl }) tt here (frame_left a ti) le le' }
+  left_pushes {w = w} k u vs = record { by = λ s t ti le le'. let a : Frame = record { kind = k; up = u; values = vs } in L.alone_ok refl (record { l = w.l; r = w.r; w = with_alone w.w (length s.frames) a }) (omega arith, omega arith, record { ext = ext_alone w.w (length s.frames) a; still = refl; stage = refl }) tt here (frame_left a ti) le le' }

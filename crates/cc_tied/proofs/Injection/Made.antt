@@ -4,7 +4,7 @@ use Rattle.std.specs.Prelude.{slice_get, nat_eq, ◌||◌}
 use Rattle.std.specs.List.{list_any}
 use Rattle.std.proofs.lemmas.Bool.{eq-eqb, eqb-true}
 use Rattle.cc_meaning.specs.Values.{Val, obj}
-use Rattle.cc_meaning.specs.State.{Code, bare, of_own_name, Frame, Env, Path, State, Tables}
+use Rattle.cc_meaning.specs.State.{Code, bare, of_own_name, Frame, Env, State, Tables}
 use Rattle.cc_meaning.specs.Monad.{ret, ◌>>=◌, after, said, pick}
 use Rattle.cc_meaning.specs.Store.{class_of_function}
 use Rattle.cc_meaning.specs.Rules.{prototype_object, prototype_at}
@@ -18,7 +18,7 @@ use Rattle.cc_tied.proofs.Sim.{Tie, World, ok_t, Sim, sim_as, sim_tables}
 use Rattle.cc_tied.proofs.Injection.Table.{table_more, add_both}
 use Rattle.cc_tied.proofs.Injection.Places.{places_more, places_of_list}
 use Rattle.cc_tied.proofs.Injection.World.{FunctionAt, a_function, Label, Tabs, Ext, Mates, mates_more, Vals, val_more, same_kind, UpT, an_up, up_more, Codes, ObjT, obj_more, FrameT, frame_more, known_more}
-use Rattle.cc_tied.proofs.Injection.Tie.{StandI, stands_at, EnvI, env_at, with_set, TiedI, inject}
+use Rattle.cc_tied.proofs.Injection.Tie.{Other, view, StandI, stands_at, EnvI, env_at, with_set, TiedI, inject}
 use Rattle.cc_tied.proofs.Injection.Objects.{chain_of_tied, prototype_tied}
 use Rattle.cc_tied.proofs.Injection.Acts.{one_longer, owned_new, mated_new, at_of, add_t}
 
@@ -102,7 +102,7 @@ pub record MadeT (w : Tabs) (f : ℕ) (x y : Val) : Type 0 where
   pub vals : Vals w x y
   pub made : FunctionAt w f (Some x)
 
-module _ (F : Facts) (S : Tables) (set' : List (Path × ℕ)) where
+module _ (F : Facts) (S : Tables) (set' : Other S) where
   abbrev R : Tables
   R = with_set S set'
 
@@ -166,6 +166,7 @@ module _ (F : Facts) (S : Tables) (set' : List (Path × ℕ)) where
       handles = list_as (λ a b o. mates_more e o) ti.handles;
       replies = ti.replies;
       budget = ti.budget;
+      extra = set'.rider.both_made _ (Some c) (function_object c (length s.objs)) (function_object c' (length t.objs)) (set'.rider.both_made (view w s t) None bare bare ti.extra);
     }
 
     pub function_tied : Ext w V → Codes F S V c c' → Table (FrameT F S V) (λ y a. a ≡ y) ps w.alone fs gs → Tied V (record s { objs = s.objs ++ bare ∷ function_object c (length s.objs) ∷ []; frames = fs }) (record t { objs = t.objs ++ bare ∷ function_object c' (length t.objs) ∷ []; frames = gs })
@@ -192,7 +193,7 @@ module _ (F : Facts) (S : Tables) (set' : List (Path × ℕ)) where
   plain_function_t {w = w} f i i' {u = u} {u' = u'} r up s t ti le le' =
       let c : Code = record { function = f; up = u; site = i } in let c' : Code = record { function = f; up = u'; site = i' } in
       let e : Ext w.w (made_world w.w c s t w.w.frames) = record { objs = λ q h. there (there h); frames = λ q h. h; spare = λ q h. h; alone = λ q h. h; begun = λ c h. h } in
-      ok_t refl (record { l = w.l; r = w.r; w = made_world w.w c s t w.w.frames }) (omega arith, omega arith, record { ext = e; still = refl }) tt (function_made ti c c' w.w.frames s.frames t.frames)
+      ok_t refl (record { l = w.l; r = w.r; w = made_world w.w c s t w.w.frames }) (omega arith, omega arith, record { ext = e; still = refl; stage = refl }) tt (function_made ti c c' w.w.frames s.frames t.frames)
       (function_tied ti c c' w.w.frames s.frames t.frames e (record { function = record { same = refl; reached = r }; up = up_more F S e up; site = tt }) (table_more ti.frames (frame_more F S e))) le le'
 
   own_label : (f : ℕ) (u u' : Option ℕ) → State → Label
@@ -221,7 +222,7 @@ module _ (F : Facts) (S : Tables) (set' : List (Path × ℕ)) where
       let v : Tabs = made_world w.w c s t (q ∷ w.w.frames) in
       let e : Ext w.w v = record { objs = λ q h. there (there h); frames = λ q h. there h; spare = λ q h. h; alone = λ q h. h; begun = λ c h. h } in
       let k : UpT F S v (outward F S (called f)) (Some (length s.frames)) (Some (length t.frames)) = subst (λ z. UpT F S v z (Some (length s.frames)) (Some (length t.frames))) (sym (own_up f o)) (an_up (own_label f u u' s) refl here) in
-      ok_t refl (record { l = w.l; r = w.r; w = v }) (omega arith, omega arith, record { ext = e; still = refl }) tt (function_made ti c c' (q ∷ w.w.frames) s.frames t.frames)
+      ok_t refl (record { l = w.l; r = w.r; w = v }) (omega arith, omega arith, record { ext = e; still = refl; stage = refl }) tt (function_made ti c c' (q ∷ w.w.frames) s.frames t.frames)
       (function_tied ti c c' (q ∷ w.w.frames) (s.frames ++ own_frame s u ∷ []) (t.frames ++ own_frame t u' ∷ []) e (record { function = record { same = refl; reached = r }; up = k; site = tt })
       (add_both (table_more ti.frames (frame_more F S e)) (own_label f u u' s) (own_frame s u) (own_frame t u') (own_frame_tied f s t (up_more F S e up) (function_vals ti c c' (q ∷ w.w.frames) s.frames t.frames)))) le le'
 
@@ -270,7 +271,7 @@ module _ (F : Facts) (S : Tables) (set' : List (Path × ℕ)) where
   class_in_states ti f = ap (λ z. class_of_function z f) ti.tables ∙ class_same f ∙ sym (ap (λ z. class_of_function z f) ti.tables')
 
   with_constructed : {w : Tabs} {s t : State} (o p : Option ℕ) → o ≡ p → Tied w s t → Tied w (record s { constructed = note_constructed o s.constructed }) (record t { constructed = note_constructed p t.constructed })
-  with_constructed {s = s} {t = t} o p e ti = record { tables = ti.tables; tables' = ti.tables'; objs = ti.objs; owned = ti.owned; mated = ti.mated; frames = ti.frames; globals = ti.globals; known = ti.known; loaded = ti.loaded; begun = ti.begun; failed = ti.failed; constructed = λ c h. noted_both o s.constructed t.constructed ti.constructed c (subst (λ z. Among c (note_constructed z t.constructed)) (sym e) h); handles = ti.handles; replies = ti.replies; budget = ti.budget }
+  with_constructed {s = s} {t = t} o p e ti = record { tables = ti.tables; tables' = ti.tables'; objs = ti.objs; owned = ti.owned; mated = ti.mated; frames = ti.frames; globals = ti.globals; known = ti.known; loaded = ti.loaded; begun = ti.begun; failed = ti.failed; constructed = λ c h. noted_both o s.constructed t.constructed ti.constructed c (subst (λ z. Among c (note_constructed z t.constructed)) (sym e) h); handles = ti.handles; replies = ti.replies; budget = ti.budget; extra = ti.extra }
 
   instance_one : {w : W} {m n : ℕ} → Mates w.w m n → (f : ℕ) → Sim T (λ v. Vals v.w) w (make_instance m f) (make_instance n f)
   unfolding make_instance

@@ -22,7 +22,7 @@ use Rattle.cc_tied.proofs.Rewriting.{Standing, allowed, bound_by_write, set_by_w
 use Rattle.cc_tied.proofs.Equality.Erase as E
 use Rattle.cc_tied.proofs.Alike.Reach.{no_flat}
 use Rattle.cc_tied.proofs.Fine.Parts.{PartsAllow, fine_stmts}
-use Rattle.cc_tied.proofs.Injection.Tie.{Ctx, at, this_at, stands_at, ReadI, reads_global, reads_place, WriteI, writes_global, writes_place, same_key, with_set}
+use Rattle.cc_tied.proofs.Injection.Tie.{Ctx, at, this_at, stands_at, ReadI, reads_global, reads_place, WriteI, writes_global, writes_place, same_key, with_set, same_right}
 use Rattle.cc_tied.proofs.Injection.Rules.{name_table}
 use Rattle.cc_tied.proofs.Injection.Upkeep.{inject_kit}
 use Rattle.cc_tied.proofs.Injection.Facts.{part_of, parent_is, holds_above}
@@ -32,12 +32,12 @@ use Rattle.cc_tied.proofs.Injection.Facts.{part_of, parent_is, holds_above}
 flat_none : (P : Program) → HasNoPaths P → (p : Option Path) → flat_of (tables_of P) p ≡ None
 flat_none P h p = subst (λ z. flat_of z p ≡ None) (E.same_tables P h) (no_flat P p)
 
-flat_same : (S : Tables) (set' : List (Path × ℕ)) (p : Option Path) → flat_of S p ≡ flat_of (with_set S set') p
+flat_same : (S : Tables) (set' : List (Path × ℕ)) (p : Option Path) → flat_of S p ≡ flat_of (with_set S (same_right S set')) p
 unfolding flat_of
 flat_same S set' None = refl
 flat_same S set' (Some p) = refl
 
-built_same : (S : Tables) (set' : List (Path × ℕ)) (r : Ref) → built_of S r ≡ built_of (with_set S set') r
+built_same : (S : Tables) (set' : List (Path × ℕ)) (r : Ref) → built_of S r ≡ built_of (with_set S (same_right S set')) r
 unfolding built_of global_kind
 built_same S set' (Ref.Frame u n) = refl
 built_same S set' (Ref.Global n) = refl
@@ -47,17 +47,17 @@ module _ (F : Facts) (P Q : Program) (none : HasNoPaths P) (built : Ref → Bool
   S = tables_of P
 
   abbrev pub pass_kit : Kit
-  pass_kit = inject_kit F (tables_of P) (tables_of Q).set
+  pass_kit = inject_kit F (tables_of P) (same_right (tables_of P) (tables_of Q).set)
 
   no_paths : (p p' : Option Path) → PathT pass_kit p p'
-  no_paths p p' = record { flat = subst (λ z. OptT (λ a b. a ≡ b) z (flat_of (with_set S (tables_of Q).set) p')) (sym (flat_none P none p)) (subst (λ z. OptT (λ a b. a ≡ b) None z) (sym (sym (flat_same S (tables_of Q).set p') ∙ flat_none P none p')) none_t) }
+  no_paths p p' = record { flat = subst (λ z. OptT (λ a b. (a ≡ b) × Unit {0}) z (flat_of (with_set S (same_right (tables_of P) (tables_of Q).set)) p')) (sym (flat_none P none p)) (subst (λ z. OptT (λ a b. (a ≡ b) × Unit {0}) None z) (sym (sym (flat_same S (tables_of Q).set p') ∙ flat_none P none p')) none_t) }
 
   -- the tables of both programs tie what stands at one place
   pub same_tables : (X : Below pass_kit) → SameTables pass_kit X built
   same_tables X = record {
     sites = λ i. tt;
     paths = no_paths;
-    props = λ p. record { keys = λ v l x y h. same_key; uses = λ b. ap (λ z. member_use b z) (name_table S (tables_of Q).set (dotted p)) };
+    props = λ p. record { keys = λ v l x y h. same_key; uses = λ b. ap (λ z. member_use b z) (name_table S (same_right (tables_of P) (tables_of Q).set) (dotted p)) };
     keys = λ k. record { keys = λ v l x y h. same_key };
     docs = λ d. refl;
     quoted = λ t. tt;
@@ -96,16 +96,16 @@ module _ (P : Program) (W : WellMade P) (Known : ℕ → Held → Type 0) where
   not_fixed (caught o c) n d = d
   not_fixed (named f) n d = d
 
-  pub read_sound : {f k : ℕ} {r : Ref} → IsSound P f k r → ReadI KnownFacts (tables_of P) (at (owner P f) k) r r
+  pub read_sound : {f k : ℕ} {r : Ref} → IsSound P f k r → ReadI KnownFacts (tables_of P) (λ n. ⊥) (at (owner P f) k) r r
   read_sound (sound_place u n h) = let a = holds_above P W KnownFacts (λ f. refl) h in reads_place a.1 (not_dead a.0 n)
-  read_sound (sound_global n d g i) = reads_global (λ z. z)
-  read_sound (sound_outer n g e d) = reads_global (λ z. z)
+  read_sound (sound_global n d g i) = reads_global (λ z. z) (λ z. z)
+  read_sound (sound_outer n g e d) = reads_global (λ z. z) (λ z. z)
 
   -- what is no known global
-  pub write_sound : {f k : ℕ} {r : Ref} → IsSound P f k r → ((n : ℕ) (h : Held) → r ≡ Ref.Global n → Known n h → ⊥) → WriteI KnownFacts (tables_of P) (at (owner P f) k) r r
+  pub write_sound : {f k : ℕ} {r : Ref} → IsSound P f k r → ((n : ℕ) (h : Held) → r ≡ Ref.Global n → Known n h → ⊥) → WriteI KnownFacts (tables_of P) (λ n. ⊥) (at (owner P f) k) r r
   write_sound (sound_place u n h) free = let a = holds_above P W KnownFacts (λ f. refl) h in writes_place a.1 (not_fixed a.0 n)
-  write_sound (sound_global n d g i) free = writes_global (λ h k. free n h refl k)
-  write_sound (sound_outer n g e d) free = writes_global (λ h k. free n h refl k)
+  write_sound (sound_global n d g i) free = writes_global (λ h k. free n h refl k) (λ z. z)
+  write_sound (sound_outer n g e d) free = writes_global (λ h k. free n h refl k) (λ z. z)
 
 -- ---- a well made program is fine, where no more is known of it
 
@@ -119,9 +119,9 @@ module _ (P : Program) (W : WellMade P) (set' : List (Path × ℕ)) (Stands : St
   F = plain_facts P
 
   abbrev K : Kit
-  K = inject_kit F (tables_of P) set'
+  K = inject_kit F (tables_of P) (same_right (tables_of P) set')
 
-  write_free : {f k : ℕ} {r : Ref} → IsSound P f k r → WriteI F (tables_of P) (at (owner P f) k) r r
+  write_free : {f k : ℕ} {r : Ref} → IsSound P f k r → WriteI F (tables_of P) (λ n. ⊥) (at (owner P f) k) r r
   write_free h = write_sound P W (λ n h. ⊥) h (λ n h e k. k)
 
   parts_allow : (f : ℕ) → Reached P f → PartsAllow Ctx (allowed K Stands) (λ k. at (owner P f) k) (λ x. In x (parts_of P f))

@@ -24,7 +24,7 @@ use Rattle.cc_tied.specs.Facts.{Facts}
 use Rattle.cc_tied.specs.Pure.{IsPure, pure_lit, pure_var, pure_this, pure_fun, pure_list, pure_object, pure_unary, pure_binary, pure_and, pure_or, pure_cond, pure_comma, pure_cast, ArePure, no_pure, more_pure, HasPureFields, no_pure_fields, more_pure_fields}
 use Rattle.cc_tied.proofs.Sim.{Tie, World, Later, now}
 use Rattle.cc_tied.proofs.Left as L
-use Rattle.cc_tied.proofs.Injection.Tie.{inject}
+use Rattle.cc_tied.proofs.Injection.Tie.{Other, inject}
 use Rattle.cc_tied.proofs.Injection.Left as A
 use Rattle.cc_tied.proofs.Injection.Left.{Silent, Any, silent_judged, silent_any, silent_then, silent_as, silent_tables, silent_stop, Spare, spare, spare_more, left_object, left_array, left_function, left_receives, left_writes}
 
@@ -34,7 +34,7 @@ pub data IsBare : Reach → Type 0 where
   bare_global : {i : ℕ} {b : Built} → IsBare (built_global i b)
   bare_member : {i : ℕ} {b : Built} {n : List ℕ} → IsBare (built_member i b n)
 
-module _ (F : Facts) (S : Tables) (set' : List (Path × ℕ)) where
+module _ (F : Facts) (S : Tables) (set' : Other S) where
   abbrev T : Tie
   T = inject F S set'
 

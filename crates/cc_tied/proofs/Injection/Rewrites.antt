@@ -52,8 +52,8 @@ module _ (F : Facts) (P Q : Program) (none : HasNoPaths P) (same : SameButSet P 
     pub declares : (s : Stmt) → DeclaresI (declared_by K.tables s) (declared_by K.tables' s)
 
   module _ (pass : FactsPass) (chosen : Rewrites built A P Q) where
-    not_bound : {c : Ctx} {r : Ref} {f : ℕ} → BindI F K.tables c r f → ⊥
-    not_bound (binds_known k u) = pass.unbound _ _ k
+    not_bound : {c : Ctx} {r : Ref} {f : ℕ} → BindI F K.tables (λ n. ⊥) c r f → ⊥
+    not_bound (binds_known k u f) = pass.unbound _ _ k
 
     rules : (f : ℕ) (X : Below K) → ScopeRules K P Q built A Here Stands f X
     rules f X = record { steps = pass.steps f X; cuts = pass.cuts f X }

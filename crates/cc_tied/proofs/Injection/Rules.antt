@@ -6,13 +6,13 @@ use Rattle.std.proofs.lemmas.Bool.{eqb-true}
 use Rattle.cc_meaning.specs.Values.{Val}
 use Rattle.cc_meaning.specs.Operators.{list_eq, is_in}
 use Rattle.cc_meaning.specs.Names.{is_index}
-use Rattle.cc_meaning.specs.State.{Kind, kept_kind, indexed_kind, dotted_kind, quoted_kind, keyed_kind, Slot, Path, Tables}
+use Rattle.cc_meaning.specs.State.{Kind, kept_kind, indexed_kind, dotted_kind, quoted_kind, keyed_kind, Slot, Tables}
 use Rattle.cc_meaning.specs.Monad.{pick}
 use Rattle.cc_meaning.specs.Store.{Access, dotted, quoted, runtime, name_of, is_kept, kind_by, kind_for}
 use Rattle.cc_meaning.specs.SlotRules.{least, rule_if, rule_unless, dotted_rule, is_dotted, slot_rule, slots_rule, outside_rule, walk_slots, whole_key_rule, is_dot}
 use Rattle.cc_tied.specs.Tied.{ListT, nil_t, cons_t, OptT, none_t, some_t}
 use Rattle.cc_tied.proofs.Injection.World.{KindT, same_kind, written_kind, SlotT}
-use Rattle.cc_tied.proofs.Injection.Tie.{KeyI, same_key, written_key, with_set}
+use Rattle.cc_tied.proofs.Injection.Tie.{Other, KeyI, same_key, written_key, with_set}
 
 -- ---- rules
 
@@ -112,7 +112,7 @@ whole_key_none (some_t h) (same_key {a = quoted t}) e = refl
 whole_key_none (some_t h) (same_key {a = runtime t w}) e = e
 whole_key_none (some_t h) written_key e = refl
 
-module _ (S : Tables) (set' : List (Path × ℕ)) where
+module _ (S : Tables) (set' : Other S) where
   abbrev R : Tables
   R = with_set S set'
 

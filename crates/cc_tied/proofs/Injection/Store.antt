@@ -3,7 +3,7 @@ use Rattle.std.proofs.Common.{◌≡◌, ℕ, Bool, true, false, List, Option, S
 use Rattle.std.specs.Prelude.{not, ◌&&◌, ◌||◌}
 use Rattle.cc_ast.specs.Syntax.{Prim}
 use Rattle.cc_meaning.specs.Values.{Val, prim, obj, Spot}
-use Rattle.cc_meaning.specs.State.{Path, State, Tables}
+use Rattle.cc_meaning.specs.State.{State, Tables}
 use Rattle.cc_meaning.specs.Monad.{ret, skip}
 use Rattle.cc_meaning.specs.Store.{Access, name_of, is_kept, look_up, value_found}
 use Rattle.cc_meaning.specs.Typed.{of_all_types}
@@ -16,7 +16,7 @@ use Rattle.cc_tied.specs.Tied.{prim_t, out_t, obj_t}
 use Rattle.cc_tied.specs.Facts.{Facts}
 use Rattle.cc_tied.proofs.Sim.{Tie, World, ResT, Sim, fine, sim_bind, sim_ret}
 use Rattle.cc_tied.proofs.Injection.World.{Tabs, Mates, Vals, val_more, SlotT, ObjT}
-use Rattle.cc_tied.proofs.Injection.Tie.{KeyI, with_set, TiedI, inject}
+use Rattle.cc_tied.proofs.Injection.Tie.{Other, KeyI, with_set, TiedI, inject}
 use Rattle.cc_tied.proofs.Injection.Rules.{least_none, none_least, unless_none, none_unless, name_same, whole_key_none, slots_none, outside_none}
 use Rattle.cc_tied.proofs.Injection.Objects.{elements_at, found_value_tied, found_use_same, unfound_same, look_up_tied, chain_of_tied, slots_on_tied, function_rule_same}
 use Rattle.cc_tied.proofs.Injection.Types.{of_all_types_same, fields_reached_same}
@@ -31,7 +31,7 @@ types_count : (o : Option ℕ) (k b : Bool) → o ≡ None → (is_some o && k) 
 types_count None k b e h = h
 types_count (Some r) k b e h = absurd (cc)
 
-module _ (F : Facts) (S : Tables) (set' : List (Path × ℕ)) where
+module _ (F : Facts) (S : Tables) (set' : Other S) where
   abbrev R : Tables
   R = with_set S set'
 

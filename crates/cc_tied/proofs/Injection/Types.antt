@@ -9,7 +9,7 @@ use Rattle.cc_ast.specs.declared.tables.TypeSet.{TypeSet}
 use Rattle.cc_ast.specs.declared.tables.Element.{Element}
 use Rattle.cc_meaning.specs.Values.{Val}
 use Rattle.cc_meaning.specs.Operators.{is_in}
-use Rattle.cc_meaning.specs.State.{Obj, Path, Tables}
+use Rattle.cc_meaning.specs.State.{Obj, Tables}
 use Rattle.cc_meaning.specs.Monad.{pick}
 use Rattle.cc_meaning.specs.Store.{Access, name_of, is_kept, same_numbers}
 use Rattle.cc_meaning.specs.Typed.{object_of, of_kinds, of_element, all_of_element, array_of, elements_fit, of_type, of_opt_type, of_all_types, of_all_elements, doc_at, function_doc, Variable, global, local, flat, variable_doc, is_param, param_type, variable_type, is_settled, types_of_fields, fields_from, class_in, fields_of_class, field_types, same_element, entered}
@@ -18,13 +18,13 @@ use Rattle.cc_meaning.specs.Alike.{In, here, there}
 use Rattle.cc_tied.specs.Tied.{ListT, nil_t, cons_t, OptT, none_t, some_t, prim_t, out_t, obj_t}
 use Rattle.cc_tied.specs.Facts.{Facts}
 use Rattle.cc_tied.proofs.Injection.World.{Tabs, Mates, Vals}
-use Rattle.cc_tied.proofs.Injection.Tie.{KeyI, with_set}
+use Rattle.cc_tied.proofs.Injection.Tie.{Other, KeyI, with_set}
 use Rattle.cc_tied.proofs.Injection.Rules.{and_true, true_and, texts_one, name_same, dot_same}
 use Rattle.cc_tied.proofs.Injection.Objects.{ObjAt, obj_at, elements_at, class_at, is_some_same}
 
 -- ---- what the tables say
 
-module _ (S : Tables) (set' : List (Path × ℕ)) where
+module _ (S : Tables) (set' : Other S) where
   abbrev R : Tables
   R = with_set S set'
 
@@ -37,17 +37,29 @@ module _ (S : Tables) (set' : List (Path × ℕ)) where
   doc_at_same None = refl
   doc_at_same (Some d) = refl
 
-  pub variable_type_same : (x : Variable) → variable_type S x ≡ variable_type R x
-  unfolding variable_type is_param param_type variable_doc doc_at function_doc
-  variable_type_same (global n) = refl
-  variable_type_same (local f n) = refl
-  variable_type_same (flat g k) = refl
+  -- variables that both programs have
+  pub data Shared : Variable → Type 0 where
+    shared_global : {n : ℕ} → (set'.Foreign n → ⊥) → Shared (global n)
+    shared_local : {f n : ℕ} → Shared (local f n)
+    shared_flat : {g k : ℕ} → set'.Flat (g, k) → Shared (flat g k)
 
-  pub is_settled_same : (x : Variable) → is_settled S x ≡ is_settled R x
+  local_type_same : (f n : ℕ) → variable_type S (local f n) ≡ variable_type R (local f n)
+  unfolding variable_type is_param param_type variable_doc doc_at function_doc
+  local_type_same f n = refl
+
+  local_settled_same : (f n : ℕ) → is_settled S (local f n) ≡ is_settled R (local f n)
   unfolding is_settled is_param variable_doc doc_at function_doc
-  is_settled_same (global n) = refl
-  is_settled_same (local f n) = refl
-  is_settled_same (flat g k) = refl
+  local_settled_same f n = refl
+
+  pub variable_type_same : {x : Variable} → Shared x → variable_type S x ≡ variable_type R x
+  variable_type_same (shared_global {n = n} f) = set'.types n f
+  variable_type_same (shared_local {f = f} {n = n}) = local_type_same f n
+  variable_type_same (shared_flat {g = g} {k = k} f) = set'.flat_types (g, k) f
+
+  pub is_settled_same : {x : Variable} → Shared x → is_settled S x ≡ is_settled R x
+  is_settled_same (shared_global {n = n} f) = set'.settled n f
+  is_settled_same (shared_local {f = f} {n = n}) = local_settled_same f n
+  is_settled_same (shared_flat {g = g} {k = k} f) = set'.flat_settled (g, k) f
 
   types_of_fields_same : (n : List ℕ) (xs : List (ℕ × ℕ)) → types_of_fields S n xs ≡ types_of_fields R n xs
   unfolding types_of_fields doc_at

@@ -6,7 +6,7 @@ use Rattle.cc_ast.specs.Syntax.{Prim, undefined}
 use Rattle.cc_meaning.specs.Values.{Val, prim, obj, out, handle, Spot}
 use Rattle.cc_meaning.specs.Operators.{is_in}
 use Rattle.cc_meaning.specs.Names.{is_index}
-use Rattle.cc_meaning.specs.State.{keyed_kind, Path, State, Tables}
+use Rattle.cc_meaning.specs.State.{keyed_kind, State, Tables}
 use Rattle.cc_meaning.specs.Monad.{M, marks, ret, stop, ◌>>=◌, attempt, paid, pay_from, pay, with_tables}
 use Rattle.cc_meaning.specs.Store.{Access, quoted, name_of, is_kept}
 use Rattle.cc_meaning.specs.SlotRules.{rule_unless}
@@ -25,7 +25,7 @@ use Rattle.cc_tied.proofs.Equality.EqualModes.{same_end, paid_sum}
 use Rattle.cc_tied.proofs.Turns.{member_tied}
 use Rattle.cc_tied.proofs.Upkeep.{Upkeep, kit}
 use Rattle.cc_tied.proofs.Injection.World.{Tabs, Mates, Vals, same_kind, Codes}
-use Rattle.cc_tied.proofs.Injection.Tie.{KeyI, same_key, with_set, TiedI, with_budget, once, inject}
+use Rattle.cc_tied.proofs.Injection.Tie.{Other, KeyI, same_key, with_set, TiedI, with_budget, once, inject}
 use Rattle.cc_tied.proofs.Injection.Rules.{name_same, any_dotted}
 use Rattle.cc_tied.proofs.Injection.Objects.{code_at_tied, chain_of_tied, slots_on_tied}
 use Rattle.cc_tied.proofs.Injection.Acts.{judged_in, judged_i, stopped_left, at_of}
@@ -38,7 +38,7 @@ use Rattle.cc_tied.proofs.Injection.Frames.{read_var_t, write_var_t}
 use Rattle.cc_tied.proofs.Injection.Known.{set_known_t}
 use Rattle.cc_tied.proofs.Injection.Calls.{catch_t, frame_t, take_path_t, keep_path_t, cast_t, enter_t, leave_t}
 
-module _ (F : Facts) (S : Tables) (set' : List (Path × ℕ)) where
+module _ (F : Facts) (S : Tables) (set' : Other S) where
   abbrev R : Tables
   R = with_set S set'
 
@@ -99,7 +99,7 @@ module _ (F : Facts) (S : Tables) (set' : List (Path × ℕ)) where
   shown_t : {w : W} (o : Option ℕ) {m n : ℕ} → Mates w.w m n → Sim T (λ v a b. a ≡ b) w (shown o m) (shown o n)
   unfolding shown ret
   shown_t (Some h) o s t ti le le' = fine T _ _ refl ti le le'
-  shown_t None o s t ti le le' = fine T _ _ (ap handle (tied_length ti.handles)) (record { tables = ti.tables; tables' = ti.tables'; objs = ti.objs; owned = ti.owned; mated = ti.mated; frames = ti.frames; globals = ti.globals; known = ti.known; loaded = ti.loaded; begun = ti.begun; failed = ti.failed; constructed = ti.constructed; handles = list_on ti.handles (cons_t o nil_t); replies = ti.replies; budget = ti.budget }) le le'
+  shown_t None o s t ti le le' = fine T _ _ (ap handle (tied_length ti.handles)) (record { tables = ti.tables; tables' = ti.tables'; objs = ti.objs; owned = ti.owned; mated = ti.mated; frames = ti.frames; globals = ti.globals; known = ti.known; loaded = ti.loaded; begun = ti.begun; failed = ti.failed; constructed = ti.constructed; handles = list_on ti.handles (cons_t o nil_t); replies = ti.replies; budget = ti.budget; extra = ti.extra }) le le'
 
   show_t : {w : W} {a b : Val} → Vals w.w a b → Sim T (λ v a b. a ≡ b) w (show a) (show b)
   unfolding show ret
@@ -119,7 +119,7 @@ module _ (F : Facts) (S : Tables) (set' : List (Path × ℕ)) where
 
   load_t : {w : W} (c : ℕ) → Sim T Done w (changing (note_load c)) (changing (note_load c))
   unfolding changing note_load ret
-  load_t c s t ti le le' = fine T tt tt tt (record { tables = ti.tables; tables' = ti.tables'; objs = ti.objs; owned = ti.owned; mated = ti.mated; frames = ti.frames; globals = ti.globals; known = ti.known; loaded = ap (λ z. z ++ c ∷ []) ti.loaded; begun = λ d q. still_loaded s c d (ti.begun d q); failed = ti.failed; constructed = ti.constructed; handles = ti.handles; replies = ti.replies; budget = ti.budget }) le le'
+  load_t c s t ti le le' = fine T tt tt tt (record { tables = ti.tables; tables' = ti.tables'; objs = ti.objs; owned = ti.owned; mated = ti.mated; frames = ti.frames; globals = ti.globals; known = ti.known; loaded = ap (λ z. z ++ c ∷ []) ti.loaded; begun = λ d q. still_loaded s c d (ti.begun d q); failed = ti.failed; constructed = ti.constructed; handles = ti.handles; replies = ti.replies; budget = ti.budget; extra = ti.extra }) le le'
 
   host_none : {w : Tabs} {s t : State} → Tied w s t → (given : Bool) (b b' c c' : Bool) → b ≡ b' → c ≡ c' → rule_unless (given && b && not c) 13 ≡ None → rule_unless (given && b' && not c') 13 ≡ None
   host_none ti given b b' c c' e d h = rw (← e, ← d) h
@@ -129,7 +129,7 @@ module _ (F : Facts) (S : Tables) (set' : List (Path × ℕ)) where
   loading_t i i' c s t ti le le' = judged_in F S set' i i' (hosts true None None (dependency_failed s c)) (hosts true None None (dependency_failed t c)) (changing (note_load c)) (changing (note_load c)) ti (λ e. (host_none ti true true true (dependency_failed s c) (dependency_failed t c) refl (failed_same ti c) e, load_t c s t ti le le'))
 
   failed_t : {w : Tabs} {s t : State} (c : ℕ) → Tied w s t → Tied w (record s { failed = s.failed ++ c ∷ [] }) (record t { failed = t.failed ++ c ∷ [] })
-  failed_t c ti = record { tables = ti.tables; tables' = ti.tables'; objs = ti.objs; owned = ti.owned; mated = ti.mated; frames = ti.frames; globals = ti.globals; known = ti.known; loaded = ti.loaded; begun = ti.begun; failed = ap (λ z. z ++ c ∷ []) ti.failed; constructed = ti.constructed; handles = ti.handles; replies = ti.replies; budget = ti.budget }
+  failed_t c ti = record { tables = ti.tables; tables' = ti.tables'; objs = ti.objs; owned = ti.owned; mated = ti.mated; frames = ti.frames; globals = ti.globals; known = ti.known; loaded = ti.loaded; begun = ti.begun; failed = ap (λ z. z ++ c ∷ []) ti.failed; constructed = ti.constructed; handles = ti.handles; replies = ti.replies; budget = ti.budget; extra = ti.extra }
 
   names_same : {w : Tabs} {s t : State} → Tied w s t → {m n : ℕ} → Mates w m n → (c : List ℕ) → names_well S s (Some (obj m)) (Some c) ≡ names_well R t (Some (obj n)) (Some c)
   unfolding names_well is_kept
@@ -179,8 +179,8 @@ module _ (F : Facts) (S : Tables) (set' : List (Path × ℕ)) where
     up_set_var = λ i e h. set_known_t F S set' _ _ e h;
     up_catch = λ e x. catch_t F S set' e x;
     up_frame = λ c t vs. frame_t F S set' c t vs;
-    up_take_path = λ {w} {p} {p'} {x} {y} {a} {b} {i} {i'} s q v k. subst (λ z. Sim T Done w (take_path checked i (Some p) x a) (take_path checked i' (Some z) y b)) q (take_path_t F S set' i i' p v k);
-    up_keep_path = λ {w} {p} {p'} {x} {y} {i} {i'} s q v. subst (λ z. Sim T Done w (keep_path checked i (Some p) x) (keep_path checked i' (Some z) y)) q (keep_path_t F S set' i i' p v);
+    up_take_path = λ {w} {p} {p'} {x} {y} {a} {b} {i} {i'} s q v k. subst (λ z. Sim T Done w (take_path checked i (Some p) x a) (take_path checked i' (Some z) y b)) q.0 (take_path_t F S set' i i' p q.1 v k);
+    up_keep_path = λ {w} {p} {p'} {x} {y} {i} {i'} s q v. subst (λ z. Sim T Done w (keep_path checked i (Some p) x) (keep_path checked i' (Some z) y)) q.0 (keep_path_t F S set' i i' p q.1 v);
     up_cast = λ {w} {d} {d'} {x} {y} {i} {i'} s q v. subst (λ z. Sim T Done w (cast_to checked i d x) (cast_to checked i' z y)) q (cast_t F S set' i i' d v);
     up_code = λ ti o. code_t ti o;
     up_enters = λ i c t vs. enter_t F S set' _ _ c t vs;

@@ -5,7 +5,7 @@ use Rattle.cc_ast.specs.Syntax.{Prim, null, truth, text}
 use Rattle.cc_meaning.specs.Values.{Val, prim, obj, Spot}
 use Rattle.cc_meaning.specs.Operators.{Outcome, strict_equal}
 use Rattle.cc_meaning.specs.Builtins.{ArrayUse, array_push, array_unshift, array_concat, ArrayAnswer, ArrayChange, ArrayResult}
-use Rattle.cc_meaning.specs.State.{Code, Obj, bare, Path, State, Tables}
+use Rattle.cc_meaning.specs.State.{Code, Obj, bare, State, Tables}
 use Rattle.cc_meaning.specs.Monad.{ret}
 use Rattle.cc_meaning.specs.Store.{runtime, own_value, chain_of, Use, of_array, of_text, of_math, string_of_value, from_codes, create_object, has_own, call_with}
 use Rattle.cc_meaning.specs.Rules.{built_op, operate_rule}
@@ -18,7 +18,7 @@ use Rattle.cc_tied.specs.Tied.{ListT, nil_t, cons_t, OptT, none_t, some_t, ValT,
 use Rattle.cc_tied.specs.Facts.{Facts}
 use Rattle.cc_tied.proofs.Sim.{Tie, World, Sim, fine, sim_bind, sim_ret}
 use Rattle.cc_tied.proofs.Injection.World.{Tabs, Ext, Mates, Vals, val_more, vals_more, Codes, ObjT}
-use Rattle.cc_tied.proofs.Injection.Tie.{with_set, TiedI, once, inject}
+use Rattle.cc_tied.proofs.Injection.Tie.{Other, with_set, TiedI, once, inject}
 use Rattle.cc_tied.proofs.Injection.Objects.{ObjAt, obj_at, is_some_same, elements_at, value_at, chain_of_tied}
 use Rattle.cc_tied.proofs.Injection.Types.{of_all_elements_true}
 use Rattle.cc_tied.proofs.Injection.Acts.{judged_in, judged_i, stopped_left, at_of, add_t, change_t}
@@ -57,7 +57,7 @@ module _ {O : ℕ → ℕ → Type 0} where
   as_arg_tied v none_t = value_g v
   as_arg_tied v (some_t h) = list_g h
 
-module _ (F : Facts) (S : Tables) (set' : List (Path × ℕ)) where
+module _ (F : Facts) (S : Tables) (set' : Other S) where
   abbrev R : Tables
   R = with_set S set'
 

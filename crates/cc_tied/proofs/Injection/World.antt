@@ -1,5 +1,5 @@
 -- What is tied in a world: objects and frames by partial injections, values by their objects.
-use Rattle.std.proofs.Common.{◌≡◌, ℕ, ◌<◌, false, List, Option, Some, None}
+use Rattle.std.proofs.Common.{◌≡◌, ◌⊎◌, ℕ, false, List, [], Option, Some, None}
 use Rattle.std.specs.Prelude.{slice_get}
 use Rattle.cc_ast.specs.Syntax.{Prim}
 use Rattle.cc_ast.specs.declared.tables.Element.{Element}
@@ -31,6 +31,8 @@ pub record Tabs : Type 0 where
   pub alone : List (Lone Frame)
   pub still : List (Option Val)
   pub begun : List ℕ
+  -- what a chunk's own list did once for all, and the object that it did it with
+  pub stage : List (ℕ × ℕ)
 
 -- what is tied stays tied
 pub record Ext (v w : Tabs) : Type 0 where
@@ -57,14 +59,14 @@ pub record Mate (ps : List (Pair (Option Code))) (m : ℕ) : Type 0 where
   pub right : ℕ
   pub mates : In (record { label = label; left = m; right = right }) ps
 
--- an object of the right run that is tied to one of the left; and each of the first ones is
+-- an object of the right run that is tied to one of the left; and each is, but what has nothing on its chain
 pub record Mated (ps : List (Pair (Option Code))) (n : ℕ) : Type 0 where
   pub label : Option Code
   pub left : ℕ
   pub mates : In (record { label = label; left = left; right = n }) ps
 
-abbrev pub AllMated : List (Pair (Option Code)) → (count : ℕ) → Type 0
-AllMated ps k = (n : ℕ) → n < k → Mated ps n
+abbrev pub AllMated : List (Pair (Option Code)) → List Obj → Type 0
+AllMated ps os = (n : ℕ) (o : Obj) → slice_get os n ≡ Some o → Mated ps n ⊎ (o.chain ≡ [])
 
 abbrev pub Vals : Tabs → Val → Val → Type 0
 Vals w = ValT (Mates w)

@@ -1,5 +1,5 @@
 -- Writes to tied objects keep the injection.
-use Rattle.std.proofs.Common.{◌≡◌, ◌⊎◌, inl, inr, ℕ, zero, suc, ◌<◌, arith, Bool, true, false, List, [], ◌∷◌, length, Option, Some, None, is_some, refl, sym, ap, subst, ◌∙◌}
+use Rattle.std.proofs.Common.{◌≡◌, ◌⊎◌, inl, inr, ℕ, zero, suc, Bool, true, false, List, [], ◌∷◌, length, Option, Some, None, is_some, refl, sym, ap, subst, ◌∙◌}
 use Rattle.std.specs.Prelude.{slice_get, nat_eq, nat_lt, not, ◌&&◌, ◌||◌}
 use Rattle.std.specs.List.{list_any}
 use Rattle.std.proofs.lemmas.Bool.{eqb-true}
@@ -7,7 +7,7 @@ use Rattle.cc_ast.specs.Syntax.{Prim}
 use Rattle.cc_meaning.specs.Values.{Val, prim, obj, out, Spot}
 use Rattle.cc_meaning.specs.Operators.{list_eq}
 use Rattle.cc_meaning.specs.Names.{is_index, index_value, name_proto, name_prototype}
-use Rattle.cc_meaning.specs.State.{Kind, dotted_kind, Slot, Code, Obj, Path, State, Tables}
+use Rattle.cc_meaning.specs.State.{Kind, dotted_kind, Slot, Code, Obj, State, Tables}
 use Rattle.cc_meaning.specs.Monad.{ret, pick}
 use Rattle.cc_meaning.specs.Store.{Access, name_of, kind_by, kind_for, find_slot, set_slot, set_element, put_in_array, put_by, put_own, change, class_of_function}
 use Rattle.cc_meaning.specs.SlotRules.{rule_if, array_write_rule, element_rule, prototype_of_function, is_code_of, is_object, is_prototype_of, extended, function_in, is_prototype_of_class, fits_extended, fits_class, no_slots, without_slots, is_off_chains, declares_well, code_rule, prototype_rule, object_write, write_rule}
@@ -21,8 +21,8 @@ use Rattle.cc_tied.specs.Facts.{Facts}
 use Rattle.cc_tied.specs.Injection.{Pair}
 use Rattle.cc_tied.proofs.Lists.{tied_set, tied_push, tied_length}
 use Rattle.cc_tied.proofs.Sim.{Tie, World, Sim, fine, sim_bind}
-use Rattle.cc_tied.proofs.Injection.World.{Tabs, Mates, Mate, mates_more, Vals, val_more, KindT, SlotT, Codes, ObjT}
-use Rattle.cc_tied.proofs.Injection.Tie.{Owned, DeclaresI, KeyI, with_set, TiedI, once, inject}
+use Rattle.cc_tied.proofs.Injection.World.{Tabs, Mates, Mate, Mated, mates_more, Vals, val_more, KindT, SlotT, Codes, ObjT}
+use Rattle.cc_tied.proofs.Injection.Tie.{Other, Owned, DeclaresI, KeyI, with_set, TiedI, once, inject}
 use Rattle.cc_tied.proofs.Injection.Rules.{least_none, none_least, unless_none, none_unless, and_true, true_and, kind_by_tied, name_same, kind_for_tied, kind_for_index, whole_key_none, slots_none, outside_none}
 use Rattle.cc_tied.proofs.Injection.Objects.{ObjAt, obj_at, slot_found, elements_at, slots_at, chain_at, code_at_tied, prototype_tied, is_some_same, unwritten_same}
 use Rattle.cc_tied.proofs.Injection.Types.{of_all_elements_true}
@@ -129,14 +129,9 @@ module _ (p : ℕ) where
   chain_there (x ∷ os) zero o e h = let d : x ≡ o = cc in rw (d, h) refl
   chain_there (x ∷ os) (suc j) o e h = or_later _ (chain_there os j o e h)
 
-there_below : (os : List Obj) (n : ℕ) {o : Obj} → slice_get os n ≡ Some o → n < length os
-there_below [] n e = absurd (cc)
-there_below (x ∷ os) zero e = omega arith
-there_below (x ∷ os) (suc n) e = let h = there_below os n e in omega arith
-
 -- ---- what a write breaks
 
-module _ (F : Facts) (S : Tables) (set' : List (Path × ℕ)) where
+module _ (F : Facts) (S : Tables) (set' : Other S) where
   abbrev R : Tables
   R = with_set S set'
 
@@ -258,11 +253,14 @@ module _ (F : Facts) (S : Tables) (set' : List (Path × ℕ)) where
       let u : x ≡ b = cc in
       chain_there p s.objs m a d (on_same F S set' ti h.chain o ∙ ap (λ z. list_any (λ y. nat_eq y q) z.chain) (sym u) ∙ j)
 
+  mated_back : {w : Tabs} {s t : State} → Tied w s t → {p q : ℕ} → Mates w p q → (n : ℕ) (x : Obj) → slice_get t.objs n ≡ Some x → list_any (λ z. nat_eq z q) x.chain ≡ true → Mated w.objs n ⊎ (x.chain ≡ []) → list_any (λ (y : Obj). list_any (λ z. nat_eq z p) y.chain) s.objs ≡ true
+  mated_back ti o n x e j (inl m) = on_left ti o m.left refl (at_of F S set' ti m.left n (m.label, m.mates)) x e j
+  mated_back ti {q = q} o n x e j (inr c) = let d : list_any (λ z. nat_eq z q) [] ≡ true = subst (λ y. list_any (λ z. nat_eq z q) y ≡ true) c j in absurd (cc)
+
   chain_back : {w : Tabs} {s t : State} → Tied w s t → {p q : ℕ} → Mates w p q → list_any (λ (y : Obj). list_any (λ z. nat_eq z q) y.chain) t.objs ≡ true → list_any (λ (y : Obj). list_any (λ z. nat_eq z p) y.chain) s.objs ≡ true
   chain_back {w = w} {s = s} {t = t} ti {p = p} {q = q} o e =
       let h = chain_found q t.objs e in
-      let m = ti.mated h.place (there_below t.objs h.place h.there) in
-      on_left ti o m.left refl (at_of F S set' ti m.left h.place (m.label, m.mates)) h.object h.there h.has
+      mated_back ti o h.place h.object h.there h.has (ti.mated h.place h.object h.there)
 
   off_true : {w : Tabs} {s t : State} → Tied w s t → {x y : Option Val} → OptT (Vals w) x y → is_off_chains s.objs x ≡ true → is_off_chains t.objs y ≡ true
   unfolding is_off_chains

@@ -3,7 +3,7 @@ use Rattle.std.proofs.Common.{◌≡◌, refl, sym, subst, ℕ, Bool, true, fals
 use Rattle.std.specs.Prelude.{◌&&◌}
 use Rattle.cc_ast.specs.Syntax.{Expr, lit, var, this, fun, list, object, unary, binary, and, or, cond, assign, step, member, index, call, new, comma, cast, tick, Exprs, no_exprs, more_exprs, Fields, no_fields, more_fields, Declarator, Stmt, simple, vars, Stmts, more_stmts}
 use Rattle.cc_ast.specs.declared.tree.Ref.{Ref}
-use Rattle.cc_meaning.specs.State.{Path, Tables}
+use Rattle.cc_meaning.specs.State.{Tables}
 use Rattle.cc_meaning.specs.Monad.{pick}
 use Rattle.cc_meaning.specs.Shapes.{declared_by}
 use Rattle.cc_tied.specs.DropExample.{pure, all_pure, pure_fields, pure_value, is_dead, keep_live, drop}
@@ -20,7 +20,7 @@ use Rattle.cc_tied.proofs.Cuts.{no_vars_goes, no_vars_of_chunk}
 use Rattle.cc_tied.proofs.Rewriting.{Standing}
 use Rattle.cc_tied.proofs.RewritingBodies.{Rules}
 use Rattle.cc_tied.proofs.Unchanged.{value_same, declarator_same}
-use Rattle.cc_tied.proofs.Injection.Tie.{Ctx, at}
+use Rattle.cc_tied.proofs.Injection.Tie.{Other, Ctx, at}
 use Rattle.cc_tied.proofs.Injection.Upkeep.{inject_kit}
 use Rattle.cc_tied.proofs.Injection.Dead.{Gone, idle_goes, pure_idle, other_hoist, declarator_goes, pure_declarator_goes, idle_goes_of_chunk}
 
@@ -76,7 +76,7 @@ one_of Z false f k = k
 
 -- ---- the rules, where the left alone writes what is dead
 
-module _ (F : Facts) (S : Tables) (set' : List (Path × ℕ)) (built : Ref → Bool) (dead : ℕ → Bool) (Here : Ctx → Type 0) (Stands : Standing Ctx) where
+module _ (F : Facts) (S : Tables) (set' : Other S) (built : Ref → Bool) (dead : ℕ → Bool) (Here : Ctx → Type 0) (Stands : Standing Ctx) where
   abbrev K : Kit
   K = inject_kit F S set'
 

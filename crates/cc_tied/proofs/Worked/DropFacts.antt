@@ -12,7 +12,7 @@ use Rattle.cc_tied.specs.PlainFacts.{owner, plain_facts}
 use Rattle.cc_tied.proofs.Kit.{Kit}
 use Rattle.cc_tied.proofs.Rewriting.{Standing, allowed, BindsT, bound_by_write, bound_alone, SetsT, set_by_write, set_alone}
 use Rattle.cc_tied.proofs.Fine.Both.{BothAllow, stmts_both}
-use Rattle.cc_tied.proofs.Injection.Tie.{Ctx, at, in_catch, ReadI, reads_global, reads_place, WriteI, writes_global, writes_place, ThisI, StandI, stands_at, binds_known, sets_known}
+use Rattle.cc_tied.proofs.Injection.Tie.{same_right, Ctx, at, in_catch, ReadI, reads_global, reads_place, WriteI, writes_global, writes_place, ThisI, StandI, stands_at, binds_known, sets_known}
 use Rattle.cc_tied.proofs.Injection.Upkeep.{inject_kit}
 use Rattle.cc_tied.proofs.Injection.Facts.{own_above, owner_is, owner_function}
 use Rattle.cc_tied.proofs.Injection.Above.{above_same}
@@ -72,12 +72,12 @@ module _ (dead : (function place : ℕ) → Bool) (P : Program) where
   near_caught : {a c : Ctx} {b : Option ℕ × ℕ} → Near a b c → Near (in_catch a) (b.0, suc b.1) (in_catch c)
   near_caught near = near
 
-  read_near : {a c : Ctx} {b : Option ℕ × ℕ} → Near a b c → {r r' : Ref} → ReadI (plain_facts P) T a r r' → ((u n f : ℕ) → r ≡ Ref.Frame u n → Above (plain_facts P) T (innermost b.0 b.1) u (called f) → dead f n ≡ false) → ReadI dead_facts T c r r'
-  read_near near (reads_global h) d = reads_global h
+  read_near : {a c : Ctx} {b : Option ℕ × ℕ} → Near a b c → {r r' : Ref} → ReadI (plain_facts P) T (λ n. ⊥) a r r' → ((u n f : ℕ) → r ≡ Ref.Frame u n → Above (plain_facts P) T (innermost b.0 b.1) u (called f) → dead f n ≡ false) → ReadI dead_facts T (λ n. ⊥) c r r'
+  read_near near (reads_global h f) d = reads_global h f
   read_near (near {o = o} {k = k}) (reads_place {u = u} {n = n} {l = l} a h) d = reads_place (above_same (plain_facts P) dead_facts (λ f. refl) T a) (not_dead l n (λ f e. d u n f refl (subst (λ z. Above (plain_facts P) T (innermost o k) u z) e a)))
 
-  write_near : {a c : Ctx} {b : Option ℕ × ℕ} → Near a b c → {r r' : Ref} → WriteI (plain_facts P) T a r r' → WriteI dead_facts T c r r'
-  write_near near (writes_global h) = writes_global h
+  write_near : {a c : Ctx} {b : Option ℕ × ℕ} → Near a b c → {r r' : Ref} → WriteI (plain_facts P) T (λ n. ⊥) a r r' → WriteI dead_facts T (λ n. ⊥) c r r'
+  write_near near (writes_global h f) = writes_global h f
   write_near near (writes_place {n = n} {l = l} a h) = writes_place (above_same (plain_facts P) dead_facts (λ f. refl) T a) (fixed_same l h)
     where
       fixed_same : (l : Level) → (FixedAt (plain_facts P) l n → ⊥) → FixedAt dead_facts l n → ⊥
@@ -87,18 +87,18 @@ module _ (dead : (function place : ℕ) → Bool) (P : Program) where
 
   module _ (set' : List (Path × ℕ)) where
     abbrev K : Kit
-    K = inject_kit (plain_facts P) T set'
+    K = inject_kit (plain_facts P) T (same_right T set')
 
     abbrev pub DeadKit : Kit
-    DeadKit = inject_kit dead_facts T set'
+    DeadKit = inject_kit dead_facts T (same_right T set')
 
     binds_near : {a c : Ctx} {b : Option ℕ × ℕ} → Near a b c → {r : Ref} {f : ℕ} → BindsT K a r f → BindsT DeadKit c r f
     binds_near n (bound_by_write h) = bound_by_write (write_near n h)
-    binds_near n (bound_alone (binds_known k u)) = absurd k
+    binds_near n (bound_alone (binds_known k u f)) = absurd k
 
     sets_near : {a c : Ctx} {b : Option ℕ × ℕ} → Near a b c → {r : Ref} {v : Option Expr} → SetsT K a r v → SetsT DeadKit c r v
     sets_near n (set_by_write h) = set_by_write (write_near n h)
-    sets_near n (set_alone (sets_known k u)) = absurd k
+    sets_near n (set_alone (sets_known k u f)) = absurd k
 
     own_near : {a c : Ctx} {b : Option ℕ × ℕ} → Near a b c → {r : Ref} → IsOwnPlace a r → IsOwnPlace c r
     own_near near h = h
@@ -126,7 +126,7 @@ module _ (dead : (function place : ℕ) → Bool) (P : Program) where
     fine_unread W unread f h = stmts_both Ctx (Option ℕ × ℕ) Ctx (allowed K own_places) (reads_no_dead dead P) (allowed DeadKit own_places) Near both_allow near [] (body_of P f) (fine_scope P W set' own_places (own_stand P) f h) (unread f h)
 
     -- a declared variable at a dead place is written by the left alone
-    pub dead_gone : WellMade P → (f : ℕ) (c : Ctx) → IsWithin P f c → (r : Ref) → IsOwnPlace c r → is_dead (dead f) r ≡ true → Gone dead_facts T set' c r
+    pub dead_gone : WellMade P → (f : ℕ) (c : Ctx) → IsWithin P f c → (r : Ref) → IsOwnPlace c r → is_dead (dead f) r ≡ true → Gone dead_facts T (same_right T set') c r
     unfolding is_dead
     dead_gone W f c h r (own_global {n = n}) d = absurd (cc)
     dead_gone W f c h r (own_place {f = g} {k = k} {n = n}) d =

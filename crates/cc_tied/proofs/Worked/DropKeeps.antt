@@ -12,6 +12,7 @@ use Rattle.cc_tied.specs.FoldExample.{is_built_in}
 use Rattle.cc_tied.specs.Mixed.{MixedScopes}
 use Rattle.cc_tied.specs.Promises.{HasNoPaths}
 use Rattle.cc_tied.specs.Rewrites.{stay_call, whole_in}
+use Rattle.cc_tied.proofs.Injection.Tie.{same_right}
 use Rattle.cc_tied.proofs.Unchanged.{no_step_rules}
 use Rattle.cc_tied.proofs.Subsets.{Pass, Rewrites, rewritten}
 use Rattle.cc_tied.proofs.Mixed.KeptPaths.{Stays}
@@ -88,7 +89,7 @@ module _ (dead : (function place : ℕ) → Bool) (P : Program) where
       unbound = λ n f k. k;
       here = λ f. record { catches = 0; is = refl };
       steps = λ f X. no_step_rules _ X (is_built_in P) (same_tables (dead_facts dead P) P Q none (is_built_in P) built_none X) (IsWithin P f) (λ c h. within_catch h) own_places;
-      cuts = λ f X. drop_rules (dead_facts dead P) (tables_of P) (tables_of Q).set (is_built_in P) (dead f) (IsWithin P f) own_places X (same_tables (dead_facts dead P) P Q none (is_built_in P) built_none X)
+      cuts = λ f X. drop_rules (dead_facts dead P) (tables_of P) (same_right (tables_of P) (tables_of Q).set) (is_built_in P) (dead f) (IsWithin P f) own_places X (same_tables (dead_facts dead P) P Q none (is_built_in P) built_none X)
           (λ c h r o d. dead_gone dead P (tables_of Q).set W f c h r o d)
           (λ s. record { keeps = declares_within (tables_of P) (tables_of Q).set more (is_built_in P) (λ e. e) stay_call no_step_stays (keep_live (dead f)) whole_in drop s });
       declares = λ s. record { keeps = declares_same (tables_of P) (tables_of Q).set more s };

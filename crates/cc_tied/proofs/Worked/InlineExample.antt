@@ -22,7 +22,7 @@ use Rattle.cc_tied.proofs.Expressions as E
 use Rattle.cc_tied.proofs.Valued as V
 use Rattle.cc_tied.proofs.Nodes as N
 use Rattle.cc_tied.proofs.Rewriting.{anything, StepRules}
-use Rattle.cc_tied.proofs.Injection.Tie.{Ctx}
+use Rattle.cc_tied.proofs.Injection.Tie.{same_right, Ctx}
 use Rattle.cc_tied.proofs.Injection.Back.{literal_argument, global_argument, AreArguments, no_arguments, plain_argument, priced_argument}
 use Rattle.cc_tied.proofs.Injection.Inlining.{inlines}
 use Rattle.cc_tied.proofs.Injection.Facts.{head_get}
@@ -120,7 +120,7 @@ module _ (known : ℕ → Option Expr) (P : Program) (able : AreInlinable known 
         copied : (j n : ℕ) (e : Expr) (bs : Exprs) → known n ≡ Some e → all_may_stand known bs ≡ true → E.FollowsRef K X c None None f (var j (Ref.Global n)) → E.FollowsAll K X c es bs → V.FollowsValue K X built c (call i f es) (tick i (prices known bs + 1) (copy (all_unmarked known bs) e))
         copied j n e bs h t hf ha =
             let k = known_to n e h in let z = k.inlinable in
-            inlines F (tables_of P) (tables_of Q).set P Q z.function z.site z.scope.params e (body_is z.function z.stands ∙ z.body) (heads_of z.function z.stands) built (same_tables F P Q none built builts) (λ g. Unit {0}) (λ m r u. u) z.copyable d d' w le le' all tied c i i j n z.chunk (prices known bs) f es bs (all_unmarked known bs) (holds_known k.function) (λ u. u) z.kind hf ha (arguments_stand (tables_of P) c bs t)
+            inlines F (tables_of P) (same_right (tables_of P) (tables_of Q).set) P Q z.function z.site z.scope.params e (body_is z.function z.stands ∙ z.body) (heads_of z.function z.stands) built (same_tables F P Q none built builts) (λ g. Unit {0}) (λ m r. (λ u. u, λ u. u)) z.copyable d d' w le le' all tied c i i j n z.chunk (prices known bs) f es bs (all_unmarked known bs) (holds_known k.function) (λ u. u, λ u. u) z.kind hf ha (arguments_stand (tables_of P) c bs t)
 
         copied_or : (j n : ℕ) (bs : Exprs) → E.FollowsRef K X c None None f (var j (Ref.Global n)) → E.FollowsAll K X c es bs → (o : Option Expr) → known n ≡ o → V.FollowsValue K X built c (call i f es) (copy_or known o i bs (call i (var j (Ref.Global n)) bs))
         unfolding copy_or
