@@ -20,7 +20,7 @@ use cc_heap::heap::Heap;
 use cc_value::value::Value;
 
 /// What a callee breaks.
-pub(crate) fn callee_rule(heap: &Heap, value: &Value) -> Option<u8>
+pub fn callee_rule(heap: &Heap, value: &Value) -> Option<u8>
     ensures { (s : State) → result ≡ Rules.callee_rule (with_store s heap.now) (value_of value.now) }
 {
     match value {
@@ -124,7 +124,7 @@ fn all_fit(program: &Program, heap: &Heap, types: &[Option<TypeSet>], values: &[
 }
 
 /// What the beginning of a call breaks.
-pub(crate) fn enter_rule(
+pub fn enter_rule(
     program: &Program,
     heap: &Heap,
     function: u32,
@@ -178,7 +178,7 @@ fn builds_well(
 }
 
 /// What the end of a call breaks.
-pub(crate) fn leave_rule(
+pub fn leave_rule(
     program: &Program,
     heap: &Heap,
     function: u32,

@@ -31,7 +31,7 @@ fn function_doc(program: &Program, function: u32) -> Option<&SiteDoc>
 
 /// The type of a value by the doc with this number.
 #[tactic(auto, unfolding(cc_meaning::specs::Typed::value_in))]
-pub(crate) fn value_type(program: &Program, number: u32) -> Option<&TypeSet>
+pub fn value_type(program: &Program, number: u32) -> Option<&TypeSet>
     ensures { option_copied result ≡ Typed.value_in (Typed.doc_at (tables_of program.now) (Some number)) }
 {
     match doc_at(program, number) {
@@ -42,7 +42,7 @@ pub(crate) fn value_type(program: &Program, number: u32) -> Option<&TypeSet>
 
 /// The type of what a function gives.
 #[tactic(auto, unfolding(cc_meaning::specs::Typed::result_in))]
-pub(crate) fn result_type(program: &Program, function: u32) -> Option<&TypeSet>
+pub fn result_type(program: &Program, function: u32) -> Option<&TypeSet>
     ensures { option_copied result ≡ Typed.result_in (Typed.function_doc (tables_of program.now) function) }
 {
     match function_doc(program, function) {
@@ -64,7 +64,7 @@ pub(crate) fn receiver_type(program: &Program, function: u32) -> Option<&TypeSet
 
 /// The types of a function's parameters.
 #[tactic(auto, unfolding(cc_meaning::specs::Typed::params_in))]
-pub(crate) fn param_types(program: &Program, function: u32) -> &[Option<TypeSet>]
+pub fn param_types(program: &Program, function: u32) -> &[Option<TypeSet>]
     ensures { result.now ≡ Typed.params_in (Typed.function_doc (tables_of program.now) function) }
 {
     match function_doc(program, function) {
@@ -182,7 +182,7 @@ fn declared_type(program: &Program, variable: Variable) -> Option<&TypeSet>
 
 /// The type of a variable.
 #[tactic(auto, unfolding(cc_meaning::specs::Typed::variable_type, cc_meaning::specs::Monad::pick))]
-pub(crate) fn variable_type(program: &Program, variable: Variable) -> Option<&TypeSet>
+pub fn variable_type(program: &Program, variable: Variable) -> Option<&TypeSet>
     ensures { option_copied result ≡ Typed.variable_type (tables_of program.now) (variable_of variable) }
 {
     if is_param(program, variable) {

@@ -49,7 +49,7 @@ fn names_well(program: &Program, heap: &Heap, on: &Option<Value>, name: &Option<
 }
 
 /// What an act of the host breaks.
-pub(crate) fn host_rule(
+pub fn host_rule(
     program: &Program,
     heap: &Heap,
     given: bool,

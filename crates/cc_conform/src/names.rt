@@ -67,7 +67,7 @@ fn is_in(name: &[u16], names: &[Units]) -> bool
 
 /// Whether the program keeps the name.
 #[tactic(auto, unfolding(cc_meaning::specs::Store::is_kept, cc_meaning::specs::Shapes::tables_of))]
-pub(crate) fn is_kept(program: &Program, name: &[u16]) -> bool
+pub fn is_kept(program: &Program, name: &[u16]) -> bool
     ensures { result ≡ Store.is_kept (tables_of program.now) name.now }
 {
     is_in(name, program.kept.get().as_slice())
@@ -144,7 +144,7 @@ pub(crate) fn is_index(name: &[u16]) -> bool
 /// The name that a key means. A number of no property means the name without units, which is
 /// passed as `none`.
 #[tactic(auto, unfolding(cc_meaning::specs::Store::name_of, cc_meaning::specs::Store::prop_name, cc_meaning::specs::Shapes::tables_of))]
-pub(crate) fn name_of<'a>(program: &'a Program, key: &'a Access, none: &'a Units) -> &'a Units
+pub fn name_of<'a>(program: &'a Program, key: &'a Access, none: &'a Units) -> &'a Units
     requires { none.now ≡ [] }
     ensures { result.now ≡ Store.name_of (tables_of program.now) (access_of key.now) }
 {

@@ -98,7 +98,7 @@ fn unary_operands_rule(op: UnOp, operands: &[Value]) -> Option<u8>
 
 /// The rule that an operator or a built-in use breaks.
 #[tactic(auto, unfolding(cc_meaning::specs::Rules::operate_rule))]
-pub(crate) fn operate_rule(
+pub fn operate_rule(
     program: &Program,
     heap: &Heap,
     op: &Op,

@@ -43,7 +43,7 @@ fn class_from(classes: &[Class], function: u32) -> Option<usize>
 
 /// The class whose function this is.
 #[tactic(auto, unfolding(cc_meaning::specs::Store::class_of_function, cc_meaning::specs::Shapes::tables_of))]
-pub(crate) fn class_of_function(program: &Program, function: u32) -> Option<usize>
+pub fn class_of_function(program: &Program, function: u32) -> Option<usize>
     ensures { result ≡ Store.class_of_function (tables_of program.now) function }
 {
     class_from(program.classes.get().as_slice(), function)

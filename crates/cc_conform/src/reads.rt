@@ -96,7 +96,7 @@ fn object_read(
 }
 
 /// What a read breaks.
-pub(crate) fn read_rule(program: &Program, heap: &Heap, on: &Value, key: &Access) -> Option<u8>
+pub fn read_rule(program: &Program, heap: &Heap, on: &Value, key: &Access) -> Option<u8>
     ensures { (s : State) → result ≡ SlotRules.read_rule (tables_of program.now) (with_store s heap.now) (value_of on.now) (access_of key.now) }
 {
     let none = Units {
@@ -112,7 +112,7 @@ pub(crate) fn read_rule(program: &Program, heap: &Heap, on: &Value, key: &Access
 }
 
 /// What a question for a name breaks.
-pub(crate) fn probe_rule(program: &Program, heap: &Heap, on: &Value, key: &Access) -> Option<u8>
+pub fn probe_rule(program: &Program, heap: &Heap, on: &Value, key: &Access) -> Option<u8>
     ensures { (s : State) → result ≡ SlotRules.probe_rule (tables_of program.now) (with_store s heap.now) (value_of on.now) (access_of key.now) }
 {
     let none = Units {
@@ -128,7 +128,7 @@ pub(crate) fn probe_rule(program: &Program, heap: &Heap, on: &Value, key: &Acces
 }
 
 /// What `for-in` breaks.
-pub(crate) fn walk_rule(heap: &Heap, on: &Value) -> Option<u8>
+pub fn walk_rule(heap: &Heap, on: &Value) -> Option<u8>
     ensures { (s : State) → result ≡ SlotRules.walk_rule (with_store s heap.now) (value_of on.now) }
 {
     match on {

@@ -17,7 +17,7 @@ use cc_heap::heap::Heap;
 use cc_value::value::Value;
 
 /// What a read of a variable breaks.
-pub(crate) fn take_rule(
+pub fn take_rule(
     program: &Program,
     variable: Variable,
     loaded: bool,
@@ -30,7 +30,7 @@ pub(crate) fn take_rule(
 }
 
 /// What a value breaks that a variable receives.
-pub(crate) fn keep_rule(
+pub fn keep_rule(
     program: &Program,
     heap: &Heap,
     variable: Variable,
@@ -46,7 +46,7 @@ pub(crate) fn keep_rule(
 
 /// What a read of `this` breaks.
 #[tactic(auto, unfolding(cc_meaning::specs::Rules::this_rule))]
-pub(crate) fn this_rule(receiver: &Option<Value>) -> Option<u8>
+pub fn this_rule(receiver: &Option<Value>) -> Option<u8>
     ensures { result ≡ Rules.this_rule (option_map value_of receiver.now) }
 {
     match receiver {
@@ -56,7 +56,7 @@ pub(crate) fn this_rule(receiver: &Option<Value>) -> Option<u8>
 }
 
 /// What a cast breaks.
-pub(crate) fn cast_rule(program: &Program, heap: &Heap, wanted: u32, value: &Value) -> Option<u8>
+pub fn cast_rule(program: &Program, heap: &Heap, wanted: u32, value: &Value) -> Option<u8>
     ensures { (s : State) → result ≡ Rules.cast_rule (tables_of program.now) (with_store s heap.now) wanted (value_of value.now) }
 {
     rule_unless(fits(program, heap, value_type(program, wanted), value), 6)

@@ -84,7 +84,7 @@ fn object_write(
 }
 
 /// What a write breaks.
-pub(crate) fn write_rule(
+pub fn write_rule(
     program: &Program,
     heap: &Heap,
     on: &Value,
@@ -121,7 +121,7 @@ fn has_slot(heap: &Heap, object: usize, name: &Units) -> bool
 }
 
 /// What a removal breaks.
-pub(crate) fn remove_rule(program: &Program, heap: &Heap, on: &Value, key: &Access) -> Option<u8>
+pub fn remove_rule(program: &Program, heap: &Heap, on: &Value, key: &Access) -> Option<u8>
     ensures { (s : State) → result ≡ SlotRules.remove_rule (tables_of program.now) (with_store s heap.now) (value_of on.now) (access_of key.now) }
 {
     let none = Units {

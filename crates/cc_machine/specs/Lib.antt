@@ -1,0 +1,8 @@
+pub mod Machine
+pub mod Moves
+pub mod ExpressionSteps
+pub mod StatementSteps
+pub mod FrameSteps
+pub mod Steps
+pub mod Verdicts
+pub mod Promises

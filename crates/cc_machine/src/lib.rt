@@ -1,0 +1,19 @@
+//! The machine: a run as steps over a stack, which does what the written meaning says.
+#![tactic(auto)]
+
+ghost use Rattle.cc_machine.specs.Promises.{MachineMeans, MachineAnswers, LoopLaws};
+ghost use Rattle.cc_machine.specs.Verdicts.{VerdictLaws};
+
+/// From its start the machine comes to the end that the meaning says, in every mode, for every
+/// program, script and budget.
+pub fn machine_means()
+    ensures means { MachineMeans }
+    ensures answers { MachineAnswers }
+{}
+
+/// What a loop of steps needs: that it keeps the end that is to come, that fewer steps are left
+/// after each, and that the end is the right one.
+pub fn loop_laws()
+    ensures loops { LoopLaws }
+    ensures verdicts { VerdictLaws (Unit {0}) }
+{}
