@@ -1,0 +1,6 @@
+mod NameOrder
+mod NameForm
+mod FreeNames
+mod Ranks
+mod Standing
+mod Given

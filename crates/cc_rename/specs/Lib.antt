@@ -1,0 +1,4 @@
+pub mod Order
+pub mod Uses
+pub mod Naming
+pub mod Laws
