@@ -1,11 +1,14 @@
 -- Which annotation comments annotate what. A comment belongs to what begins at the next token that is no
 -- comment; of several that annotate one thing, the last in reading order counts.
-use Rattle.std.specs.Prelude.{ℕ, suc, Bool, ◌&&◌, nat_eq, List, [], ◌∷◌, ◌++◌, slice_get, Option, Some, None}
+use Rattle.std.specs.Prelude.{ℕ, suc, Bool, true, false, ◌&&◌, nat_eq, List, [], ◌∷◌, ◌++◌, slice_get, Option, Some, None}
 use Rattle.std.specs.List.{list_any}
 use Rattle.cc_ast.specs.declared.place.Place.{Place}
 use Rattle.cc_meaning.specs.Operators.{list_eq}
 use Rattle.cc_meaning.specs.Monad.{pick}
 use Rattle.cc_jsdoc.specs.declared.doc.Doc.{Doc}
+use Rattle.cc_jsdoc.specs.declared.doc.DocKind.{DocKind}
+use Rattle.cc_jsdoc.specs.declared.doc.DocKind.TheVariants as kind
+use Rattle.cc_jsdoc.specs.declared.types.TypeExpr.{TypeExpr}
 use Rattle.cc_grammar.specs.RawTree.{RawDeclarators, RawInit, RawForTarget, RawStmt, RawStmts, RawCatch, RawFinally, RawCases}
 use Rattle.cc_grammar.specs.RawTree as raw
 use Rattle.cc_scope.specs.Lists.{Name, or_zero, or_else}
@@ -54,6 +57,18 @@ comment_at qs cs = comment_numbered (last_from 0 qs cs) cs
 unfoldable pub said_at : List Place → List Comment → Option Doc
 unfolding said comment_at
 said_at qs cs = said (comment_at qs cs)
+
+-- ---- types
+
+unfoldable pub type_kind : DocKind → Bool
+type_kind kind.Enum = true
+type_kind kind.Typedef = true
+type_kind _ = false
+
+-- the type of a variable, path, field or cast; that of an enum or typedef is none of these
+unfoldable pub value_said : Doc → Option TypeExpr
+unfolding type_kind
+value_said d = pick (type_kind d.kind) None d.value
 
 -- ---- variables
 

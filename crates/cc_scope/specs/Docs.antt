@@ -14,20 +14,14 @@ use Rattle.cc_meaning.specs.Monad.{pick}
 use Rattle.cc_grammar.specs.RawTree.{Named}
 use Rattle.cc_scope.specs.Lists.{Name, or_zero, or_else}
 use Rattle.cc_scope.specs.Resolve.{locals, says_nothing}
-use Rattle.cc_scope.specs.Annotations.{Comment, doc_number, said_at, last_from, Declaration, stmts_at, places_of}
+use Rattle.cc_scope.specs.Annotations.{value_said, Comment, doc_number, said_at, last_from, Declaration, stmts_at, places_of}
 use Rattle.cc_scope.specs.Functions.{Function}
-use Rattle.cc_scope.specs.Externs.{type_kind}
 use Rattle.cc_scope.specs.Types.{Meanings, type_in}
 use Rattle.cc_scope.specs.Paths.{flat_paths}
 use Rattle.cc_scope.specs.Named.{path_places}
 use Rattle.cc_scope.specs.Classes.{Annotated, may_hold}
 
 -- ---- what a comment says
-
--- the type of a variable, path, field or cast; that of an enum or typedef is none of these
-unfoldable pub value_said : Doc → Option TypeExpr
-unfolding type_kind
-value_said d = pick (type_kind d.kind) None d.value
 
 unfoldable pub doc_said : Meanings → Doc → SiteDoc
 unfolding type_in value_said

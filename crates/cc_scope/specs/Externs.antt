@@ -9,7 +9,7 @@ use Rattle.cc_meaning.specs.Monad.{pick}
 use Rattle.cc_grammar.specs.RawTree.{RawStmts}
 use Rattle.cc_scope.specs.Lists.{Name, distinct}
 use Rattle.cc_scope.specs.Resolve.{all_declared}
-use Rattle.cc_scope.specs.Annotations.{Comment, Declaration, all_at, places_of, said_at}
+use Rattle.cc_scope.specs.Annotations.{type_kind, Comment, Declaration, all_at, places_of, said_at}
 use Rattle.cc_scope.specs.Properties.{all_properties}
 
 -- a class of the outside
@@ -38,11 +38,6 @@ class_kind _ = false
 unfoldable pub interface_kind : DocKind → Bool
 interface_kind kind.Interface = true
 interface_kind _ = false
-
-unfoldable pub type_kind : DocKind → Bool
-type_kind kind.Enum = true
-type_kind kind.Typedef = true
-type_kind _ = false
 
 -- marked `@constructor` or `@interface`
 unfoldable pub is_class_doc : Option Doc → Bool

@@ -1,6 +1,6 @@
 -- Resolution whole: from the trees of the chunks, the comments in them, the outside and the graph to the
 -- program, or what is refused first.
-use Rattle.std.specs.Prelude.{ℕ, suc, ◌+◌, Bool, List, [], ◌∷◌, ◌++◌, length, take, drop, Option, Some, None}
+use Rattle.std.specs.Prelude.{map, ℕ, suc, ◌+◌, Bool, List, [], ◌∷◌, ◌++◌, length, take, drop, Option, Some, None}
 use Rattle.std.specs.List.{list_any}
 use Rattle.cc_ast.specs.declared.place.Place.{Place}
 use Rattle.cc_ast.specs.declared.tables.ChunkInfo.{ChunkInfo}
@@ -14,6 +14,7 @@ use Rattle.cc_scope.specs.Resolve.{Source, nothing_added, all_declared, program_
 use Rattle.cc_scope.specs.Refusals.{Refusal, refusals_of, least_from}
 use Rattle.cc_scope.specs.Limits.{too_many}
 use Rattle.cc_scope.specs.Annotations.{Comment, doc_number, all_at, places_of}
+use Rattle.cc_scope.specs.Casts.{has_type, all_parens, beside, stmts_cast}
 use Rattle.cc_scope.specs.Functions.{all_functions}
 use Rattle.cc_scope.specs.Externs.{Externs}
 use Rattle.cc_scope.specs.Classes.{Annotated, ClassPlace, class_places, meanings, classes_of}
@@ -39,28 +40,38 @@ chunk_trees (n ∷ ns) fs = stmts (joined (take n fs)) ∷ chunk_trees ns (drop 
 
 -- ---- the program
 
--- the trees, with the statements that export
+-- the comments, those on parentheses aside
+unfoldable pub comments_of : Input → List Comment
+unfolding beside all_parens
+comments_of I = beside (all_parens I.trees) I.comments
+
+-- the trees with their casts
+unfoldable pub cast_trees : Input → List RawStmts
+unfolding stmts_cast has_type
+cast_trees I = map (stmts_cast (has_type I.comments)) I.trees
+
+-- and with the statements that export
 unfoldable pub trees_of : Input → List RawStmts
-unfolding trees_exporting
-trees_of I = trees_exporting I.exports I.comments I.trees
+unfolding trees_exporting comments_of cast_trees
+trees_of I = trees_exporting I.exports (comments_of I) (cast_trees I)
 
 -- without classes, docs and flat paths; the numbers of docs stand in the trees
 unfoldable pub bare : Input → Source
-unfolding trees_of kept_exports doc_number function_number all_functions
+unfolding trees_of kept_exports doc_number function_number all_functions comments_of cast_trees
 bare I = record {
   chunks = I.chunks;
   trees = trees_of I;
   externs = I.outside.globals;
-  kept = I.outside.kept ++ kept_exports I.exports I.comments I.trees;
+  kept = I.outside.kept ++ kept_exports I.exports (comments_of I) (cast_trees I);
   added = record nothing_added {
     cast_doc = λ q. doc_number (q ∷ []) I.comments;
-    function_doc = function_number (length I.trees) I.comments (all_functions (trees_of I));
+    function_doc = function_number (length I.trees) (comments_of I) (all_functions (trees_of I));
   };
 }
 
 unfoldable pub annotated : Input → Annotated
-unfolding program_of bare trees_of
-annotated I = record { program = program_of (bare I); trees = trees_of I; comments = I.comments; outside = I.outside }
+unfolding program_of bare trees_of comments_of
+annotated I = record { program = program_of (bare I); trees = trees_of I; comments = comments_of I; outside = I.outside }
 
 -- the number of a global of the chunks
 unfoldable pub number_of_global : Input → Name → ℕ
@@ -69,12 +80,12 @@ number_of_global I x = length I.outside.globals + 3 + or_zero (index_of x (disti
 
 -- with all that annotations add
 unfoldable pub source_of : Input → Source
-unfolding bare annotated classes_of docs_of meanings all_functions trees_of doc_number places_of all_at flat_of number_of_global
+unfolding bare annotated comments_of classes_of docs_of meanings all_functions trees_of doc_number places_of all_at flat_of number_of_global
 source_of I = record (bare I) {
   added = record ((bare I).added) {
     classes = classes_of (annotated I);
-    docs = docs_of (meanings (annotated I)) I.comments (all_functions (trees_of I));
-    global_doc = λ x. doc_number (places_of x (all_at (trees_of I))) I.comments;
+    docs = docs_of (meanings (annotated I)) (comments_of I) (all_functions (trees_of I));
+    global_doc = λ x. doc_number (places_of x (all_at (trees_of I))) (comments_of I);
     flat = λ x. flat_of (annotated I) (number_of_global I x);
   };
 }
@@ -113,8 +124,8 @@ outcome_of None [] (Some q) P = in_cycle q
 outcome_of None [] None P = resolved P
 
 unfoldable pub all_refusals : Input → List Refusal
-unfolding refusals_of source_of exports_refused
-all_refusals I = refusals_of (source_of I) ++ exports_refused I.exports I.outside.globals I.comments I.trees
+unfolding refusals_of source_of exports_refused comments_of cast_trees
+all_refusals I = refusals_of (source_of I) ++ exports_refused I.exports I.outside.globals (comments_of I) (cast_trees I)
 
 -- what resolution answers
 unfoldable pub resolution : Input → Outcome
