@@ -1,37 +1,65 @@
 -- The last comment counts, and what is annotated is declared.
-use Rattle.std.proofs.Common.{◌≡◌, refl, ap, ◌∙◌, inl, inr, ℕ, true, List, [], ◌∷◌, ◌++◌, Option, Some, None}
-use Rattle.std.specs.Prelude.{codes}
+use Rattle.std.proofs.Common.{◌≡◌, refl, sym, ap, ◌∙◌, subst, arith, ◌⊎◌, inl, inr, ℕ, suc, ◌+◌, Bool, true, false, ◌||◌, List, [], ◌∷◌, ◌++◌, length, Some, None}
+use Rattle.std.specs.Prelude.{slice_get}
 use Rattle.cc_ast.specs.declared.place.Place.{Place}
 use Rattle.cc_meaning.specs.Alike.{In, here, there}
 use Rattle.cc_meaning.specs.Monad.{pick}
 use Rattle.cc_meaning.specs.Operators.{list_eq}
-use Rattle.cc_grammar.specs.RawTree.{Named, RawDeclarators, RawInit, RawForTarget, RawStmt, RawStmts, RawCatch, RawFinally, RawCases}
+use Rattle.cc_grammar.specs.RawTree.{RawDeclarators, RawInit, RawForTarget, RawStmt, RawStmts, RawCatch, RawFinally, RawCases}
 use Rattle.cc_grammar.specs.RawTree as raw
-use Rattle.cc_scope.specs.Lists.{Name, or_else}
+use Rattle.cc_scope.specs.Lists.{Name, or_zero, or_else}
 use Rattle.cc_scope.specs.Marks.{vars_declare, init_declares, heading_declares, stmt_declares, stmts_declare, catch_declares, finally_declares, cases_declare}
-use Rattle.cc_scope.specs.Annotations.{Comment, is_at, comment_at, Declaration, declarators_at, var_at, init_at, heading_at, stmt_at, stmts_at, catch_at, finally_at, cases_at, comment_on}
+use Rattle.cc_scope.specs.Annotations.{Comment, is_at, is_on, last_from, doc_number, said, comment_numbered, comment_at, said_at, Declaration, declarators_at, var_at, init_at, heading_at, stmt_at, stmts_at, catch_at, finally_at, cases_at, places_of}
 use Rattle.cc_scope.proofs.Declared.{in_left, in_right, in_either}
 use Rattle.cc_scope.proofs.Names.{eq_self}
+use Rattle.cc_scope.proofs.Numbers.{head_or}
 
--- what comes first doesn't matter where something later is found
-later_found : {A : Type 0} (o p : Option A) (a : A) → o ≡ Some a → or_else o p ≡ Some a
-unfolding or_else
-later_found o p a e = ap (λ z. or_else z p) e
+or_true : (b : Bool) → b || true ≡ true
+or_true true = refl
+or_true false = refl
 
-nothing_later : {A : Type 0} (o p : Option A) → o ≡ None → or_else o p ≡ p
-unfolding or_else
-nothing_later o p e = ap (λ z. or_else z p) e
+-- ---- the last comment counts
 
-pub last_at : (q : Place) (cs ds : List Comment) (c : Comment) → is_at q c.next ≡ true → comment_at q ds ≡ None → comment_at q (cs ++ c ∷ ds) ≡ Some c.text
-unfolding comment_at
-last_at q [] ds c e n = nothing_later (comment_at q ds) (pick (is_at q c.next) (Some c.text) None) n ∙ ap (λ b. pick b (Some c.text) None) e
-last_at q (d ∷ cs) ds c e n = later_found (comment_at q (cs ++ c ∷ ds)) (pick (is_at q d.next) (Some d.text) None) c.text (last_at q cs ds c e n)
+none_later : (k : ℕ) (qs : List Place) (ds : List Comment) → ((d : Comment) → In d ds → is_on qs d ≡ false) → last_from k qs ds ≡ None
+unfolding last_from or_else
+none_later k qs [] h = refl
+none_later k qs (d ∷ ds) h = rw (none_later (suc k) qs ds (λ e i. h e (there i))) (ap (λ b. pick b (Some k) None) (h d here))
 
-pub last_on : (x : Name) (ds es : List Declaration) (d : Declaration) (cs : List Comment) (t : List ℕ) → d.variable ≡ x → comment_at d.place cs ≡ Some t → comment_on x es cs ≡ None → comment_on x (ds ++ d ∷ es) cs ≡ Some t
-unfolding comment_on
-last_on x [] es d cs t e h n = nothing_later (comment_on x es cs) (pick (list_eq x d.variable) (comment_at d.place cs) None) n
-    ∙ ap (λ b. pick b (comment_at d.place cs) None) (ap (list_eq x) e ∙ eq_self x) ∙ h
-last_on x (u ∷ ds) es d cs t e h n = later_found (comment_on x (ds ++ d ∷ es) cs) (pick (list_eq x u.variable) (comment_at u.place cs) None) t (last_on x ds es d cs t e h n)
+last_is : (k : ℕ) (qs : List Place) (cs ds : List Comment) (c : Comment) → is_on qs c ≡ true → ((d : Comment) → In d ds → is_on qs d ≡ false) → last_from k qs (cs ++ c ∷ ds) ≡ Some (k + length cs)
+unfolding last_from or_else
+last_is k qs [] ds c e h = rw (none_later (suc k) qs ds h) (ap (λ b. pick b (Some k) None) e ∙ ap Some (let z : k ≡ k + 0 = omega arith in z))
+last_is k qs (d ∷ cs) ds c e h = rw (last_is (suc k) qs cs ds c e h) (ap Some (let z : suc k + length cs ≡ k + suc (length cs) = omega arith in z))
+
+at_length : (cs ds : List Comment) (c : Comment) → slice_get (cs ++ c ∷ ds) (length cs) ≡ Some c
+at_length [] ds c = refl
+at_length (d ∷ cs) ds c = at_length cs ds c
+
+pub last_counts : (qs : List Place) (cs ds : List Comment) (c : Comment) → is_on qs c ≡ true → ((d : Comment) → In d ds → is_on qs d ≡ false) → (doc_number qs (cs ++ c ∷ ds) ≡ suc (length cs)) × (said_at qs (cs ++ c ∷ ds) ≡ Some c.says)
+unfolding doc_number or_zero said_at said comment_at comment_numbered
+last_counts qs cs ds c e h = (first, second) where
+  first : doc_number qs (cs ++ c ∷ ds) ≡ suc (length cs)
+  first = ap or_zero (last_is 1 qs cs ds c e h) ∙ (let z : 1 + length cs ≡ suc (length cs) = omega arith in z)
+
+  found : last_from 0 qs (cs ++ c ∷ ds) ≡ Some (length cs)
+  found = last_is 0 qs cs ds c e h ∙ ap Some (let z : 0 + length cs ≡ length cs = omega arith in z)
+
+  second : said_at qs (cs ++ c ∷ ds) ≡ Some c.says
+  second = ap (λ o. said (comment_numbered o (cs ++ c ∷ ds))) found ∙ ap said (at_length cs ds c)
+
+-- a comment at a declaration of a variable is on the variable
+on_variable : (x : Name) (es : List Declaration) (e : Declaration) (c : Comment) → In e es → e.variable ≡ x → is_at e.place c.next ≡ true → is_on (places_of x es) c ≡ true
+unfolding places_of is_on
+on_variable x [] e c i v h = elim i [ ]
+on_variable x (d ∷ es) e c i v h = by (list_eq x d.variable) refl (head_or e d es i) (λ j. on_variable x es e c j v h) where
+  by : (b : Bool) → list_eq x d.variable ≡ b → (e ≡ d) ⊎ In e es → (In e es → is_on (places_of x es) c ≡ true) → is_on (pick b (d.place ∷ places_of x es) (places_of x es)) c ≡ true
+  by true s (inl j) g = rw (subst (λ y. is_at y.place c.next ≡ true) j h) refl
+  by true s (inr j) g = rw (g j) (or_true (is_at d.place c.next))
+  by false s (inl j) g = absurd (let z : list_eq x x ≡ true = eq_self x in let y : list_eq x d.variable ≡ true = subst (λ w. list_eq x w ≡ true) (sym v ∙ ap (λ w. w.variable) j) z in let q : true ≡ false = sym y ∙ s in cc)
+  by false s (inr j) g = g j
+
+pub last_declaration : (x : Name) (es : List Declaration) (e : Declaration) (cs ds : List Comment) (c : Comment) → In e es → e.variable ≡ x → is_at e.place c.next ≡ true
+    → ((d : Comment) → In d ds → is_on (places_of x es) d ≡ false) → doc_number (places_of x es) (cs ++ c ∷ ds) ≡ suc (length cs)
+last_declaration x es e cs ds c i v h n = (last_counts (places_of x es) cs ds c (on_variable x es e c i v h) n).0
 
 -- ---- what is annotated is declared
 
@@ -116,33 +144,3 @@ mutual
 pub are_declared : (t : RawStmts) (d : Declaration) → In d (stmts_at t) → In d.variable (stmts_declare t)
 unfolding Are
 are_declared t d i = stmts_are t d i
-
--- ---- `/** a */ var x, /** b */ y; /** c */ function x(){}`: c is on x, b on y
-
-abbrev place : ℕ → Place
-place n = record { file = 0; offset = n; line = 1; column = n }
-
-abbrev said : ℕ → List ℕ → Comment
-said n t = record { next = place n; text = t }
-
-abbrev name_at : ℕ → List ℕ → Named
-name_at n x = record { place = place n; name = x }
-
-abbrev comments : List Comment
-comments = said 9 (codes "a") ∷ said 24 (codes "b") ∷ said 36 (codes "c") ∷ []
-
-abbrev text : RawStmts
-text = raw.more_stmts (raw.vars (place 9) (raw.more_declarators (name_at 13 (codes "x")) raw.no_expr (raw.more_declarators (name_at 24 (codes "y")) raw.no_expr raw.no_declarators)))
-    (raw.more_stmts (raw.fun_decl (place 36) (name_at 45 (codes "x")) [] raw.no_stmts) raw.no_stmts)
-
-on_function : comment_on (codes "x") (stmts_at text) comments ≡ Some (codes "c")
-unfolding comment_on comment_at is_at or_else list_eq declarators_at var_at stmts_at
-on_function = refl
-
-on_declarator : comment_on (codes "y") (stmts_at text) comments ≡ Some (codes "b")
-unfolding comment_on comment_at is_at or_else list_eq declarators_at var_at stmts_at
-on_declarator = refl
-
-on_first : comment_on (codes "x") (stmts_at text) (said 9 (codes "a") ∷ []) ≡ Some (codes "a")
-unfolding comment_on comment_at is_at or_else list_eq declarators_at var_at stmts_at
-on_first = refl

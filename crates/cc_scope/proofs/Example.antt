@@ -17,7 +17,7 @@ use Rattle.cc_grammar.specs.RawTree as raw
 use Rattle.cc_scope.specs.Lists.{Name}
 use Rattle.cc_scope.specs.Lists as ls
 use Rattle.cc_scope.specs.Resolve as r
-use Rattle.cc_scope.specs.Resolve.{Source, program_of, says_nothing}
+use Rattle.cc_scope.specs.Resolve.{nothing_added, Source, program_of, says_nothing}
 use Rattle.cc_scope.specs.Written as n
 use Rattle.cc_scope.specs.Written.{Naming, Apart, ChunksN, FunN, own_global, seen_place, seen_global, frame_of}
 use Rattle.cc_scope.specs.Promises.{Outside, Meant, an_extern, a_global, declared_from}
@@ -32,6 +32,7 @@ use Rattle.cc_scope.specs.Marks as m
 use Rattle.cc_scope.specs.Refusals as f
 use Rattle.cc_scope.specs.Grammatical as g
 use Rattle.cc_scope.specs.Promises.{Readable, Grammatical, AreFew}
+use Rattle.cc_scope.proofs.NothingAdded.{nothing_is_added}
 use Rattle.cc_scope.proofs.Made.{well_made}
 
 abbrev o : Place
@@ -92,6 +93,7 @@ source = record {
       (raw.more_stmts (raw.simple o (raw.call o (raw.var o (v.global 4)) (raw.more_exprs (raw.var o (v.global 0)) raw.no_exprs))) raw.no_stmts) ∷ [];
   externs = codes "alert" ∷ [];
   kept = [];
+  added = nothing_added;
 }
 
 unfoldable shut : ℕ
@@ -166,7 +168,7 @@ alike = reads_back v apart small source refl refl outside written
 -- ---- it is accepted, and what is resolved is well made
 
 unfoldable shut_source : ℕ
-unfolding builtin_globals ls.index_of ls.later ls.new_names ls.distinct ls.or_zero ls.or_else op.list_eq op.is_in m.expr_marks m.key_marks m.stmts_declare m.functions m.sites m.names r.global_from r.global_named r.outwards r.in_frame r.lookup r.named r.locals r.with_own r.inner r.all_marks r.all_declared r.no_doc r.outer_of f.global_of f.read_by f.write_by f.global_meant f.is_string_use f.is_member_use f.variable_meant f.is_built_callee f.declared_by f.repeated f.within f.expr_refused f.all_refused f.refusals_of outer_global st.built_number pa.is_no_built pa.is_own_global pa.is_string pa.has_use ca.member_use pa.exact_prim pa.assigns g.operand_fits g.statements g.loop_labels g.default_clauses g.has_catch g.has_finally g.stmts_fit wm.refused_names wm.may_break wm.may_continue
+unfolding builtin_globals ls.index_of ls.later ls.new_names ls.distinct ls.or_zero ls.or_else op.list_eq op.is_in m.expr_marks m.key_marks m.stmts_declare m.functions m.sites m.names r.global_from r.global_named r.outwards r.in_frame r.lookup r.named r.locals r.with_own r.inner r.all_marks r.all_declared r.outer_of f.global_of f.read_by f.write_by f.global_meant f.is_string_use f.is_member_use f.variable_meant f.is_built_callee f.declared_by f.repeated f.within f.expr_refused f.all_refused f.refusals_of outer_global st.built_number pa.is_no_built pa.is_own_global pa.is_string pa.has_use ca.member_use pa.exact_prim pa.assigns g.operand_fits g.statements g.loop_labels g.default_clauses g.has_catch g.has_finally g.stmts_fit wm.refused_names wm.may_break wm.may_continue
 shut_source = 0
 
 deps_in : Option ChunkInfo → List ℕ
@@ -209,4 +211,4 @@ unfolding shut_source
 unrefused = refl
 
 made : wm.WellMade (program_of source)
-made = well_made source readable grammatical few unrefused
+made = well_made source readable grammatical unrefused few (nothing_is_added source few refl)

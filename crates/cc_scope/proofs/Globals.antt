@@ -13,7 +13,7 @@ use Rattle.cc_meaning.specs.Alike.{In, here, there, Paired, OneToOne, GlobalA, A
 use Rattle.cc_grammar.specs.RawTree.{RawStmts}
 use Rattle.cc_scope.specs.Lists.{Name, index_of, later, new_names, distinct, or_zero, or_else}
 use Rattle.cc_scope.specs.Marks.{stmts_declare}
-use Rattle.cc_scope.specs.Resolve.{Source, outer_of, global_from, global_named, all_declared, chunk_by, chunk_info, outer_info, globals_of, program_of}
+use Rattle.cc_scope.specs.Resolve.{Added, Source, outer_of, global_from, global_named, all_declared, chunk_by, chunk_info, outer_info, globals_of, program_of}
 use Rattle.cc_scope.specs.Written.{Naming, Apart, count_from, stmts_in, ChunksN}
 use Rattle.cc_scope.specs.Written as n
 use Rattle.cc_scope.specs.Promises.{declared_from, Outside, Meant, an_extern, a_builtin, a_global}
@@ -82,11 +82,11 @@ builtin_index (suc (suc (suc i))) x h e = absurd (omega arith)
 
 -- ---- the tables that are read
 
-pub without_outer : (xs : List Name) (ts : List RawStmts) (ys : List Name) → without_chunk (map outer_info xs ++ map (chunk_info ts) ys) ≡ length xs
+pub without_outer : (A : Added) (xs : List Name) (ts : List RawStmts) (ys : List Name) → without_chunk (map outer_info xs ++ map (chunk_info A ts) ys) ≡ length xs
 unfolding without_chunk chunk_info
-without_outer [] ts [] = refl
-without_outer [] ts (y ∷ ys) = without_outer [] ts ys
-without_outer (x ∷ xs) ts ys = ap suc (without_outer xs ts ys)
+without_outer A [] ts [] = refl
+without_outer A [] ts (y ∷ ys) = without_outer A [] ts ys
+without_outer A (x ∷ xs) ts ys = ap suc (without_outer A xs ts ys)
 
 pub after : {A : Type 0} (xs ys : List A) (k : ℕ) (y : A) → slice_get ys k ≡ Some y → slice_get (xs ++ ys) (length xs + k) ≡ Some y
 after [] ys k y e = subst (λ i. slice_get ys i ≡ Some y) (let h : k ≡ 0 + k = omega arith in h) e
@@ -199,7 +199,7 @@ module _ (v : Naming) (P : Program) (S : Source) (ds : List ℕ) (O : Outside v 
 
   externs_count : without_chunk (globals_of S) - 3 ≡ length S.externs
   unfolding globals_of distinct
-  externs_count = let a = without_outer (S.externs ++ builtin_globals) S.trees gs in let b = length_map outer_info (S.externs ++ builtin_globals) in let c = outer_length in omega arith
+  externs_count = let a = without_outer S.added (S.externs ++ builtin_globals) S.trees gs in let b = length_map outer_info (S.externs ++ builtin_globals) in let c = outer_length in omega arith
 
   read_kind : (n : ℕ) → global_kind (tables_of Q) n ≡ global_by (length S.externs) n (chunk_in (slice_get (globals_of S) n))
   unfolding global_kind tables_of program_of
@@ -207,15 +207,15 @@ module _ (v : Naming) (P : Program) (S : Source) (ds : List ℕ) (O : Outside v 
 
   pub outer_read : (m : ℕ) → m < length S.externs + 3 → global_kind (tables_of Q) m ≡ outer_global (length S.externs) m
   unfolding globals_of distinct global_by chunk_in
-  outer_read m h = read_kind m ∙ ap (λ o. global_by (length S.externs) m (chunk_in o)) (first_part (map outer_info (S.externs ++ builtin_globals)) (map (chunk_info S.trees) gs) m (outer_info (v.global m)) (slice_get-map outer_info (S.externs ++ builtin_globals) m ∙ ap (option_map outer_info) (O.outer_name m h)))
+  outer_read m h = read_kind m ∙ ap (λ o. global_by (length S.externs) m (chunk_in o)) (first_part (map outer_info (S.externs ++ builtin_globals)) (map (chunk_info S.added S.trees) gs) m (outer_info (v.global m)) (slice_get-map outer_info (S.externs ++ builtin_globals) m ∙ ap (option_map outer_info) (O.outer_name m h)))
 
   pub inner_read : (m : ℕ) → In m ds → global_kind (tables_of Q) (inner_number m) ≡ of_chunk (chunk_by 0 (v.global m) S.trees)
   unfolding globals_of distinct global_by chunk_in inner_number or_zero chunk_info
   inner_read m h =
       let d = place_in m h in
-      let e : slice_get (map (chunk_info S.trees) gs) d.0 ≡ Some (chunk_info S.trees (v.global m)) = slice_get-map (chunk_info S.trees) gs d.0 ∙ ap (option_map (chunk_info S.trees)) d.2 in
+      let e : slice_get (map (chunk_info S.added S.trees) gs) d.0 ≡ Some (chunk_info S.added S.trees (v.global m)) = slice_get-map (chunk_info S.added S.trees) gs d.0 ∙ ap (option_map (chunk_info S.added S.trees)) d.2 in
       let i : length (map outer_info (S.externs ++ builtin_globals)) + d.0 ≡ length S.externs + 3 + or_zero (index_of (v.global m) gs) = ap (λ k. k + d.0) outer_length ∙ ap (λ o. length S.externs + 3 + or_zero o) (sym d.1) in
-      read_kind (inner_number m) ∙ ap (λ o. global_by (length S.externs) (inner_number m) (chunk_in o)) (subst (λ k. slice_get (globals_of S) k ≡ Some (chunk_info S.trees (v.global m))) i (after (map outer_info (S.externs ++ builtin_globals)) (map (chunk_info S.trees) gs) d.0 (chunk_info S.trees (v.global m)) e))
+      read_kind (inner_number m) ∙ ap (λ o. global_by (length S.externs) (inner_number m) (chunk_in o)) (subst (λ k. slice_get (globals_of S) k ≡ Some (chunk_info S.added S.trees (v.global m))) i (after (map outer_info (S.externs ++ builtin_globals)) (map (chunk_info S.added S.trees) gs) d.0 (chunk_info S.added S.trees (v.global m)) e))
 
   chunk_is : (Known : ℕ → Type 0) → ((d j : ℕ) → d < length S.trees → In j (stmts_in (body_of P d)) → In j ds) → (c : ℕ) (ts : List RawStmts) → ChunksN v P Known c ts → c + length ts ≤ length S.trees
       → (m b : ℕ) → In m ds → c ≤ b → b < c + length ts → In m (stmts_in (body_of P b)) → ((d : ℕ) → d < b → In m (stmts_in (body_of P d)) → ⊥) → chunk_by c (v.global m) ts ≡ b

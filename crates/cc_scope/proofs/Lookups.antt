@@ -103,12 +103,12 @@ module _ (S : Source) where
 
   outer_entry : (x : Name) (k : ℕ) → slice_get (S.externs ++ builtin_globals) k ≡ Some x → slice_get (globals_of S) k ≡ Some (outer_info x)
   unfolding globals_of distinct
-  outer_entry x k e = first_part (map outer_info (S.externs ++ builtin_globals)) (map (chunk_info S.trees) (new_names [] (all_declared S.trees))) k (outer_info x) (slice_get-map outer_info (S.externs ++ builtin_globals) k ∙ ap (option_map outer_info) e)
+  outer_entry x k e = first_part (map outer_info (S.externs ++ builtin_globals)) (map (chunk_info S.added S.trees) (new_names [] (all_declared S.trees))) k (outer_info x) (slice_get-map outer_info (S.externs ++ builtin_globals) k ∙ ap (option_map outer_info) e)
 
-  pub inner_entry : (x : Name) (j : ℕ) → slice_get (new_names [] (all_declared S.trees)) j ≡ Some x → slice_get (globals_of S) (length S.externs + 3 + j) ≡ Some (chunk_info S.trees x)
+  pub inner_entry : (x : Name) (j : ℕ) → slice_get (new_names [] (all_declared S.trees)) j ≡ Some x → slice_get (globals_of S) (length S.externs + 3 + j) ≡ Some (chunk_info S.added S.trees x)
   unfolding globals_of distinct
-  inner_entry x j e = subst (λ k. slice_get (globals_of S) k ≡ Some (chunk_info S.trees x)) (ap (λ i. i + j) outer_length)
-      (after (map outer_info (S.externs ++ builtin_globals)) (map (chunk_info S.trees) (new_names [] (all_declared S.trees))) j (chunk_info S.trees x) (slice_get-map (chunk_info S.trees) (new_names [] (all_declared S.trees)) j ∙ ap (option_map (chunk_info S.trees)) e))
+  inner_entry x j e = subst (λ k. slice_get (globals_of S) k ≡ Some (chunk_info S.added S.trees x)) (ap (λ i. i + j) outer_length)
+      (after (map outer_info (S.externs ++ builtin_globals)) (map (chunk_info S.added S.trees) (new_names [] (all_declared S.trees))) j (chunk_info S.added S.trees x) (slice_get-map (chunk_info S.added S.trees) (new_names [] (all_declared S.trees)) j ∙ ap (option_map (chunk_info S.added S.trees)) e))
 
   some_in : (x : Name) (xs : List Name) (k : ℕ) → index_of x xs ≡ Some k → is_in x xs ≡ true
   some_in x xs k e = in_is_in x xs (at_in xs k x (index_in x xs k e))
@@ -144,7 +144,7 @@ module _ (S : Source) where
 
   externs_count : without_chunk (globals_of S) - 3 ≡ length S.externs
   unfolding globals_of distinct
-  externs_count = let a = without_outer (S.externs ++ builtin_globals) S.trees (new_names [] (all_declared S.trees)) in let b = length_map outer_info (S.externs ++ builtin_globals) in let c = outer_length in omega arith
+  externs_count = let a = without_outer S.added (S.externs ++ builtin_globals) S.trees (new_names [] (all_declared S.trees)) in let b = length_map outer_info (S.externs ++ builtin_globals) in let c = outer_length in omega arith
 
   pub kind_at : (k : ℕ) (g : GlobalInfo) → slice_get (globals_of S) k ≡ Some g → global_kind (tables_of (program_of S)) k ≡ global_by (length S.externs) k g.chunk
   unfolding global_kind tables_of program_of chunk_in
@@ -152,7 +152,7 @@ module _ (S : Source) where
 
   pub inner_kind : (x : Name) (j : ℕ) → slice_get (new_names [] (all_declared S.trees)) j ≡ Some x → global_kind (tables_of (program_of S)) (length S.externs + 3 + j) ≡ of_chunk (chunk_by 0 x S.trees)
   unfolding global_by chunk_info
-  inner_kind x j e = kind_at (length S.externs + 3 + j) (chunk_info S.trees x) (inner_entry x j e)
+  inner_kind x j e = kind_at (length S.externs + 3 + j) (chunk_info S.added S.trees x) (inner_entry x j e)
 
   -- the sort by which a name is refused is that of the table
   pub one_sort : (x : Name) (k : ℕ) → GlobalFact x k → SameSort (global_of (outer_of S) k) (global_kind (tables_of (program_of S)) k)

@@ -1,20 +1,15 @@
 -- What is resolved without a refusal is well made, where nothing is annotated.
-use Rattle.std.proofs.Common.{◌≡◌, refl, sym, ap, ◌∙◌, subst, arith, ◌⊎◌, inl, inr, ℕ, zero, suc, ◌+◌, ◌^◌, ◌<◌, ◌≤◌, lit<, Bool, true, false, not, cond, List, [], ◌∷◌, ◌++◌, length, map, Option, Some, None, length-append}
+use Rattle.std.proofs.Common.{◌≡◌, refl, sym, ap, ◌∙◌, subst, arith, ◌⊎◌, inl, inr, ℕ, zero, suc, ◌+◌, ◌^◌, ◌<◌, ◌≤◌, Bool, true, false, not, List, [], ◌∷◌, ◌++◌, length, Option, Some, None}
 use Rattle.std.specs.Prelude.{slice_get}
-use Rattle.cc_ast.specs.declared.place.Place.{Place}
-use Rattle.cc_ast.specs.declared.tables.GlobalInfo.{GlobalInfo}
 use Rattle.cc_ast.specs.Syntax.{Scope, Program}
-use Rattle.cc_meaning.specs.Operators.{is_in}
-use Rattle.cc_meaning.specs.Names.{builtin_globals}
 use Rattle.cc_meaning.specs.Shapes.{tables_of}
 use Rattle.cc_meaning.specs.Alike.{In, here, there}
 use Rattle.cc_meaning.specs.Parts.{Part, has_site, uses_prop, uses_doc, mentions, declares, makes, sets_method, stmts_parts}
-use Rattle.cc_meaning.specs.WellMade.{parts_of, is_chunk, opened, functions_in, all_functions, IsDistinct, IsScope, IsMade, IsPart, IsCounted, path_count, method_count, WellMade, stmts_well}
-use Rattle.cc_meaning.specs.WellMade as w
+use Rattle.cc_meaning.specs.WellMade.{parts_of, opened, functions_in, all_functions, IsDistinct, IsScope, IsMade, IsCounted, path_count, method_count, WellMade, stmts_well}
 use Rattle.cc_grammar.specs.RawTree.{RawStmts}
-use Rattle.cc_scope.specs.Lists.{Name, new_names, distinct}
+use Rattle.cc_scope.specs.Lists.{new_names, distinct}
 use Rattle.cc_scope.specs.Marks.{Mark, a_site, a_name, a_function, names, sites, functions, Counters}
-use Rattle.cc_scope.specs.Resolve.{Frames, scope_of, chunk_scope, outer_info, chunk_info, globals_of, prop_info, kept_of, no_doc, Source, all_marks, all_declared, outer_of, program_of, stmts_of}
+use Rattle.cc_scope.specs.Resolve.{Frames, scope_of, chunk_scope, prop_info, kept_of, Source, all_marks, outer_of, program_of, stmts_of, nothing_added}
 use Rattle.cc_scope.specs.Refusals.{refusals_of, resolve, answered}
 use Rattle.cc_scope.specs.Grammatical.{at_head}
 use Rattle.cc_scope.specs.Promises.{Readable, Grammatical, AreFew}
@@ -27,9 +22,12 @@ use Rattle.cc_scope.proofs.Tables as tables
 use Rattle.cc_scope.proofs.Tables.{split_at}
 use Rattle.cc_scope.proofs.Pieces.{Rising, no_more, one_more, spot, Stands, chunk_stands, function_stands}
 use Rattle.cc_scope.proofs.Parts.{stmts}
-use Rattle.cc_scope.proofs.Standing.{each_stands, given, the_parts, top_is}
-use Rattle.cc_scope.proofs.Sound.{part, meant}
+use Rattle.cc_scope.proofs.Standing.{each_stands, plain, given, the_parts, top_is}
+use Rattle.cc_scope.proofs.Sound.{part, made, meant}
 use Rattle.cc_scope.proofs.Well as well
+use Rattle.cc_scope.proofs.Lists.{new_shorter}
+use Rattle.cc_scope.proofs.Additions.{IsAdded}
+use Rattle.cc_scope.proofs.NothingAdded.{nothing_is_added}
 
 -- ---- lists
 
@@ -84,14 +82,6 @@ function_number : Part → ℕ
 function_number (makes c f d) = f
 function_number _ = 0
 
-new_shorter : (ms ns : List Name) → length (new_names ms ns) ≤ length ns
-unfolding new_names
-new_shorter ms [] = omega arith
-new_shorter ms (n ∷ ns) = by (is_in n ms) (new_shorter ms ns) (new_shorter (ms ++ n ∷ []) ns) where
-  by : (b : Bool) → length (new_names ms ns) ≤ length ns → length (new_names (ms ++ n ∷ []) ns) ≤ length ns → length (cond b (new_names ms ns) (n ∷ new_names (ms ++ n ∷ []) ns)) ≤ suc (length ns)
-  by true h k = omega arith
-  by false h k = omega arith
-
 few_functions : (ms : List Mark) → functions ms ≤ length ms
 unfolding functions
 few_functions [] = omega arith
@@ -113,86 +103,26 @@ few_names (a_function ∷ ms) = let h = few_names ms in omega arith
 few_names (a_site q ∷ ms) = let h = few_names ms in omega arith
 few_names (a_name x ∷ ms) = let h = few_names ms in omega arith
 
-no_paths : (xs ys : List GlobalInfo) → path_count xs ≡ 0 → path_count ys ≡ 0 → path_count (xs ++ ys) ≡ 0
-unfolding path_count
-no_paths [] ys e h = h
-no_paths (x ∷ xs) ys e h = let k = no_paths xs ys (omega arith) h in omega arith
+scope_or : Scope → Option Scope → Scope
+scope_or s None = s
+scope_or s (Some z) = z
 
-no_outer_paths : (xs : List Name) → path_count (map outer_info xs) ≡ 0
-unfolding path_count
-no_outer_paths [] = refl
-no_outer_paths (x ∷ xs) = let h = no_outer_paths xs in omega arith
-
-no_chunk_paths : (ts : List RawStmts) (xs : List Name) → path_count (map (chunk_info ts) xs) ≡ 0
-unfolding path_count chunk_info
-no_chunk_paths ts [] = refl
-no_chunk_paths ts (x ∷ xs) = let h = no_chunk_paths ts xs in omega arith
-
-module _ (S : Source) (R : Readable S) (fitting : Grammatical S) (few : AreFew S) (unrefused : refusals_of S ≡ []) where
-  -- ---- scopes
-
-  scope_or : Scope → Option Scope → Scope
-  scope_or s None = s
-  scope_or s (Some z) = z
-
-  well_body : {f : ℕ} {top : Bool} {E : Frames} {b : RawStmts} {n : Counters} → Stands S f top E b n → stmts_well (tables_of (program_of S)) (opened (program_of S) f) [] (stmts_of (outer_of S) E n b) ≡ true
-  well_body {f} {top} {E} {b} {n} st =
-      let g = given S R fitting unrefused st in
-      subst (λ k. stmts_well (tables_of (program_of S)) (at_head (not k)) [] (stmts_of (outer_of S) E n b) ≡ true) (sym (top_is S R fitting unrefused st))
-      (well.stmts S (spot top E []) n (at_head (not top)) [] b (record { named = g.spelled; empty = g.clean; fits = g.fits }))
-
-  first_doc : 0 < length (program_of S).docs
-  unfolding program_of
-  first_doc = lit< tt
-
-  each_doc : (q : Place) → (outer_of S).doc_at q < length (program_of S).docs
-  unfolding program_of outer_of no_doc
-  each_doc q = lit< tt
-
-  scope_well : {f : ℕ} {top : Bool} {E : Frames} {b : RawStmts} {n : Counters} → Stands S f top E b n → (s : Scope) → slice_get (program_of S).scopes f ≡ Some s → IsScope (program_of S) f s
-  unfolding scope_or chunk_scope scope_of
-  scope_well (chunk_stands f b n l t e g) s d =
-      let st = chunk_stands f b n l t e g in
-      subst (λ z. IsScope (program_of S) f z) (ap (scope_or s) (sym e ∙ d)) (record {
-        statements = well_body st;
-        parts = part S R fitting unrefused st;
-        doc = first_doc;
-        chunk_own = λ h. refl;
-        chunk_parent = λ h. refl;
-      })
-  scope_well (function_stands {f = g} {E} st ys own ps b n q k o eo m e a z) s d =
-      let this = function_stands st ys own ps b n q k o eo m e a z in
-      subst (λ y. IsScope (program_of S) n.function y) (ap (scope_or s) (sym e ∙ d)) (record {
-        statements = well_body this;
-        parts = part S R fitting unrefused this;
-        doc = each_doc q;
-        chunk_own = λ h. absurd (let y : true ≡ false = sym h ∙ top_is S R fitting unrefused this in cc);
-        chunk_parent = λ h. absurd (let y : true ≡ false = sym h ∙ top_is S R fitting unrefused this in cc);
-      })
-
-  each_scope : (f : ℕ) (s : Scope) → slice_get (program_of S).scopes f ≡ Some s → IsScope (program_of S) f s
-  each_scope f s e = scope_well (each_stands S R fitting unrefused f s e).stands s e
-
+module _ (S : Source) (R : Readable S) (fitting : Grammatical S) (unrefused : refusals_of S ≡ []) where
   -- ---- each function stands once
 
-  parts_at : (f : ℕ) (s : Scope) → slice_get (program_of S).scopes f ≡ Some s → parts_of (program_of S) f ≡ stmts_parts (tables_of (program_of S)) 0 s.body
+  pub parts_at : (f : ℕ) (s : Scope) → slice_get (program_of S).scopes f ≡ Some s → parts_of (program_of S) f ≡ stmts_parts (tables_of (program_of S)) 0 s.body
   unfolding parts_of
   parts_at f s e = ap (stmts_parts (tables_of (program_of S)) 0) (Rattle.cc_scope.proofs.Whole.body_is (program_of S) f s e)
 
   -- the parent of a function is the scope in whose statements it stands
+  pub made_in : (f c g : ℕ) (d : Bool) (s : Scope) → slice_get (program_of S).scopes f ≡ Some s → In (makes c g d) (parts_of (program_of S) f) → IsMade (program_of S) f g d
+  made_in f c g d s e i = let a = each_stands S R fitting unrefused f s e in made S R fitting unrefused c g d (makes c g d) (plain S R fitting unrefused a.stands (makes c g d) i) refl
+
   parent_of : (f g : ℕ) (s : Scope) → slice_get (program_of S).scopes f ≡ Some s → In g (functions_in (stmts_parts (tables_of (program_of S)) 0 s.body)) → (z : Scope) × (slice_get (program_of S).scopes g ≡ Some z) × (z.parent ≡ Some f)
-  unfolding function_number
   parent_of f g s e i =
       let d = function_in g (stmts_parts (tables_of (program_of S)) 0 s.body) i in
-      by _ ((each_scope f s e).parts (makes d.0 g d.1) (subst (λ l. In (makes d.0 g d.1) l) (sym (parts_at f s e)) d.2)) refl where
-        by : {c : ℕ} {q : Bool} (x : Part) → IsPart (program_of S) f x → x ≡ makes c g q → (z : Scope) × (slice_get (program_of S).scopes g ≡ Some z) × (z.parent ≡ Some f)
-        by _ (w.a_function c h q m) k = (m.scope, subst (λ j. slice_get (program_of S).scopes j ≡ Some m.scope) (ap function_number k) m.stands, m.parent)
-        by _ (w.a_site i l) k = absurd (cc)
-        by _ (w.a_prop i l) k = absurd (cc)
-        by _ (w.a_doc i l) k = absurd (cc)
-        by _ (w.a_mention c r n h) k = absurd (cc)
-        by _ (w.a_declaration c r n h) k = absurd (cc)
-        by _ (w.a_method v q h m) k = absurd (cc)
+      let m = made_in f d.0 g d.1 s e (subst (λ l. In (makes d.0 g d.1) l) (sym (parts_at f s e)) d.2) in
+      (m.scope, m.stands, m.parent)
 
   once_in : (f : ℕ) (s : Scope) → slice_get (program_of S).scopes f ≡ Some s → IsDistinct (functions_in (stmts_parts (tables_of (program_of S)) 0 s.body))
   once_in f s e =
@@ -230,23 +160,51 @@ module _ (S : Source) (R : Readable S) (fitting : Grammatical S) (few : AreFew S
             let n : c ≡ c + suc d.0 = ap (parent_or c) (sym a.2 ∙ ap (λ z. z.parent) same ∙ b.2) in
             absurd (omega arith)
 
-  functions_once : IsDistinct (all_functions (tables_of (program_of S)) (program_of S).scopes)
+  pub functions_once : IsDistinct (all_functions (tables_of (program_of S)) (program_of S).scopes)
   functions_once = once_from 0 (program_of S).scopes (λ k s e. subst (λ i. slice_get (program_of S).scopes i ≡ Some s) (let z : k ≡ 0 + k = omega arith in z) e)
 
+module _ (S : Source) (R : Readable S) (fitting : Grammatical S) (unrefused : refusals_of S ≡ []) (few : AreFew S) (A : IsAdded S) where
+  -- ---- scopes
+
+  well_body : {f : ℕ} {top : Bool} {E : Frames} {b : RawStmts} {n : Counters} → Stands S f top E b n → stmts_well (tables_of (program_of S)) (opened (program_of S) f) [] (stmts_of (outer_of S) E n b) ≡ true
+  well_body {f} {top} {E} {b} {n} st =
+      let g = given S R fitting unrefused st in
+      subst (λ k. stmts_well (tables_of (program_of S)) (at_head (not k)) [] (stmts_of (outer_of S) E n b) ≡ true) (sym (top_is S R fitting unrefused st))
+      (well.stmts S (spot top E []) n (at_head (not top)) [] b (record { named = g.spelled; empty = g.clean; fits = g.fits }))
+
+  first_doc : 0 < length (program_of S).docs
+  unfolding program_of
+  first_doc = A.some_doc
+
+  each_doc : (f : ℕ) → (outer_of S).function_doc f < length (program_of S).docs
+  unfolding program_of outer_of
+  each_doc f = A.functions f
+
+  scope_well : {f : ℕ} {top : Bool} {E : Frames} {b : RawStmts} {n : Counters} → Stands S f top E b n → (s : Scope) → slice_get (program_of S).scopes f ≡ Some s → IsScope (program_of S) f s
+  unfolding scope_or chunk_scope scope_of
+  scope_well (chunk_stands f b n l t e g) s d =
+      let st = chunk_stands f b n l t e g in
+      subst (λ z. IsScope (program_of S) f z) (ap (scope_or s) (sym e ∙ d)) (record {
+        statements = well_body st;
+        parts = part S R fitting unrefused A st;
+        doc = first_doc;
+        chunk_own = λ h. refl;
+        chunk_parent = λ h. refl;
+      })
+  scope_well (function_stands {f = g} {E} st ys own ps b n q k o eo m e a z) s d =
+      let this = function_stands st ys own ps b n q k o eo m e a z in
+      subst (λ y. IsScope (program_of S) n.function y) (ap (scope_or s) (sym e ∙ d)) (record {
+        statements = well_body this;
+        parts = part S R fitting unrefused A this;
+        doc = each_doc n.function;
+        chunk_own = λ h. absurd (let y : true ≡ false = sym h ∙ top_is S R fitting unrefused this in cc);
+        chunk_parent = λ h. absurd (let y : true ≡ false = sym h ∙ top_is S R fitting unrefused this in cc);
+      })
+
+  each_scope : (f : ℕ) (s : Scope) → slice_get (program_of S).scopes f ≡ Some s → IsScope (program_of S) f s
+  each_scope f s e = scope_well (each_stands S R fitting unrefused f s e).stands s e
+
   -- ---- numbers
-
-  globals_length : length (globals_of S) ≤ length S.externs + 3 + length (all_declared S.trees)
-  unfolding globals_of distinct builtin_globals
-  globals_length =
-      let a = length-append (map outer_info (S.externs ++ builtin_globals)) (map (chunk_info S.trees) (new_names [] (all_declared S.trees))) in
-      let b = length_map outer_info (S.externs ++ builtin_globals) in
-      let c = length-append S.externs builtin_globals in
-      let d = length_map (chunk_info S.trees) (new_names [] (all_declared S.trees)) in
-      let e = new_shorter [] (all_declared S.trees) in omega arith
-
-  without_paths : path_count (globals_of S) ≡ 0
-  unfolding globals_of distinct
-  without_paths = no_paths (map outer_info (S.externs ++ builtin_globals)) (map (chunk_info S.trees) (new_names [] (all_declared S.trees))) (no_outer_paths (S.externs ++ builtin_globals)) (no_chunk_paths S.trees (new_names [] (all_declared S.trees)))
 
   props_length : length (program_of S).props ≤ length (all_marks S.trees)
   unfolding program_of distinct
@@ -256,16 +214,16 @@ module _ (S : Source) (R : Readable S) (fitting : Grammatical S) (few : AreFew S
       let c = few_names (all_marks S.trees) in omega arith
 
   globals_few : length (program_of S).globals + path_count (program_of S).globals + method_count (program_of S).classes < 2 ^ 32
-  unfolding program_of method_count
-  globals_few = let a = globals_length in let b = without_paths in let f = few in omega arith
+  unfolding program_of
+  globals_few = A.globals_few
 
   docs_few : length (program_of S).docs + method_count (program_of S).classes < 2 ^ 32
-  unfolding program_of method_count
-  docs_few = lit< tt
+  unfolding program_of
+  docs_few = A.docs_few
 
   classes_few : length (program_of S).classes < 2 ^ 32
   unfolding program_of
-  classes_few = lit< tt
+  classes_few = A.classes_few
 
   counted : IsCounted (program_of S)
   counted = record {
@@ -278,11 +236,11 @@ module _ (S : Source) (R : Readable S) (fitting : Grammatical S) (few : AreFew S
   }
 
   pub well_made : WellMade (program_of S)
-  well_made = let t = tables.made S R in record {
+  well_made = let t = tables.made S R A in record {
     chunks = t.chunks;
     dependencies = t.dependencies;
     scopes = each_scope;
-    functions_once = functions_once;
+    functions_once = functions_once S R fitting unrefused;
     parents = no_loop S;
     props = t.props;
     prop_names = t.prop_names;
@@ -298,5 +256,5 @@ module _ (S : Source) (R : Readable S) (fitting : Grammatical S) (few : AreFew S
   }
 
 -- what is answered is the program, and nothing is refused
-pub answered_made : (S : Source) (Q : Program) → Readable S → Grammatical S → AreFew S → resolve S ≡ answered Q → WellMade Q
-answered_made S Q r g f e = let d = (exact S Q).0 e in subst (λ z. WellMade z) d.1 (well_made S r g f d.0)
+pub answered_made : (S : Source) (Q : Program) → Readable S → Grammatical S → AreFew S → S.added ≡ nothing_added → resolve S ≡ answered Q → WellMade Q
+answered_made S Q r g f a e = let d = (exact S Q).0 e in subst (λ z. WellMade z) d.1 (well_made S r g d.0 f (nothing_is_added S f a))

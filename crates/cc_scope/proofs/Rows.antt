@@ -16,12 +16,12 @@ use Rattle.cc_grammar.specs.RawTree as raw
 use Rattle.cc_scope.specs.Lists as l
 use Rattle.cc_scope.specs.Marks as m
 use Rattle.cc_scope.specs.Resolve as r
-use Rattle.cc_scope.specs.Resolve.{Source, program_of}
+use Rattle.cc_scope.specs.Resolve.{nothing_added, Source, program_of}
 use Rattle.cc_scope.specs.Refusals as f
 use Rattle.cc_scope.specs.Refusals.{Answer, answered, refused, resolve, undeclared, redeclared, built_in_used, host_written}
 
 unfoldable shut : ℕ
-unfolding nm.builtin_globals l.index_of l.later l.new_names l.distinct l.or_zero l.or_else o.list_eq o.is_in m.expr_marks m.key_marks m.vars_declare m.init_declares m.heading_declares m.stmts_declare m.functions m.sites m.names m.places r.global_from r.global_named r.outwards r.in_frame r.lookup r.ref_by r.ref_of r.var_by r.prop_of r.key_of r.named r.locals r.with_own r.inner r.expr_of r.scope_of r.expr_scopes r.all_marks r.all_declared r.no_doc r.outer_of r.chunk_scope r.chunk_scopes r.inner_scopes r.begin r.chunk_by r.chunk_info r.globals_of r.kept_of r.prop_info r.program_of f.global_of f.read_by f.write_by f.global_meant f.is_string_use f.is_member_use f.variable_meant f.is_built_callee f.declared_by f.repeated f.within f.expr_refused f.all_refused f.refusals_of f.before f.least_from f.answer_by f.resolve st.outer_global st.built_number pa.is_no_built pa.is_own_global pa.is_string pa.has_use ca.member_use
+unfolding nm.builtin_globals l.index_of l.later l.new_names l.distinct l.or_zero l.or_else o.list_eq o.is_in m.expr_marks m.key_marks m.vars_declare m.init_declares m.heading_declares m.stmts_declare m.functions m.sites m.names m.places r.global_from r.global_named r.outwards r.in_frame r.lookup r.ref_by r.ref_of r.var_by r.prop_of r.key_of r.named r.locals r.with_own r.inner r.expr_of r.scope_of r.expr_scopes r.all_marks r.all_declared r.outer_of r.chunk_scope r.chunk_scopes r.inner_scopes r.begin r.chunk_by r.chunk_info r.globals_of r.kept_of r.prop_info r.program_of f.global_of f.read_by f.write_by f.global_meant f.is_string_use f.is_member_use f.variable_meant f.is_built_callee f.declared_by f.repeated f.within f.expr_refused f.all_refused f.refusals_of f.before f.least_from f.answer_by f.resolve st.outer_global st.built_number pa.is_no_built pa.is_own_global pa.is_string pa.has_use ca.member_use
 shut = 0
 
 abbrev place : ℕ → Place
@@ -37,7 +37,7 @@ abbrev chunk : List ℕ → ChunkInfo
 chunk ds = record { name = []; deps = ds }
 
 abbrev alone : List (List ℕ) → List RawStmt → Source
-alone ext ss = record { chunks = chunk [] ∷ []; trees = stmts ss ∷ []; externs = ext; kept = [] }
+alone ext ss = record { chunks = chunk [] ∷ []; trees = stmts ss ∷ []; externs = ext; kept = []; added = nothing_added }
 
 abbrev get : List ℕ → RawExpr
 get n = raw.var o₀ n
@@ -102,6 +102,7 @@ two_chunks = record {
   trees = stmts (var_ (codes "a") ∷ run (fn None [] []) ∷ []) ∷ stmts (var_ (codes "b") ∷ var_ (codes "a") ∷ run (fn None [] (run (get (codes "a")) ∷ [])) ∷ []) ∷ [];
   externs = codes "alert" ∷ [];
   kept = [];
+  added = nothing_added;
 }
 
 two_chunks_globals : map {B = List ℕ × Option ℕ} (λ g. (g.name, g.chunk)) (program_of two_chunks).globals ≡ (codes "alert", None) ∷ (codes "Object", None) ∷ (codes "Math", None) ∷ (codes "String", None) ∷ (codes "a", Some 0) ∷ (codes "b", Some 1) ∷ []

@@ -1,5 +1,5 @@
 -- Each part of each scope of what is resolved is sound.
-use Rattle.std.proofs.Common.{◌≡◌, refl, sym, ap, ◌∙◌, subst, arith, inl, inr, ℕ, zero, suc, ◌+◌, ◌<◌, ◌≤◌, lit<, Bool, true, false, ◌||◌, nat_lt, List, [], ◌∷◌, ◌++◌, length, map, Option, Some, None, length-append}
+use Rattle.std.proofs.Common.{◌≡◌, refl, sym, ap, ◌∙◌, subst, arith, inl, inr, ℕ, zero, suc, ◌+◌, ◌<◌, ◌≤◌, Bool, true, false, ◌||◌, nat_lt, List, [], ◌∷◌, ◌++◌, length, map, Option, Some, None, length-append}
 use Rattle.std.specs.Prelude.{slice_get}
 use Rattle.std.proofs.lemmas.Option.{slice_get_within}
 use Rattle.std.proofs.lemmas.Bool.Decides.{nat_tests}
@@ -9,16 +9,15 @@ use Rattle.cc_ast.specs.declared.tables.GlobalInfo.{GlobalInfo}
 use Rattle.cc_ast.specs.Syntax.{Scope, Program}
 use Rattle.cc_meaning.specs.Operators.{is_in}
 use Rattle.cc_meaning.specs.Names.{builtin_globals}
-use Rattle.cc_meaning.specs.State.{Path}
 use Rattle.cc_meaning.specs.Store.{without_chunk}
 use Rattle.cc_meaning.specs.Shapes.{tables_of, body_of, body_in}
 use Rattle.cc_meaning.specs.Alike.{In}
-use Rattle.cc_meaning.specs.Parts.{Part, uses_prop, uses_doc, mentions, declares, sets_method, stmts_parts}
-use Rattle.cc_meaning.specs.WellMade.{parts_of, is_chunk, Reached, of_frame, IsDeclared, IsSound, sound_place, sound_global, sound_outer, IsNumbered, numbered_place, numbered_global, placed_global, placed_local, IsPart, a_site, a_prop, a_doc, a_mention, a_declaration, a_function, a_method, IsMeant}
+use Rattle.cc_meaning.specs.Parts.{Part, uses_prop, uses_doc, mentions, declares, makes, stmts_parts}
+use Rattle.cc_meaning.specs.WellMade.{parts_of, is_chunk, Reached, of_frame, IsDeclared, IsSound, sound_place, sound_global, sound_outer, IsNumbered, numbered_place, numbered_global, placed_global, placed_local, IsMade, IsPart, a_site, a_prop, a_doc, a_mention, a_declaration, a_function, a_method, IsMeant}
 use Rattle.cc_grammar.specs.RawTree.{RawStmts}
 use Rattle.cc_scope.specs.Lists.{Name, index_of, new_names, distinct, or_zero, or_else}
 use Rattle.cc_scope.specs.Marks.{names, Counters, stmts_declare}
-use Rattle.cc_scope.specs.Resolve.{Outer, Frames, lookup, in_frame, global_from, global_named, ref_of, ref_by, prop_of, named, locals, with_own, inner, behind, scope_of, chunk_scope, chunk_by, chunk_info, outer_info, globals_of, no_doc, Source, all_marks, all_declared, outer_of, program_of}
+use Rattle.cc_scope.specs.Resolve.{Outer, Frames, lookup, in_frame, global_from, global_named, ref_of, ref_by, prop_of, named, locals, with_own, inner, behind, scope_of, chunk_scope, chunk_by, chunk_info, outer_info, globals_of, Source, all_marks, all_declared, outer_of, program_of}
 use Rattle.cc_scope.specs.Refusals.{refusals_of}
 use Rattle.cc_scope.specs.Promises.{Readable, Grammatical}
 use Rattle.cc_scope.proofs.Declared.{in_left, in_right, in_either, length_map}
@@ -26,6 +25,7 @@ use Rattle.cc_scope.proofs.Numbers.{indexed, news_have, is_in_in}
 use Rattle.cc_scope.proofs.Globals.{at_in, not_index, in_is_in, index_in}
 use Rattle.cc_scope.proofs.Tables.{news_in, news_once}
 use Rattle.cc_scope.proofs.Counts.{places_counted}
+use Rattle.cc_scope.proofs.Additions.{IsAdded}
 use Rattle.cc_scope.proofs.Pieces.{over, depth, IsFree, Plain, plain_site, plain_prop, plain_doc, plain_mention, plain_declaration, plain_function, plain_method, Stands, chunk_stands, function_stands}
 use Rattle.cc_scope.proofs.Lookups.{global_found, free_global, free_place, GlobalFact, outer_fact, inner_fact, global_fact, inner_entry, inner_kind}
 use Rattle.cc_scope.proofs.Standing.{each_stands, each_chunk, plain, shown, top_is, own_variable, found}
@@ -72,6 +72,14 @@ part_ref : Part → Ref
 part_ref (mentions c r) = r
 part_ref (declares c r) = r
 part_ref _ = Ref.Global 0
+
+part_function : Part → ℕ
+part_function (makes c g d) = g
+part_function _ = 0
+
+part_declared : Part → Bool
+part_declared (makes c g d) = d
+part_declared _ = false
 
 part_is : Part → ℕ
 part_is (mentions c r) = 0
@@ -178,7 +186,7 @@ module _ (S : Source) (R : Readable S) (fitting : Grammatical S) (unrefused : re
   numbered : (k : ℕ) (x : Name) → GlobalFact S x k → IsNumbered (program_of S) (Ref.Global k)
   unfolding program_of
   numbered k x (outer_fact h e b o) = numbered_global k (slice_get_within (globals_of S) k (outer_info x) e)
-  numbered k x (inner_fact j e h) = subst (λ m. IsNumbered (program_of S) (Ref.Global m)) (sym e) (numbered_global (length S.externs + 3 + j) (slice_get_within (globals_of S) (length S.externs + 3 + j) (chunk_info S.trees x) (inner_entry S x j h)))
+  numbered k x (inner_fact j e h) = subst (λ m. IsNumbered (program_of S) (Ref.Global m)) (sym e) (numbered_global (length S.externs + 3 + j) (slice_get_within (globals_of S) (length S.externs + 3 + j) (chunk_info S.added S.trees x) (inner_entry S x j h)))
 
   mention : {f : ℕ} {top : Bool} {E : Frames} {b : RawStmts} {n : Counters} → Stands S f top E b n → (xs : List Name) (x : Name) (r : Ref) → lookup (outer_of S) (over xs E) x ≡ Some r → IsPart (program_of S) f (mentions (depth xs) r)
   mention st xs x (Ref.Frame u k) e = a_mention (depth xs) (Ref.Frame u k) (numbered_place u k) (λ z. sound_place u k (found S R fitting unrefused st xs x u k e))
@@ -216,30 +224,38 @@ module _ (S : Source) (R : Readable S) (fitting : Grammatical S) (unrefused : re
         (let l = slice_get_within (new_names [] (names (all_marks S.trees))) d.0 x d.2 in let m = length_map (Rattle.cc_scope.specs.Resolve.prop_info (Rattle.cc_scope.specs.Resolve.kept_of S)) (new_names [] (names (all_marks S.trees))) in omega arith)))
   ]
 
-  doc : (f : ℕ) (q : Place) → IsPart (program_of S) f (uses_doc ((outer_of S).doc_at q))
-  unfolding program_of outer_of no_doc
-  doc f q = a_doc 0 (lit< tt)
+  doc : IsAdded S → (f : ℕ) (q : Place) → IsPart (program_of S) f (uses_doc ((outer_of S).doc_at q))
+  unfolding program_of outer_of
+  doc A f q = a_doc (S.added.cast_doc q) (A.casts q)
 
-  method : (f : ℕ) (v : Path) (q g : ℕ) → IsPart (program_of S) f (sets_method v q g)
-  unfolding program_of
-  method f v q g = a_method v q g (record { method = λ i c k j e h. absurd (cc) })
+  pub made : {f : ℕ} {top : Bool} {E : Frames} {D : List Name} (c g : ℕ) (d : Bool) (z : Part) → Plain S f top E D z → z ≡ makes c g d → IsMade (program_of S) f g d
+  unfolding part_function part_declared
+  made {f} c g d _ (plain_function k h q u e p o l) same =
+      subst (λ y. IsMade (program_of S) f y d) (ap part_function same)
+      (subst (λ y. IsMade (program_of S) f h y) (ap part_declared same) (record { scope = u; stands = e; function = not_chunk h l; parent = p; own = o }))
+  made c g d _ (plain_site i l) same = absurd (cc)
+  made c g d _ (plain_prop x i) same = absurd (cc)
+  made c g d _ (plain_doc q) same = absurd (cc)
+  made c g d _ (plain_mention xs x r e) same = absurd (cc)
+  made c g d _ (plain_declaration xs x i fr) same = absurd (cc)
+  made c g d _ (plain_method v q h) same = absurd (cc)
 
-  pub part : {f : ℕ} {top : Bool} {E : Frames} {b : RawStmts} {n : Counters} → Stands S f top E b n → (z : Part) → In z (parts_of (program_of S) f) → IsPart (program_of S) f z
-  part {f} {top} {E} {b} st z i = by st z (plain S R fitting unrefused st z i) where
-    by : {m : Counters} → Stands S f top E b m → (y : Part) → Plain S f top E (stmts_declare b) y → IsPart (program_of S) f y
-    by s _ (plain_site k l) = a_site k (let c = places_counted S in omega arith)
-    by s _ (plain_prop x j) = property f x j
-    by s _ (plain_doc q) = doc f q
-    by s _ (plain_mention xs x r e) = mention s xs x r e
-    by s _ (plain_declaration xs x j fr) = declaration s xs x j fr
-    by s _ (plain_function c g d u e p o l) = a_function c g d (record { scope = u; stands = e; function = not_chunk g l; parent = p; own = o })
-    by s _ (plain_method v q g) = method f v q g
+  pub part : IsAdded S → {f : ℕ} {top : Bool} {E : Frames} {b : RawStmts} {n : Counters} → Stands S f top E b n → (z : Part) → In z (parts_of (program_of S) f) → IsPart (program_of S) f z
+  part A {f} {top} {E} {b} st z i = by st z i (plain S R fitting unrefused st z i) where
+    by : {m : Counters} → Stands S f top E b m → (y : Part) → In y (parts_of (program_of S) f) → Plain S f top E (stmts_declare b) y → IsPart (program_of S) f y
+    by s _ h (plain_site k l) = a_site k (let c = places_counted S in omega arith)
+    by s _ h (plain_prop x j) = property f x j
+    by s _ h (plain_doc q) = doc A f q
+    by s _ h (plain_mention xs x r e) = mention s xs x r e
+    by s _ h (plain_declaration xs x j fr) = declaration s xs x j fr
+    by s _ h (plain_function c g d u e p o l) = a_function c g d (record { scope = u; stands = e; function = not_chunk g l; parent = p; own = o })
+    by s _ h (plain_method v q g) = a_method v q g (A.methods f v q g h)
 
   -- ---- an extern with the name of a built-in global is mentioned nowhere
 
   outer_count : without_chunk (globals_of S) ≡ length S.externs + 3
   unfolding globals_of distinct builtin_globals
-  outer_count = Rattle.cc_scope.proofs.Globals.without_outer (S.externs ++ builtin_globals) S.trees (new_names [] (all_declared S.trees)) ∙ length-append S.externs builtin_globals
+  outer_count = Rattle.cc_scope.proofs.Globals.without_outer S.added (S.externs ++ builtin_globals) S.trees (new_names [] (all_declared S.trees)) ∙ length-append S.externs builtin_globals
 
   info_or : GlobalInfo → Option GlobalInfo → GlobalInfo
   info_or g None = g
@@ -252,7 +268,7 @@ module _ (S : Source) (R : Readable S) (fitting : Grammatical S) (unrefused : re
         let y : is_in x builtin_globals ≡ true = subst (λ v. is_in v.name builtin_globals ≡ true) (sym z) i in let l = b y in let m = outer_count in omega arith;
   }
   meant_by k x (inner_fact j e h) = record {
-    meant = λ g s c i. let z : chunk_info S.trees x ≡ g = ap (info_or g) (sym (subst (λ m. slice_get (globals_of S) m ≡ Some (chunk_info S.trees x)) (sym e) (inner_entry S x j h)) ∙ s) in
+    meant = λ g s c i. let z : chunk_info S.added S.trees x ≡ g = ap (info_or g) (sym (subst (λ m. slice_get (globals_of S) m ≡ Some (chunk_info S.added S.trees x)) (sym e) (inner_entry S x j h)) ∙ s) in
         absurd (let y : Some (chunk_by 0 x S.trees) ≡ None = ap (λ v. v.chunk) z ∙ c in cc);
   }
 

@@ -1,27 +1,27 @@
 -- The tables of what is resolved are those of a well made program.
-use Rattle.std.proofs.Common.{◌≡◌, refl, sym, ap, ◌∙◌, subst, arith, ◌⊎◌, inl, inr, ℕ, zero, suc, ◌+◌, ◌<◌, ◌≤◌, lit<, Bool, true, false, cond, List, [], ◌∷◌, ◌++◌, length, map, take, Option, Some, None, IsTrue, is_some, option_map, length-append}
+use Rattle.std.proofs.Common.{◌≡◌, refl, sym, ap, ◌∙◌, subst, arith, ◌⊎◌, inl, inr, ℕ, zero, suc, ◌+◌, ◌<◌, ◌≤◌, Bool, true, false, cond, List, [], ◌∷◌, ◌++◌, length, map, take, Option, Some, None, IsTrue, is_some, option_map, length-append}
 use Rattle.std.specs.Prelude.{slice_get}
 use Rattle.std.proofs.lemmas.Option.{slice_get-map, slice_get_within}
 use Rattle.cc_ast.specs.Syntax.{Program}
 use Rattle.cc_ast.specs.declared.tables.GlobalInfo.{GlobalInfo}
 use Rattle.cc_ast.specs.declared.tables.PropInfo.{PropInfo}
 use Rattle.cc_ast.specs.declared.tables.FlatPath.{FlatPath}
-use Rattle.cc_ast.specs.declared.tables.SiteDoc.{SiteDoc}
 use Rattle.cc_meaning.specs.Operators.{is_in}
 use Rattle.cc_meaning.specs.Names.{builtin_globals, always_kept}
 use Rattle.cc_meaning.specs.Monad.{pick}
 use Rattle.cc_meaning.specs.Store.{without_chunk}
 use Rattle.cc_meaning.specs.Alike.{In, here, there}
-use Rattle.cc_meaning.specs.WellMade.{IsDistinct, IsProp, IsClass, IsOrdered, IsGlobal, ArePaths, IsDoc, types_in, type_in, types_in_all, outer_names}
+use Rattle.cc_meaning.specs.WellMade.{IsDistinct, IsProp, IsOrdered, IsGlobal, outer_names}
 use Rattle.cc_grammar.specs.RawTree.{RawStmts}
 use Rattle.cc_scope.specs.Lists.{Name, new_names, distinct, or_zero}
 use Rattle.cc_scope.specs.Marks.{names, stmts_declare}
-use Rattle.cc_scope.specs.Resolve.{Source, outer_of, program_of, globals_of, kept_of, prop_info, outer_info, chunk_info, chunk_by, chunk_scopes, inner_scopes, begin, all_marks, all_declared, says_nothing}
+use Rattle.cc_scope.specs.Resolve.{Source, outer_of, program_of, globals_of, kept_of, prop_info, outer_info, chunk_info, chunk_by, chunk_scopes, inner_scopes, begin, all_marks, all_declared}
 use Rattle.cc_scope.specs.Promises.{Readable, HasTables}
 use Rattle.cc_scope.proofs.Law.{in_left, in_right, in_either}
 use Rattle.cc_scope.proofs.Numbers.{news_have, head_or}
 use Rattle.cc_scope.proofs.Globals.{at_in, in_is_in, without_outer}
 use Rattle.cc_scope.proofs.Whole.{length_chunks}
+use Rattle.cc_scope.proofs.Additions.{IsAdded}
 
 pub news_in : (ms ns : List Name) (x : Name) → In x (new_names ms ns) → In x ns
 unfolding new_names
@@ -87,7 +87,7 @@ chunk_below c (t ∷ ts) x h = by (is_in x (stmts_declare t)) refl (λ j. chunk_
   by true e f = omega arith
   by false e f = elim (in_either (stmts_declare t) (all_declared ts) h) [ inl j ↦ absurd (let q : true ≡ false = sym (in_is_in x (stmts_declare t) j) ∙ e in cc) | inr j ↦ (let z = f j in omega arith) ]
 
-module _ (S : Source) (R : Readable S) where
+module _ (S : Source) (R : Readable S) (A : IsAdded S) where
   abbrev Q : Program
   Q = program_of S
 
@@ -112,28 +112,24 @@ module _ (S : Source) (R : Readable S) where
   unfolding program_of kept_of distinct
   kept_all x h = elim (news_have x [] (S.kept ++ always_kept) (in_right S.kept always_kept h)) [ inl j ↦ elim j [ ] | inr j ↦ j ]
 
-  no_class : (a : ℕ) (c : _) → slice_get Q.classes a ≡ Some c → IsClass Q a c
-  unfolding program_of
-  no_class a c e = absurd (cc)
-
   -- a global of the outside, or one that a chunk declares
   data Sort (n : ℕ) (g : GlobalInfo) : Type 0 where
     outside : (x : Name) → n < length S.externs + 3 → outer_info x ≡ g → Sort n g
-    of_chunks : (x : Name) → In x (all_declared S.trees) → chunk_info S.trees x ≡ g → Sort n g
+    of_chunks : (x : Name) → In x (all_declared S.trees) → chunk_info S.added S.trees x ≡ g → Sort n g
 
   sort_of : (n : ℕ) (g : GlobalInfo) → slice_get (globals_of S) n ≡ Some g → Sort n g
   unfolding globals_of distinct builtin_globals
-  sort_of n g e = elim (split_at (map outer_info (S.externs ++ builtin_globals)) (map (chunk_info S.trees) gs) n g e) [
+  sort_of n g e = elim (split_at (map outer_info (S.externs ++ builtin_globals)) (map (chunk_info S.added S.trees) gs) n g e) [
     | inl h ↦ (let d = mapped_at outer_info (S.externs ++ builtin_globals) n g h in
         let l = slice_get_within (S.externs ++ builtin_globals) n d.0 d.1 in
         let m : length (S.externs ++ builtin_globals) ≡ length S.externs + 3 = length-append S.externs builtin_globals in
         outside d.0 (omega arith) d.2)
-    | inr h ↦ (let d = mapped_at (chunk_info S.trees) gs h.0 g h.1 in of_chunks d.0 (news_in [] (all_declared S.trees) d.0 (at_in gs h.0 d.0 d.1)) d.2)
+    | inr h ↦ (let d = mapped_at (chunk_info S.added S.trees) gs h.0 g h.1 in of_chunks d.0 (news_in [] (all_declared S.trees) d.0 (at_in gs h.0 d.0 d.1)) d.2)
   ]
 
   externs_count : without_chunk (globals_of S) ≡ length S.externs + 3
   unfolding globals_of distinct builtin_globals
-  externs_count = without_outer (S.externs ++ builtin_globals) S.trees gs ∙ length-append S.externs builtin_globals
+  externs_count = without_outer S.added (S.externs ++ builtin_globals) S.trees gs ∙ length-append S.externs builtin_globals
 
   inner_at : (n : ℕ) (g : GlobalInfo) → slice_get (globals_of S) n ≡ Some g → without_chunk (globals_of S) ≤ n → IsTrue (is_some g.chunk)
   unfolding chunk_info
@@ -146,7 +142,7 @@ module _ (S : Source) (R : Readable S) where
   unfolding outer_names program_of globals_of distinct
   ordered = record {
     externs = S.externs;
-    names = ap (λ k. map (λ g. g.name) (take k (globals_of S))) (without_outer (S.externs ++ builtin_globals) S.trees gs) ∙ outer_are (S.externs ++ builtin_globals) (map (chunk_info S.trees) gs);
+    names = ap (λ k. map (λ g. g.name) (take k (globals_of S))) (without_outer S.added (S.externs ++ builtin_globals) S.trees gs) ∙ outer_are (S.externs ++ builtin_globals) (map (chunk_info S.added S.trees) gs);
     distinct = R.externs_once;
     inner = inner_at;
   }
@@ -162,31 +158,12 @@ module _ (S : Source) (R : Readable S) where
   unfolding program_of chunk_info
   global_at n g e = by (sort_of n g e) where
     by : Sort n g → IsGlobal (program_of S) g
-    by (outside x l d) = subst (λ z. IsGlobal (program_of S) z) d (record { chunk = λ c h. absurd (cc); doc = lit< tt; flat = λ w h. absurd (no_path w h) })
+    by (outside x l d) = subst (λ z. IsGlobal (program_of S) z) d (record { chunk = λ c h. absurd (cc); doc = A.some_doc; flat = λ w h. absurd (no_path w h) })
     by (of_chunks x i d) = subst (λ z. IsGlobal (program_of S) z) d (record {
       chunk = λ c h. (let a = same_number h in let b = chunk_below 0 S.trees x i in let k = R.one_each in omega arith, R.no_refused x i);
-      doc = lit< tt;
-      flat = λ w h. absurd (no_path w h);
+      doc = A.variables x;
+      flat = A.flat x;
     })
-
-  flat_none : (n : ℕ) (g : GlobalInfo) → slice_get (globals_of S) n ≡ Some g → g.flat ≡ []
-  unfolding chunk_info
-  flat_none n g e = by (sort_of n g e) where
-    by : Sort n g → g.flat ≡ []
-    by (outside x l d) = sym (ap (λ z. z.flat) d)
-    by (of_chunks x i d) = sym (ap (λ z. z.flat) d)
-
-  paths_at : (n : ℕ) (g : GlobalInfo) → slice_get (globals_of S) n ≡ Some g → ArePaths Q n g.flat
-  paths_at n g e = subst (λ ws. ArePaths Q n ws) (sym (flat_none n g e)) (record { distinct = λ i j x d h. absurd (cc); each = λ w h. absurd (no_path w h) })
-
-  doc_at : (o : Option SiteDoc) → SiteDoc
-  doc_at None = says_nothing
-  doc_at (Some d) = d
-
-  each_doc : (k : ℕ) (d : SiteDoc) → slice_get Q.docs k ≡ Some d → IsDoc Q d
-  unfolding program_of doc_at types_in type_in types_in_all
-  each_doc zero d e = subst (λ x. IsDoc Q x) (ap doc_at e) (record { classes = λ t a h i. elim h [ ]; vars = λ n h. elim h [ ] })
-  each_doc (suc k) d e = absurd (cc)
 
   pub made : HasTables Q
   unfolding program_of
@@ -196,10 +173,10 @@ module _ (S : Source) (R : Readable S) where
     props = prop_at;
     prop_names = props_once;
     kept = kept_all;
-    classes = no_class;
-    one_class = λ a b f c d e h i j. absurd (cc);
-    docs = each_doc;
+    classes = A.classes;
+    one_class = A.one_class;
+    docs = A.docs;
     globals = ordered;
     each_global = global_at;
-    paths = paths_at;
+    paths = A.paths;
   }

@@ -4,7 +4,6 @@ use Rattle.cc_ast.specs.declared.place.Place.{Place}
 use Rattle.cc_grammar.specs.Symbols.{nowhere}
 use Rattle.cc_scope.specs.Marks.{Mark, a_site, a_name, a_function}
 use Rattle.cc_scope.specs.Resolve.{Source, all_marks}
-use Rattle.cc_scope.specs.Refusals.{Answer, resolve}
 
 -- The place of a function, counted from 0: that of the expression or declaration which it is, its word
 -- `function`, and so the last place before it.
@@ -22,16 +21,3 @@ most_scopes = 262144
 unfoldable pub too_many : Source → Option Place
 unfolding function_place most_scopes all_marks
 too_many S = function_place (all_marks S.trees) (most_scopes - length S.trees) nowhere
-
--- the limit comes before each refusal
-pub data Outcome : Type 0 where
-  over_limit : Place → Outcome
-  within_limit : Answer → Outcome
-
-unfoldable pub outcome_by : Option Place → Answer → Outcome
-outcome_by None a = within_limit a
-outcome_by (Some p) a = over_limit p
-
-unfoldable pub resolve_within : Source → Outcome
-unfolding outcome_by too_many resolve
-resolve_within S = outcome_by (too_many S) (resolve S)

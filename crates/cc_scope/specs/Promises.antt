@@ -17,7 +17,7 @@ use Rattle.cc_meaning.specs.Store.{of_chunk, outer_global, global_kind}
 use Rattle.cc_meaning.specs.Shapes.{tables_of, body_of}
 use Rattle.cc_meaning.specs.Alike.{In, Alike}
 use Rattle.cc_scope.specs.Lists.{Name}
-use Rattle.cc_scope.specs.Resolve.{Source, program_of, all_marks, all_declared}
+use Rattle.cc_scope.specs.Resolve.{Source, nothing_added, program_of, all_marks, all_declared}
 use Rattle.cc_scope.specs.Marks.{names, functions, sites, stmts_declare}
 use Rattle.cc_scope.specs.Refusals.{answered, refusals_of, resolve}
 use Rattle.cc_grammar.specs.Symbols.{lexemes}
@@ -25,7 +25,7 @@ use Rattle.cc_grammar.specs.RawTree.{RawStmt, RawStmts, stmts}
 use Rattle.cc_grammar.specs.Fronts.{ReadsWithin}
 use Rattle.cc_scope.specs.Grammatical.{at_head, stmts_fit}
 use Rattle.cc_scope.specs.Limits.{most_scopes, too_many}
-use Rattle.cc_scope.specs.Annotations.{Comment, is_at, comment_at, Declaration, stmts_at, comment_on}
+use Rattle.cc_scope.specs.Annotations.{Comment, is_at, is_on, doc_number, said_at, Declaration, stmts_at, places_of}
 use Rattle.cc_scope.specs.Written.{Naming, Apart, stmts_in, ChunksN}
 
 -- the numbers that chunks declare, from a chunk on
@@ -82,7 +82,7 @@ AreFew S = length S.trees + (length S.externs + 3) + length (all_declared S.tree
 
 -- What resolution answers is well made, where nothing is annotated.
 abbrev pub IsWellMade : Type 0
-IsWellMade = (S : Source) (Q : Program) → Readable S → Grammatical S → AreFew S → resolve S ≡ answered Q → WellMade Q
+IsWellMade = (S : Source) (Q : Program) → Readable S → Grammatical S → AreFew S → S.added ≡ nothing_added → resolve S ≡ answered Q → WellMade Q
 
 -- A tree that the grammar derives from the tokens of a text, with justified insertions: what reading answers.
 pub record IsOfText (t : RawStmts) : Type 0 where
@@ -122,7 +122,7 @@ pub record HasTables (P : Program) : Type 0 where
 
 -- the tables of what is resolved are those of a well made program
 abbrev pub TablesAreMade : Type 0
-TablesAreMade = (S : Source) → Readable S → HasTables (program_of S)
+TablesAreMade = (S : Source) → Readable S → AreFew S → S.added ≡ nothing_added → HasTables (program_of S)
 
 -- one scope for each chunk and function, and one place for each site
 abbrev pub AreCounted : Type 0
@@ -140,13 +140,15 @@ NoLoop = (S : Source) (f : ℕ) → Encloses (program_of S) f f → ⊥
 abbrev pub IsLimited : Type 0
 IsLimited = (S : Source) → length S.trees ≤ most_scopes → (too_many S ≡ None) ↔ (length (program_of S).scopes ≤ most_scopes)
 
--- of several comments before one token the last counts
+-- of several comments on one thing the last counts
 abbrev pub LastCounts : Type 0
-LastCounts = (q : Place) (cs ds : List Comment) (c : Comment) → IsTrue (is_at q c.next) → comment_at q ds ≡ None → comment_at q (cs ++ c ∷ ds) ≡ Some c.text
+LastCounts = (qs : List Place) (cs ds : List Comment) (c : Comment) → IsTrue (is_on qs c) → ((d : Comment) → In d ds → IsFalse (is_on qs d))
+    → (doc_number qs (cs ++ c ∷ ds) ≡ suc (length cs)) × (said_at qs (cs ++ c ∷ ds) ≡ Some c.says)
 
--- of several annotated declarations of one variable the last counts
+-- of several annotated declarations of one variable the last comment counts
 abbrev pub LastDeclarationCounts : Type 0
-LastDeclarationCounts = (x : Name) (ds es : List Declaration) (d : Declaration) (cs : List Comment) (t : List ℕ) → d.variable ≡ x → comment_at d.place cs ≡ Some t → comment_on x es cs ≡ None → comment_on x (ds ++ d ∷ es) cs ≡ Some t
+LastDeclarationCounts = (x : Name) (es : List Declaration) (e : Declaration) (cs ds : List Comment) (c : Comment) → In e es → e.variable ≡ x → IsTrue (is_at e.place c.next)
+    → ((d : Comment) → In d ds → IsFalse (is_on (places_of x es) d)) → doc_number (places_of x es) (cs ++ c ∷ ds) ≡ suc (length cs)
 
 -- what is annotated as a variable of statements, they declare
 abbrev pub AnnotatedAreDeclared : Type 0

@@ -9,6 +9,8 @@ use Rattle.cc_ast.specs.declared.tables.ChunkInfo.{ChunkInfo}
 use Rattle.cc_ast.specs.declared.tables.GlobalInfo.{GlobalInfo}
 use Rattle.cc_ast.specs.declared.tables.PropInfo.{PropInfo}
 use Rattle.cc_ast.specs.declared.tables.SiteDoc.{SiteDoc}
+use Rattle.cc_ast.specs.declared.tables.FlatPath.{FlatPath}
+use Rattle.cc_ast.specs.declared.tables.Class.{Class}
 use Rattle.cc_ast.specs.Syntax.{Prim, Expr, Target, Exprs, Fields, Declarator, ForInit, ForTarget, Stmt, Stmts, MaybeStmts, Cases, Scope, Program}
 use Rattle.cc_ast.specs.Syntax as p
 use Rattle.cc_meaning.specs.Operators.{decimal, is_in}
@@ -22,12 +24,14 @@ use Rattle.cc_scope.specs.Marks.{Mark, Counters, next, past, expr_marks, target_
 -- ---- what a name means (10.2.2.1, 10.3.1)
 
 -- The global environment (10.2.3): the names of the externs, of the chunks' globals and of the
--- properties, each list in the order of their numbers, and the doc of what begins at a place.
+-- properties, each list in the order of their numbers; and the numbers of the docs of the cast at a
+-- place, and of a function.
 pub record Outer : Type 0 where
   pub externs : List Name
   pub globals : List Name
   pub props : List Name
   pub doc_at : Place → ℕ
+  pub function_doc : ℕ → ℕ
 
 -- the frames around a place, from the innermost on, each with its names (10.2: the lexical environment)
 abbrev pub Frames : Type 0
@@ -217,7 +221,7 @@ scope_of W E parent n own ps b q = record {
   own = own;
   body = stmts_of W E (behind n) b;
   parent = Some parent;
-  doc = W.doc_at q;
+  doc = W.function_doc n.function;
 }
 
 unfoldable mutual
@@ -309,13 +313,24 @@ unfoldable mutual
 
 -- ---- programs
 
--- what is read: the chunks, a list of statements for each, the names of the externs, and the
--- property names that are kept besides those of the language
+-- What annotations add: the numbers of the docs of casts, by place, of functions and of the chunks'
+-- globals; the flat paths of these globals; and the tables of classes and docs.
+pub record Added : Type 0 where
+  pub cast_doc : Place → ℕ
+  pub function_doc : ℕ → ℕ
+  pub global_doc : Name → ℕ
+  pub flat : Name → List FlatPath
+  pub classes : List Class
+  pub docs : List SiteDoc
+
+-- what is read: the chunks, a list of statements for each, the names of the externs, the property names
+-- that are kept besides those of the language, and what annotations add
 pub record Source : Type 0 where
   pub chunks : List ChunkInfo
   pub trees : List RawStmts
   pub externs : List Name
   pub kept : List Name
+  pub added : Added
 
 -- what stands in all trees
 unfoldable pub all_marks : List RawStmts → List Mark
@@ -329,18 +344,15 @@ unfolding stmts_declare
 all_declared [] = []
 all_declared (t ∷ ts) = stmts_declare t ++ all_declared ts
 
--- where nothing is annotated
-unfoldable pub no_doc : Place → ℕ
-no_doc q = 0
-
 -- the global environment of a source
 unfoldable pub outer_of : Source → Outer
-unfolding distinct all_declared all_marks names no_doc
+unfolding distinct all_declared all_marks names
 outer_of S = record {
   externs = S.externs;
   globals = distinct (all_declared S.trees);
   props = distinct (names (all_marks S.trees));
-  doc_at = no_doc;
+  doc_at = S.added.cast_doc;
+  function_doc = S.added.function_doc;
 }
 
 -- the scope of a chunk, which has no frame: its variables are globals (10.4.1)
@@ -375,14 +387,14 @@ abbrev pub outer_info : Name → GlobalInfo
 outer_info n = record { name = n; chunk = None; doc = 0; flat = [] }
 
 -- a global of a chunk
-unfoldable pub chunk_info : List RawStmts → Name → GlobalInfo
+unfoldable pub chunk_info : Added → List RawStmts → Name → GlobalInfo
 unfolding chunk_by
-chunk_info ts n = record { name = n; chunk = Some (chunk_by 0 n ts); doc = 0; flat = [] }
+chunk_info A ts n = record { name = n; chunk = Some (chunk_by 0 n ts); doc = A.global_doc n; flat = A.flat n }
 
 -- the globals: externs, built-in ones, and those of the chunks by first declaration
 unfoldable pub globals_of : Source → List GlobalInfo
 unfolding chunk_info distinct all_declared
-globals_of S = map outer_info (S.externs ++ builtin_globals) ++ map (chunk_info S.trees) (distinct (all_declared S.trees))
+globals_of S = map outer_info (S.externs ++ builtin_globals) ++ map (chunk_info S.added S.trees) (distinct (all_declared S.trees))
 
 -- the property names that no phase renames
 unfoldable pub kept_of : Source → List Name
@@ -398,6 +410,10 @@ prop_info ks n = record { name = n; kept = is_in n ks }
 abbrev pub says_nothing : SiteDoc
 says_nothing = record { params = []; result = None; value = None; receiver = None; vars = []; constant = false; define = false; nocollapse = false; export = false }
 
+-- where nothing is annotated
+abbrev pub nothing_added : Added
+nothing_added = record { cast_doc = λ q. 0; function_doc = λ f. 0; global_doc = λ x. 0; flat = λ x. []; classes = []; docs = says_nothing ∷ [] }
+
 -- The program of a source. Where a name means nothing it has any number there, and the source is refused.
 unfoldable pub program_of : Source → Program
 unfolding outer_of begin chunk_scopes inner_scopes globals_of prop_info kept_of distinct all_marks names places
@@ -407,7 +423,7 @@ program_of S = record {
   globals = globals_of S;
   props = map (prop_info (kept_of S)) (distinct (names (all_marks S.trees)));
   kept = kept_of S;
-  classes = [];
+  classes = S.added.classes;
   places = places (all_marks S.trees);
-  docs = says_nothing ∷ [];
+  docs = S.added.docs;
 }

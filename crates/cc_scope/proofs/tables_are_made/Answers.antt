@@ -1,5 +1,6 @@
 use Rattle.cc_scope.proofs.tables_are_made.Goals as goal
 use Rattle.cc_scope.proofs.Tables as t
+use Rattle.cc_scope.proofs.NothingAdded as n
 
 pub returns : goal.returns
-returns c = t.made
+returns c = λ S R few e. t.made S R (n.nothing_is_added S few e)
