@@ -98,12 +98,7 @@ fn unary_operands_rule(op: UnOp, operands: &[Value]) -> Option<u8>
 
 /// The rule that an operator or a built-in use breaks.
 #[tactic(auto, unfolding(cc_meaning::specs::Rules::operate_rule))]
-pub fn operate_rule(
-    program: &Program,
-    heap: &Heap,
-    op: &Op,
-    operands: &[Value],
-) -> Option<u8>
+pub fn operate_rule(program: &Program, heap: &Heap, op: &Op, operands: &[Value]) -> Option<u8>
     ensures { (s : State) → result ≡ Rules.operate_rule (tables_of program.now) (with_store s heap.now) (op_of op.now) (map value_of operands.now) }
 {
     match op {

@@ -17,12 +17,7 @@ use cc_heap::heap::Heap;
 use cc_value::value::Value;
 
 /// What a read of a variable breaks.
-pub fn take_rule(
-    program: &Program,
-    variable: Variable,
-    loaded: bool,
-    set: bool,
-) -> Option<u8>
+pub fn take_rule(program: &Program, variable: Variable, loaded: bool, set: bool) -> Option<u8>
     ensures { result ≡ Rules.take_rule (tables_of program.now) (variable_of variable) loaded set }
 {
     let is_early = is_settled(program, variable) & !set;
@@ -30,12 +25,7 @@ pub fn take_rule(
 }
 
 /// What a value breaks that a variable receives.
-pub fn keep_rule(
-    program: &Program,
-    heap: &Heap,
-    variable: Variable,
-    value: &Value,
-) -> Option<u8>
+pub fn keep_rule(program: &Program, heap: &Heap, variable: Variable, value: &Value) -> Option<u8>
     ensures { (s : State) → result ≡ Rules.keep_rule (tables_of program.now) (with_store s heap.now) (variable_of variable) (value_of value.now) }
 {
     rule_unless(
