@@ -4,7 +4,7 @@ ghost use Rattle.std.specs.Prelude.{◌≡◌, ◌≢◌, Some, None, false, is_
 ghost use Rattle.cc_meaning.specs.Operators.{answer_of, answer_not, binary_of, gives, strict_equal, truthy, unary_of};
 ghost use Rattle.cc_meaning.specs.Values.{prim};
 ghost use Rattle.cc_ast.specs.Syntax.{text};
-ghost use Rattle.cc_value.specs.Bridge.{Answers, IsMade, IsNoObject, equal_of, joined_of, less_of, nothing_of, text_of, type_of, value_of, whole_of, wholes_of};
+ghost use Rattle.cc_value.specs.Bridge.{Answers, IsNoObject, equal_of, joined_of, less_of, nothing_of, text_of, type_of, value_of, whole_of, wholes_of};
 
 use crate::value::{OpFault, Value};
 use crate::{texts, whole};
@@ -113,8 +113,6 @@ fn joined(alloc: Global, a: &Value, b: &Value) -> Result<Value, OpFault>
 }
 
 fn add(alloc: Global, a: &Value, b: &Value) -> Result<Value, OpFault>
-    requires a_made { IsMade a.now }
-    requires b_made { IsMade b.now }
     ensures { Answers result (binary_of BinOp.Add (value_of a.now) (value_of b.now)) }
 {
     match a {
@@ -201,8 +199,6 @@ fn answer_not(test: Option<bool>) -> Result<Value, OpFault>
 }
 
 fn on_wholes(op: BinOp, a: &Value, b: &Value) -> Result<Value, OpFault>
-    requires a_made { IsMade a.now }
-    requires b_made { IsMade b.now }
     ensures { Answers result (wholes_of op (value_of a.now) (value_of b.now)) }
 {
     match a {
@@ -217,8 +213,6 @@ fn on_wholes(op: BinOp, a: &Value, b: &Value) -> Result<Value, OpFault>
 /// A binary operator. `instanceof` and `in` need a heap. Memory is wanted only where the value is
 /// a text.
 pub fn binary(alloc: Global, op: BinOp, a: &Value, b: &Value) -> Result<Value, OpFault>
-    requires a_made { IsMade a.now }
-    requires b_made { IsMade b.now }
     requires no_instance { op ≢ BinOp.Instance }
     requires no_has { op ≢ BinOp.Has }
     ensures { Answers result (binary_of op (value_of a.now) (value_of b.now)) }
@@ -239,7 +233,6 @@ pub fn binary(alloc: Global, op: BinOp, a: &Value, b: &Value) -> Result<Value, O
 
 // A sign or `~`, which only whole numbers have.
 fn on_whole(op: UnOp, value: &Value) -> Result<Value, OpFault>
-    requires { IsMade value.now }
     ensures { Answers result (whole_of op (value_of value.now)) }
 {
     match value {
@@ -276,7 +269,6 @@ fn ascii(alloc: Global, bytes: &[u8]) -> Result<Value, OpFault>
 /// A unary operator. `delete`, and `typeof` of an object of the program, need a heap. Memory is
 /// wanted only where the value is a text.
 pub fn unary(alloc: Global, op: UnOp, value: &Value) -> Result<Value, OpFault>
-    requires made { IsMade value.now }
     requires no_delete { op ≢ UnOp.Delete }
     requires no_type { op ≡ UnOp.Typeof → IsNoObject value.now }
     ensures { Answers result (unary_of op (value_of value.now)) }

@@ -1,0 +1,4 @@
+pub mod Judging
+pub mod Outer
+pub mod Variables
+pub mod FrameLaws
