@@ -22,10 +22,7 @@ unfolding r.while
 while_opened m c ts = refl
 
 pub for_opened : (m : Limits) (c : Context) (ts : Tokens) → spec.for_loop m c ts
-    ≡ and_then (expect mark.OpenParen (rest_tokens ts)) (λ _ us. (if is_word word.Var (look_token us).kind
-    then for_steps.for_declared m c (look_token ts).place
-    else (if is_mark mark.Semicolon (look_token us).kind then spec.for_rest m c (look_token ts).place (S.no_init, 0)
-    else (λ vs. and_then ((within m).expr false 0 vs) (λ x ws. spec.for_value m c (look_token ts).place x (target_of x.0) (is_word word.In (look_token ws).kind) ws)))) us)
+    ≡ and_then (expect mark.OpenParen (rest_tokens ts)) (λ _ us. for_steps.for_head m c (look_token ts).place us)
 unfolding r.for
 for_opened m c ts = refl
 
