@@ -3,10 +3,9 @@ use Rattle.std.proofs.Common.{◌≡◌, refl, sym, ap, ◌+◌, max, Bool, true
 use Rattle.cc_ast.specs.declared.place.Place.{Place}
 use Rattle.cc_lexer.specs.declared.token.Mark.TheVariants as mark
 use Rattle.cc_lexer.specs.declared.word.Word.TheVariants as word
-use Rattle.cc_grammar.specs.Symbols.{is_mark, is_word}
+use Rattle.cc_grammar.specs.Symbols.{is_word}
 use Rattle.cc_grammar.specs.Grammar.{Context, inside, in_loop}
 use Rattle.cc_grammar.specs.RawTree as S
-use Rattle.cc_grammar.specs.Signs.{target_of}
 use Rattle.cc_grammar.specs.Reading.{Outcome, Sized, and_then, fault, a_token, look_token, rest_tokens, semicolon_token, label_of, ends_return, is_some_label}
 use Rattle.cc_grammar.specs.Reading as r
 use Rattle.cc_cursor.specs.declared.limits.Limits.{Limits}
