@@ -1,5 +1,5 @@
 -- Definitions of expressions, opened.
-use Rattle.std.proofs.Common.{◌≡◌, refl, ap, ◌∙◌, ◌+◌, max, Bool, true, false, Ok, Err, if◌then◌else◌, List, [], arith}
+use Rattle.std.proofs.Common.{◌≡◌, refl, ap, ◌+◌, max, Bool, true, false, Ok, Err, if◌then◌else◌, List, [], arith}
 use Rattle.cc_lexer.specs.declared.token.Mark.TheVariants as mark
 use Rattle.cc_ast.specs.declared.place.Place.{Place}
 use Rattle.cc_grammar.specs.RawTree as S

@@ -11,6 +11,7 @@ use Rattle.cc_grammar.specs.Signs.{Infix, infix_of, level, infix_tree}
 use Rattle.cc_grammar.specs.Symbols.{is_mark}
 use Rattle.cc_cursor.specs.declared.limits.Limits.{Limits}
 use Rattle.cc_cursor.specs.Reads.{Tokens, within}
+use Rattle.cc_trees.proofs.Chains.{last_same}
 use Rattle.cc_expr.specs.Expressions as spec
 
 abbrev limits : ℕ → ℕ → Limits
@@ -69,13 +70,15 @@ high : (t d : ℕ) (n : Bool) (least turns : ℕ) (a : Sized S.RawExpr) (i : Tok
 high t d n least turns a i o e up = opened t d n least turns a i (Some o) e ∙ by_some (limits t d) n least turns a o i
     ∙ ap (λ b. choose b (here a) (read (limits t d) n least turns a o) i) (le-ltb (level o) least up)
 
-pub climb_deep : (t d : ℕ) (n : Bool) (least turns : ℕ) (a : Sized S.RawExpr) (i : Tokens) (o : Infix) → Some o ≡ infix_of n (look_token i).kind → least ≤ level o → d ≤ a.1
-    → spec.climb (limits t d) n least (suc turns) a i ≡ Err (record { cause = depth; place = (look_token i).place }, i)
-climb_deep t d n least turns a i o e up none = high t d n least turns a i o e up ∙ ap (λ b. pick b (operand (limits t d) n least turns a o i) (deep i)) (le-ltb a.1 d none)
+one_operator : (m : Limits) (n : Bool) (least turns : ℕ) (a : Sized S.RawExpr) (o : Infix) (i : Tokens) (b : Bool)
+    → pick b (operand m n least turns a o i) (deep i)
+    ≡ and_then (pick b (and_then ((within m).expr n (level o + 1) (rest_tokens i)) (λ x j. Ok ((infix_tree o (look_token i).place a.0 x.0, max a.1 x.1 + 1), j))) (deep i)) (spec.climb m n least turns)
+one_operator m n least turns a o i true = last_same ((within m).expr n (level o + 1) (rest_tokens i)) (λ x. (infix_tree o (look_token i).place a.0 x.0, max a.1 x.1 + 1)) (spec.climb m n least turns)
+one_operator m n least turns a o i false = refl
 
-pub climb_on : (t d : ℕ) (n : Bool) (least turns : ℕ) (a : Sized S.RawExpr) (i : Tokens) (o : Infix) → Some o ≡ infix_of n (look_token i).kind → least ≤ level o → a.1 < d
-    → spec.climb (limits t d) n least (suc turns) a i ≡ operand (limits t d) n least turns a o i
-climb_on t d n least turns a i o e up some = high t d n least turns a i o e up ∙ ap (λ b. pick b (operand (limits t d) n least turns a o i) (deep i)) (lt-ltb a.1 d some)
+pub climb_turn : (t d : ℕ) (n : Bool) (least turns : ℕ) (a : Sized S.RawExpr) (i : Tokens) (o : Infix) → Some o ≡ infix_of n (look_token i).kind → least ≤ level o
+    → spec.climb (limits t d) n least (suc turns) a i ≡ and_then (spec.binary (limits t d) n o a i) (spec.climb (limits t d) n least turns)
+climb_turn t d n least turns a i o e up = high t d n least turns a i o e up ∙ one_operator (limits t d) n least turns a o i (nat_lt a.1 d)
 
 -- ---- commas
 
@@ -98,10 +101,12 @@ pub commas_none : (t d : ℕ) (n : Bool) (turns : ℕ) (a : Sized S.RawExpr) (i 
     → spec.commas (limits t d) n (suc turns) a i ≡ Ok (a, i)
 commas_none t d n turns a i e = seen t d n turns a i false e
 
-pub commas_deep : (t d : ℕ) (n : Bool) (turns : ℕ) (a : Sized S.RawExpr) (i : Tokens) → true ≡ is_mark mark.Comma (look_token i).kind → d ≤ a.1
-    → spec.commas (limits t d) n (suc turns) a i ≡ Err (record { cause = depth; place = (look_token i).place }, i)
-commas_deep t d n turns a i e none = seen t d n turns a i true e ∙ by_true (limits t d) n turns a i ∙ ap (λ b. pick b (behind (limits t d) n turns a i) (deep i)) (le-ltb a.1 d none)
+one_comma : (m : Limits) (n : Bool) (turns : ℕ) (a : Sized S.RawExpr) (i : Tokens) (b : Bool)
+    → pick b (behind m n turns a i) (deep i)
+    ≡ and_then (pick b (and_then ((within m).expr n 1 (rest_tokens i)) (λ x j. Ok ((S.comma (look_token i).place a.0 x.0, max a.1 x.1 + 1), j))) (deep i)) (spec.commas m n turns)
+one_comma m n turns a i true = last_same ((within m).expr n 1 (rest_tokens i)) (λ x. (S.comma (look_token i).place a.0 x.0, max a.1 x.1 + 1)) (spec.commas m n turns)
+one_comma m n turns a i false = refl
 
-pub commas_on : (t d : ℕ) (n : Bool) (turns : ℕ) (a : Sized S.RawExpr) (i : Tokens) → true ≡ is_mark mark.Comma (look_token i).kind → a.1 < d
-    → spec.commas (limits t d) n (suc turns) a i ≡ behind (limits t d) n turns a i
-commas_on t d n turns a i e some = seen t d n turns a i true e ∙ by_true (limits t d) n turns a i ∙ ap (λ b. pick b (behind (limits t d) n turns a i) (deep i)) (lt-ltb a.1 d some)
+pub commas_turn : (t d : ℕ) (n : Bool) (turns : ℕ) (a : Sized S.RawExpr) (i : Tokens) → true ≡ is_mark mark.Comma (look_token i).kind
+    → spec.commas (limits t d) n (suc turns) a i ≡ and_then (spec.comma (limits t d) n a i) (spec.commas (limits t d) n turns)
+commas_turn t d n turns a i e = seen t d n turns a i true e ∙ by_true (limits t d) n turns a i ∙ one_comma (limits t d) n turns a i (nat_lt a.1 d)

@@ -1,7 +1,6 @@
 -- One turn of the suffixes.
-use Rattle.std.proofs.Common.{◌≡◌, ◌<◌, ◌≤◌, ◌∙◌, refl, sym, ap, arith, ℕ, suc, Bool, true, false, Some, None, Ok, Err, if◌then◌else◌}
+use Rattle.std.proofs.Common.{◌≡◌, ◌∙◌, refl, sym, ap, ℕ, suc, Bool, true, false, Some, None, Ok, Err, if◌then◌else◌}
 use Rattle.std.specs.Prelude.{nat_lt}
-use Rattle.std.proofs.lemmas.Bool.Decides.{nat_tests}
 use Rattle.cc_grammar.specs.Reading.{Outcome, Sized, and_then, depth, suffix_of, look_token, rest_tokens, semicolon_token}
 use Rattle.cc_grammar.specs.Reading as r
 use Rattle.cc_grammar.specs.ReadingExpressions.{suffixes}
@@ -39,16 +38,15 @@ one_turn : (t d : ℕ) (calls : Bool) (turns : ℕ) (a : Sized S.RawExpr) (s : S
 unfolding suffixes
 one_turn t d calls turns a s i e = ap (λ s. by_suffix (limits t d) calls turns a s i) (sym e) ∙ by_one (limits t d) calls turns a s i
 
-abbrev choose : ℕ → Bool → ℕ → Sized S.RawExpr → Suffix → Tokens → ℕ → Bool → Outcome Tokens (Sized S.RawExpr)
-choose t calls turns a s i d b = if b then and_then (spec.suffixed (limits t d) s a i) (spec.suffixes (limits t d) calls turns)
-    else Err (record { cause = depth; place = (look_token i).place }, i)
+abbrev within_depth : Bool → Outcome Tokens (Sized S.RawExpr) → Tokens → Outcome Tokens (Sized S.RawExpr)
+within_depth b o i = if b then o else Err (record { cause = depth; place = (look_token i).place }, i)
 
-pub suffixes_turn : (t d : ℕ) (calls : Bool) (turns : ℕ) (a : Sized S.RawExpr) (s : Suffix) (i : Tokens) → meant.suffix (Some s) ≡ suffix_of calls (look_token i).kind → a.1 < d
-    → spec.suffixes (limits t d) calls (suc turns) a i ≡ and_then (spec.suffixed (limits t d) s a i) (spec.suffixes (limits t d) calls turns)
-suffixes_turn t d calls turns a s i e low = let b : nat_lt a.1 d ≡ true = grind (arith, nat_tests) in
-    one_turn t d calls turns a s i e ∙ ap (choose t calls turns a s i d) b
+deep_by : (b : Bool) (o : Outcome Tokens (Sized S.RawExpr)) (k : Sized S.RawExpr → Tokens → Outcome Tokens (Sized S.RawExpr)) (i : Tokens)
+    → within_depth b (and_then o k) i ≡ and_then (within_depth b o i) k
+deep_by true o k i = refl
+deep_by false o k i = refl
 
-pub suffixes_high : (t d : ℕ) (calls : Bool) (turns : ℕ) (a : Sized S.RawExpr) (s : Suffix) (i : Tokens) → meant.suffix (Some s) ≡ suffix_of calls (look_token i).kind → d ≤ a.1
-    → spec.suffixes (limits t d) calls (suc turns) a i ≡ Err (record { cause = depth; place = (look_token i).place }, i)
-suffixes_high t d calls turns a s i e high = let b : nat_lt a.1 d ≡ false = grind (arith, nat_tests) in
-    one_turn t d calls turns a s i e ∙ ap (choose t calls turns a s i d) b
+pub suffixes_turn : (t d : ℕ) (calls : Bool) (turns : ℕ) (a : Sized S.RawExpr) (s : Suffix) (i : Tokens) → meant.suffix (Some s) ≡ suffix_of calls (look_token i).kind
+    → spec.suffixes (limits t d) calls (suc turns) a i ≡ and_then (spec.deep_suffixed (limits t d) s a i) (spec.suffixes (limits t d) calls turns)
+suffixes_turn t d calls turns a s i e = one_turn t d calls turns a s i e
+    ∙ deep_by (nat_lt a.1 d) (spec.suffixed (limits t d) s a i) (spec.suffixes (limits t d) calls turns) i

@@ -1,12 +1,14 @@
 -- The readers of expressions, over lists of tokens.
-use Rattle.std.specs.Prelude.{ℕ, suc, ◌+◌, max, Bool, true, false, nat_lt, if◌then◌else◌, List, [], Ok, Err}
+use Rattle.std.specs.Prelude.{ℕ, suc, ◌+◌, max, Bool, true, false, nat_lt, if◌then◌else◌, List, [], ◌∷◌, ◌++◌, Ok, Err}
+use Rattle.cc_ast.specs.declared.reading.Construct.TheVariants as construct
 use Rattle.cc_ast.specs.declared.place.Place.{Place}
+use Rattle.cc_lexer.specs.declared.token.Mark.{Mark}
 use Rattle.cc_lexer.specs.declared.token.Mark.TheVariants as mark
 use Rattle.cc_grammar.specs.Symbols.{is_mark}
 use Rattle.cc_grammar.specs.RawTree as S
 use Rattle.cc_grammar.specs.Reading.{Outcome, Sized, and_then, look_token, rest_tokens, semicolon_token}
 use Rattle.cc_grammar.specs.Reading as r
-use Rattle.cc_grammar.specs.Signs.{Prefix, key_of}
+use Rattle.cc_grammar.specs.Signs.{Prefix, Infix, key_of, level, infix_tree}
 use Rattle.cc_cursor.specs.declared.limits.Limits.{Limits}
 use Rattle.cc_cursor.specs.declared.signs.Nested.{Nested}
 use Rattle.cc_cursor.specs.declared.signs.Nested.TheVariants as nests
@@ -16,6 +18,21 @@ use Rattle.cc_cursor.specs.Reads.{Tokens, within, expect}
 pub use Rattle.cc_cursor.specs.Reads.{elements, arguments, arguments_of, parentheses, array, expr_of}
 pub use Rattle.cc_trees.specs.Nests.{function, after_head, closed_expr}
 
+-- ---- lists
+
+-- whether a list goes on behind one of its items: behind a comma it does, behind the mark that closes it it doesn't
+abbrev pub continues : Mark → Tokens → Outcome Tokens Bool
+continues k i = if is_mark mark.Comma (look_token i).kind then Ok (true, rest_tokens i) else and_then (expect k i) (λ _ j. Ok (false, j))
+
+-- an expression behind others, with its own height, and whether the list that this mark closes goes on behind it
+abbrev pub pushed : Limits → Mark → List S.RawExpr → Tokens → Outcome Tokens (Sized (List S.RawExpr) × Bool)
+pushed m k found i = and_then ((within m).expr true 1 i) (λ x j. and_then (continues k j) (λ c l. Ok (((found ++ x.0 ∷ [], x.1), c), l)))
+
+-- the same in an array, which has no holes
+abbrev pub element : Limits → List S.RawExpr → Tokens → Outcome Tokens (Sized (List S.RawExpr) × Bool)
+element m found i = if is_mark mark.Comma (look_token i).kind then Err (record { cause = r.refused construct.Hole; place = (look_token i).place }, i)
+    else pushed m mark.CloseBracket found i
+
 -- ---- expressions
 
 -- a key of an object literal, with its place
@@ -24,6 +41,10 @@ key m i = r.key_by Tokens look_token rest_tokens semicolon_token m.depth m.turns
 
 abbrev pub field : Limits → Tokens → Outcome Tokens (Sized S.RawField)
 field m = r.field Tokens look_token rest_tokens semicolon_token m.depth m.turns (within m)
+
+-- a key and its value behind others, with the height of the value, and whether the object goes on behind it
+abbrev pub pushed_field : Limits → List S.RawField → Tokens → Outcome Tokens (Sized (List S.RawField) × Bool)
+pushed_field m found i = and_then (field m i) (λ x j. and_then (continues mark.CloseBrace j) (λ c l. Ok (((found ++ x.0 ∷ [], x.1), c), l)))
 
 abbrev pub object_fields : Limits → ℕ → List S.RawField → ℕ → Tokens → Outcome Tokens (Sized (List S.RawField))
 object_fields m = r.object_fields Tokens look_token rest_tokens semicolon_token m.depth m.turns (within m)
@@ -67,6 +88,10 @@ suffixed m goes.Dot = dotted m
 suffixed m goes.Bracket = bracketed m
 suffixed m goes.Call = called m
 
+-- within the depth
+abbrev pub deep_suffixed : Limits → Suffix → Sized S.RawExpr → Tokens → Outcome Tokens (Sized S.RawExpr)
+deep_suffixed m s a i = if nat_lt a.1 m.depth then suffixed m s a i else Err (record { cause = r.depth; place = (look_token i).place }, i)
+
 abbrev pub suffixes : Limits → Bool → ℕ → Sized S.RawExpr → Tokens → Outcome Tokens (Sized S.RawExpr)
 suffixes m = r.suffixes Tokens look_token rest_tokens semicolon_token m.depth m.turns (within m)
 
@@ -89,6 +114,11 @@ prefixed m = r.prefixed Tokens look_token rest_tokens semicolon_token m.depth m.
 abbrev pub climb : Limits → Bool → ℕ → ℕ → Sized S.RawExpr → Tokens → Outcome Tokens (Sized S.RawExpr)
 climb m = r.climb Tokens look_token rest_tokens semicolon_token m.depth m.turns (within m)
 
+-- what a binary operator makes of what stands before it, at the operator
+abbrev pub binary : Limits → Bool → Infix → Sized S.RawExpr → Tokens → Outcome Tokens (Sized S.RawExpr)
+binary m n o a i = if nat_lt a.1 m.depth then and_then ((within m).expr n (level o + 1) (rest_tokens i)) (λ b j. Ok ((infix_tree o (look_token i).place a.0 b.0, max a.1 b.1 + 1), j))
+    else Err (record { cause = r.depth; place = (look_token i).place }, i)
+
 abbrev pub conditional : Limits → Bool → Sized S.RawExpr → Tokens → Outcome Tokens (Sized S.RawExpr)
 conditional m = r.conditional Tokens look_token rest_tokens semicolon_token m.depth m.turns (within m)
 
@@ -106,6 +136,11 @@ assign m = r.assign Tokens look_token rest_tokens semicolon_token m.depth m.turn
 
 abbrev pub commas : Limits → Bool → ℕ → Sized S.RawExpr → Tokens → Outcome Tokens (Sized S.RawExpr)
 commas m = r.commas Tokens look_token rest_tokens semicolon_token m.depth m.turns (within m)
+
+-- what a comma makes of what stands before it, at the comma
+abbrev pub comma : Limits → Bool → Sized S.RawExpr → Tokens → Outcome Tokens (Sized S.RawExpr)
+comma m n a i = if nat_lt a.1 m.depth then and_then ((within m).expr n 1 (rest_tokens i)) (λ b j. Ok ((S.comma (look_token i).place a.0 b.0, max a.1 b.1 + 1), j))
+    else Err (record { cause = r.depth; place = (look_token i).place }, i)
 
 abbrev pub after_unary : Limits → Bool → ℕ → Sized S.RawExpr → Tokens → Outcome Tokens (Sized S.RawExpr)
 after_unary m = r.after_unary Tokens look_token rest_tokens semicolon_token m.depth m.turns (within m)

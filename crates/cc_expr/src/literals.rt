@@ -10,6 +10,7 @@ ghost use Rattle.cc_cursor.specs.Reads.{Reads};
 ghost use Rattle.cc_trees.specs.Nests.{NestsExpr};
 
 use crate::grammar::Grammar;
+use crate::lists::continues;
 use cc_ast::place::Place;
 use cc_ast::reading::Construct;
 use cc_cursor::cursor::Cursor;
@@ -21,7 +22,7 @@ use cc_cursor::refused::Due;
 use cc_lexer::token::Mark;
 use cc_raw::tree::{RawExpr, RawField, RawKey};
 use cc_trees::answers::{closed, sized};
-use cc_trees::lists::{push, push_boxed};
+use cc_trees::lists::push;
 use cc_trees::trees;
 use sqlite_items::{Boxed, Items};
 use std::alloc::Global;
@@ -57,6 +58,23 @@ impl<F> Grammar<F> {
 impl<
     F: Fn(Global, &mut Cursor<'_>, Limits, bool, u8) -> Result<(Boxed<RawExpr>, usize), ReadError>,
 > Grammar<F> {
+    /// An element of an array literal behind others, how high it is, and whether the array goes on
+    /// behind it.
+    fn element(
+        &self,
+        cursor: &mut Cursor<'_>,
+        found: &mut Items<RawExpr>,
+    ) -> Result<(usize, bool), ReadError>
+        requires { NestsExpr self.now.limits (F.pre self.now.expr) (F.post self.now.expr) }
+        ensures reads { Reads (λ x. ((map raw_expr found.new, x.0), x.1)) (spec.element self.now.limits (map raw_expr found.old) cursor.old) result cursor.new }
+        ensures low { IfOk result (λ x. x.0 < self.now.limits.depth) }
+    {
+        if cursor.sees(Mark::Comma) {
+            return Err(ReadError::Fault(cursor.stop(Cause::Refused(Construct::Hole))));
+        }
+        self.push_expr(cursor, Mark::CloseBracket, found)
+    }
+
     /// The elements of an array literal behind others, up to its closing bracket, and how high they
     /// are.
     fn elements(
@@ -74,18 +92,11 @@ impl<
                 cursor.take();
                 return Ok(height);
             }
-            if cursor.sees(Mark::Comma) {
-                return Err(ReadError::Fault(cursor.stop(Cause::Refused(Construct::Hole))));
-            }
-            let (e, h) = self.inner_expr(cursor, true, 1)?;
-            let Ok(()) = push_boxed(self.alloc, found, e) else {
-                return Err(ReadError::Memory);
-            };
+            let (h, more) = self.element(cursor, found)?;
             height = height.max(h);
-            if !cursor.sees(Mark::Comma) {
-                return closed(cursor, Mark::CloseBracket, height);
+            if !more {
+                return Ok(height);
             }
-            cursor.take();
         }
         Err(ReadError::Fault(cursor.stop(Cause::Spent)))
     }
@@ -120,6 +131,25 @@ impl<
         Ok((RawField { place, key, value }, height))
     }
 
+    /// A key and its value behind others, how high the value is, and whether the object goes on
+    /// behind it.
+    fn push_field(
+        &self,
+        cursor: &mut Cursor<'_>,
+        found: &mut Items<RawField>,
+    ) -> Result<(usize, bool), ReadError>
+        requires { NestsExpr self.now.limits (F.pre self.now.expr) (F.post self.now.expr) }
+        ensures reads { Reads (λ x. ((map shown.field found.new, x.0), x.1)) (spec.pushed_field self.now.limits (map shown.field found.old) cursor.old) result cursor.new }
+        ensures low { IfOk result (λ x. x.0 < self.now.limits.depth) }
+    {
+        let (field, height) = self.field(cursor)?;
+        let Ok(()) = push(self.alloc, found, field) else {
+            return Err(ReadError::Memory);
+        };
+        let more = continues(cursor, Mark::CloseBrace)?;
+        Ok((height, more))
+    }
+
     /// The keys and values of an object literal behind others, up to its closing brace, and how high
     /// they are.
     fn object_fields(
@@ -137,15 +167,11 @@ impl<
                 cursor.take();
                 return Ok(height);
             }
-            let (field, h) = self.field(cursor)?;
-            let Ok(()) = push(self.alloc, found, field) else {
-                return Err(ReadError::Memory);
-            };
+            let (h, more) = self.push_field(cursor, found)?;
             height = height.max(h);
-            if !cursor.sees(Mark::Comma) {
-                return closed(cursor, Mark::CloseBrace, height);
+            if !more {
+                return Ok(height);
             }
-            cursor.take();
         }
         Err(ReadError::Fault(cursor.stop(Cause::Spent)))
     }

@@ -12,7 +12,7 @@ use crate::grammar::Grammar;
 use cc_cursor::cursor::Cursor;
 use cc_cursor::error::{Cause, ReadError};
 use cc_cursor::limits::Limits;
-use cc_cursor::signs::{Prefix, assign_of, infix_of, level};
+use cc_cursor::signs::{Infix, Prefix, assign_of, infix_of, level};
 use cc_lexer::token::Mark;
 use cc_raw::tree::RawExpr;
 use cc_trees::answers::sized;
@@ -24,6 +24,30 @@ use std::alloc::Global;
 impl<
     F: Fn(Global, &mut Cursor<'_>, Limits, bool, u8) -> Result<(Boxed<RawExpr>, usize), ReadError>,
 > Grammar<F> {
+    /// What a binary operator makes of what stands before it, at the operator.
+    fn binary(
+        &self,
+        cursor: &mut Cursor<'_>,
+        with_in: bool,
+        sign: Infix,
+        e: Boxed<RawExpr>,
+        height: usize,
+    ) -> Result<(Boxed<RawExpr>, usize), ReadError>
+        requires expr { NestsExpr self.now.limits (F.pre self.now.expr) (F.post self.now.expr) }
+        requires height { height ≤ self.now.limits.depth }
+        ensures reads { Reads shown.expr (spec.binary self.now.limits with_in (meant.binary sign) (raw_expr e, height) cursor.old) result cursor.new }
+        ensures low { IfOk result (λ x. x.1 ≤ self.now.limits.depth) }
+        ensures grows { IfOk result (λ x. height < x.1) }
+    {
+        if height >= usize::from(self.limits.depth) {
+            return Err(ReadError::Fault(cursor.stop(Cause::Depth)));
+        }
+        let place = cursor.take();
+        let (right, h) = self.inner_expr(cursor, with_in, level(sign) + 1)?;
+        let made = trees::binary(self.alloc, sign, place, e, right);
+        sized(made, height.max(h) + 1)
+    }
+
     fn climb(
         &self,
         cursor: &mut Cursor<'_>,
@@ -44,16 +68,7 @@ impl<
             if level(sign) < least {
                 return Ok((e, height));
             }
-            if height >= usize::from(self.limits.depth) {
-                return Err(ReadError::Fault(cursor.stop(Cause::Depth)));
-            }
-            let place = cursor.take();
-            let (right, h) = self.inner_expr(cursor, with_in, level(sign) + 1)?;
-            let Ok(made) = trees::binary(self.alloc, sign, place, e, right) else {
-                return Err(ReadError::Memory);
-            };
-            e = made;
-            height = height.max(h) + 1;
+            (e, height) = self.binary(cursor, with_in, sign, e, height)?;
         }
         unreachable!()
     }
@@ -86,6 +101,28 @@ impl<
         sized(made, height.max(h) + 1)
     }
 
+    /// What a comma makes of what stands before it, at the comma.
+    fn comma(
+        &self,
+        cursor: &mut Cursor<'_>,
+        with_in: bool,
+        e: Boxed<RawExpr>,
+        height: usize,
+    ) -> Result<(Boxed<RawExpr>, usize), ReadError>
+        requires expr { NestsExpr self.now.limits (F.pre self.now.expr) (F.post self.now.expr) }
+        requires height { height ≤ self.now.limits.depth }
+        ensures reads { Reads shown.expr (spec.comma self.now.limits with_in (raw_expr e, height) cursor.old) result cursor.new }
+        ensures low { IfOk result (λ x. x.1 ≤ self.now.limits.depth) }
+        ensures grows { IfOk result (λ x. height < x.1) }
+    {
+        if height >= usize::from(self.limits.depth) {
+            return Err(ReadError::Fault(cursor.stop(Cause::Depth)));
+        }
+        let place = cursor.take();
+        let (right, h) = self.inner_expr(cursor, with_in, 1)?;
+        sized(trees::comma(self.alloc, place, e, right), height.max(h) + 1)
+    }
+
     fn commas(
         &self,
         cursor: &mut Cursor<'_>,
@@ -102,16 +139,7 @@ impl<
             if !cursor.sees(Mark::Comma) {
                 return Ok((e, height));
             }
-            if height >= usize::from(self.limits.depth) {
-                return Err(ReadError::Fault(cursor.stop(Cause::Depth)));
-            }
-            let place = cursor.take();
-            let (right, h) = self.inner_expr(cursor, with_in, 1)?;
-            let Ok(made) = trees::comma(self.alloc, place, e, right) else {
-                return Err(ReadError::Memory);
-            };
-            e = made;
-            height = height.max(h) + 1;
+            (e, height) = self.comma(cursor, with_in, e, height)?;
         }
         unreachable!()
     }

@@ -112,6 +112,25 @@ impl<
         }
     }
 
+    fn deep_suffixed(
+        &self,
+        cursor: &mut Cursor<'_>,
+        suffix: Suffix,
+        e: Boxed<RawExpr>,
+        height: usize,
+    ) -> Result<(Boxed<RawExpr>, usize), ReadError>
+        requires expr { NestsExpr self.now.limits (F.pre self.now.expr) (F.post self.now.expr) }
+        requires height { height ≤ self.now.limits.depth }
+        ensures reads { Reads shown.expr (spec.deep_suffixed self.now.limits suffix (raw_expr e, height) cursor.old) result cursor.new }
+        ensures low { IfOk result (λ x. x.1 ≤ self.now.limits.depth) }
+        ensures grows { IfOk result (λ x. height < x.1) }
+    {
+        if height >= usize::from(self.limits.depth) {
+            return Err(ReadError::Fault(cursor.stop(Cause::Depth)));
+        }
+        self.suffixed(cursor, suffix, e, height)
+    }
+
     /// An expression with all that goes on with it, calls only where the flag is true.
     pub(crate) fn suffixes(
         &self,
@@ -129,10 +148,7 @@ impl<
             let Some(suffix) = suffix_of(calls, cursor.kind()) else {
                 return Ok((e, height));
             };
-            if height >= usize::from(self.limits.depth) {
-                return Err(ReadError::Fault(cursor.stop(Cause::Depth)));
-            }
-            (e, height) = self.suffixed(cursor, suffix, e, height)?;
+            (e, height) = self.deep_suffixed(cursor, suffix, e, height)?;
         }
         unreachable!()
     }

@@ -1,7 +1,7 @@
 -- One turn of the clauses of a `switch`.
-use Rattle.std.proofs.Common.{◌≡◌, refl, ◌∙◌, ℕ, suc, max, Bool, true, false, ◌||◌, List, [], Option, Some, Ok, Err}
+use Rattle.std.proofs.Common.{◌≡◌, refl, ◌∙◌, ℕ, suc, ◌+◌, max, Bool, true, false, ◌||◌, List, [], ◌∷◌, Some, Ok}
 use Rattle.cc_lexer.specs.declared.token.Mark.TheVariants as mark
-use Rattle.cc_grammar.specs.Grammar.{Context}
+use Rattle.cc_grammar.specs.Grammar.{Context, in_switch}
 use Rattle.cc_grammar.specs.RawTree as S
 use Rattle.cc_grammar.specs.Reading.{Outcome, Sized, and_then, look_token, rest_tokens, semicolon_token, Clause, no_clause, is_close, is_case, is_default, clause_of}
 use Rattle.cc_grammar.specs.Reading as r
@@ -33,3 +33,10 @@ one_clause m c n seen found h ts = by_clause m c n seen found h ts (clause_of (l
 pub case_opened : (m : Limits) (c : Context) (ts : Tokens) → one.case_clause m c ts
     ≡ and_then (spec.closed_expr m 0 mark.Colon (rest_tokens ts)) (λ x us. and_then (spec.list m c m.turns [] 0 us) (λ b vs. Ok ((record { test = S.one_expr x.0; body = b.0 }, max x.1 b.1), vs)))
 case_opened m c ts = closed_same ((within m).expr true 0 (rest_tokens ts)) (expect mark.Colon) (λ x us. and_then (spec.list m c m.turns [] 0 us) (λ b vs. Ok ((record { test = S.one_expr x.0; body = b.0 }, max x.1 b.1), vs)))
+
+pub switch_opened : (m : Limits) (c : Context) (ts : Tokens) → spec.switch m c ts
+    ≡ and_then (one.switch_head m (rest_tokens ts)) (λ e us. and_then (spec.clauses m (in_switch c) m.turns false [] 0 us)
+    (λ cs vs. Ok ((S.switch (look_token ts).place e.0 (S.cases cs.0) ∷ [], max e.1 cs.1 + 1), vs)))
+unfolding r.switch
+switch_opened m c ts = closed_same (spec.head m (rest_tokens ts)) (expect mark.OpenBrace) (λ e us. and_then (spec.clauses m (in_switch c) m.turns false [] 0 us)
+    (λ cs vs. Ok ((S.switch (look_token ts).place e.0 (S.cases cs.0) ∷ [], max e.1 cs.1 + 1), vs)))

@@ -14,7 +14,7 @@ use Rattle.cc_cursor.specs.declared.limits.Limits.{Limits}
 use Rattle.cc_trees.specs.StatementParts as parts
 use Rattle.cc_cursor.specs.Reads.{Tokens, within, expect}
 use Rattle.cc_statements.specs.ReadsStatements as spec
-use Rattle.cc_statements.specs.ForSteps.{in_rest, closed_optional, turning}
+use Rattle.cc_statements.specs.ForSteps.{in_rest, closed_optional, turning, for_behind}
 
 higher : (a b c : ℕ) → max (max a b) c ≡ max a (max b c)
 higher a b c = omega arith
@@ -76,10 +76,25 @@ with_test m h ts = assoc (closed_optional m mark.Semicolon ts) (λ x us. and_the
     ∙ under (closed_optional m mark.Semicolon ts) _ (stepped m h) (with_step m h)
     ∙ optional_opened m mark.Semicolon ts (stepped m h)
 
-pub rest_opened : (m : Limits) (c : Context) (p : Place) (a : Sized S.RawInit) (ts : Tokens) → spec.for_rest m c p a ts
-    ≡ and_then (turning m ts) (λ x us. and_then ((within m).stmt (in_loop c) us) (λ b vs. Ok ((S.for p a.0 x.0.0 x.0.1 (S.stmts b.0) ∷ [], max (max a.1 x.1) b.1 + 1), vs)))
+rest_turned : (m : Limits) (c : Context) (p : Place) (a : Sized S.RawInit) (ts : Tokens) → spec.for_rest m c p a ts ≡ and_then (turning m ts) (turned m c p a)
 unfolding r.for_rest
-rest_opened m c p a ts = sym (assoc (expect mark.Semicolon ts) _ (turned m c p a) ∙ under (expect mark.Semicolon ts) _ _ (λ _ us. with_test m (turned m c p a) us))
+rest_turned m c p a ts = sym (assoc (expect mark.Semicolon ts) _ (turned m c p a) ∙ under (expect mark.Semicolon ts) _ _ (λ _ us. with_test m (turned m c p a) us))
+
+-- a `for` with this beginning, of what stands behind it
+abbrev made : Place → Sized S.RawInit → Sized ((S.MaybeExpr × S.MaybeExpr) × List S.RawStmt) → Tokens → Outcome Tokens (Sized (List S.RawStmt))
+made p a x ts = Ok ((S.for p a.0 x.0.0.0 x.0.0.1 (S.stmts x.0.1) ∷ [], max a.1 x.1 + 1), ts)
+
+with_body : (p : Place) (a : Sized S.RawInit) (x : Sized (S.MaybeExpr × S.MaybeExpr)) (o : Outcome Tokens (Sized (List S.RawStmt)))
+    → and_then o (λ b us. Ok ((S.for p a.0 x.0.0 x.0.1 (S.stmts b.0) ∷ [], max (max a.1 x.1) b.1 + 1), us))
+    ≡ and_then (and_then o (λ b us. Ok (((x.0, b.0), max x.1 b.1), us))) (made p a)
+with_body p a x (Ok b) = ap (λ n. Ok ((S.for p a.0 x.0.0 x.0.1 (S.stmts b.0.0) ∷ [], n + 1), b.1)) (higher a.1 x.1 b.0.1)
+with_body p a x (Err y) = refl
+
+pub rest_opened : (m : Limits) (c : Context) (p : Place) (a : Sized S.RawInit) (ts : Tokens) → spec.for_rest m c p a ts
+    ≡ and_then (for_behind m c ts) (λ x us. Ok ((S.for p a.0 x.0.0.0 x.0.0.1 (S.stmts x.0.1) ∷ [], max a.1 x.1 + 1), us))
+rest_opened m c p a ts = rest_turned m c p a ts
+    ∙ under (turning m ts) (turned m c p a) _ (λ x us. with_body p a x ((within m).stmt (in_loop c) us))
+    ∙ sym (assoc (turning m ts) (λ x us. and_then ((within m).stmt (in_loop c) us) (λ b vs. Ok (((x.0, b.0), max x.1 b.1), vs))) (made p a))
 
 pub vars_without_in : (m : Limits) (c : Context) (p : Place) (vs : List S.RawDeclarator) (h : ℕ) (ts : Tokens)
     → spec.for_vars m c p vs h false ts ≡ spec.for_rest m c p (S.init_vars (S.declarators vs), h) ts

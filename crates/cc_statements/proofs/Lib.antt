@@ -1,3 +1,4 @@
 pub mod Opened
 pub mod ForLemmas
 pub mod ClauseLemmas
+pub mod StartLemmas

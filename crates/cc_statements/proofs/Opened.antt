@@ -3,10 +3,9 @@ use Rattle.std.proofs.Common.{◌≡◌, refl, sym, ap, ◌+◌, max, Bool, true
 use Rattle.cc_ast.specs.declared.place.Place.{Place}
 use Rattle.cc_lexer.specs.declared.token.Mark.TheVariants as mark
 use Rattle.cc_lexer.specs.declared.word.Word.TheVariants as word
-use Rattle.cc_grammar.specs.Symbols.{is_mark, is_word}
+use Rattle.cc_grammar.specs.Symbols.{is_word}
 use Rattle.cc_grammar.specs.Grammar.{Context, inside, in_loop}
 use Rattle.cc_grammar.specs.RawTree as S
-use Rattle.cc_grammar.specs.Signs.{target_of}
 use Rattle.cc_grammar.specs.Reading.{Outcome, Sized, and_then, fault, a_token, look_token, rest_tokens, semicolon_token, label_of, ends_return, is_some_label}
 use Rattle.cc_grammar.specs.Reading as r
 use Rattle.cc_cursor.specs.declared.limits.Limits.{Limits}
@@ -22,10 +21,7 @@ unfolding r.while
 while_opened m c ts = refl
 
 pub for_opened : (m : Limits) (c : Context) (ts : Tokens) → spec.for_loop m c ts
-    ≡ and_then (expect mark.OpenParen (rest_tokens ts)) (λ _ us. (if is_word word.Var (look_token us).kind
-    then for_steps.for_declared m c (look_token ts).place
-    else (if is_mark mark.Semicolon (look_token us).kind then spec.for_rest m c (look_token ts).place (S.no_init, 0)
-    else (λ vs. and_then ((within m).expr false 0 vs) (λ x ws. spec.for_value m c (look_token ts).place x (target_of x.0) (is_word word.In (look_token ws).kind) ws)))) us)
+    ≡ and_then (expect mark.OpenParen (rest_tokens ts)) (λ _ us. for_steps.for_head m c (look_token ts).place us)
 unfolding r.for
 for_opened m c ts = refl
 

@@ -1,4 +1,4 @@
--- The clauses of a `switch`, one by one.
+-- What stands before the clauses of a `switch`, and the clauses, one by one.
 use Rattle.std.specs.Prelude.{ℕ, max, Bool, true, false, List, [], ◌∷◌, ◌++◌, Option, Some, None, Ok, Err}
 use Rattle.cc_lexer.specs.declared.token.Mark.TheVariants as mark
 use Rattle.cc_grammar.specs.Grammar.{Context}
@@ -11,6 +11,10 @@ use Rattle.cc_statements.specs.declared.clauses.Clause.TheVariants as C
 use Rattle.cc_cursor.specs.Reads.{within, expect}
 use Rattle.cc_statements.specs.ReadsStatements.{Parser, list}
 use Rattle.cc_statements.specs.ReadsStatements as spec
+
+-- the expression of a `switch`, and the brace before its clauses
+abbrev pub switch_head : Limits → Parser (Sized S.RawExpr)
+switch_head m ts = and_then (spec.head m ts) (λ e us. and_then (expect mark.OpenBrace us) (λ _ vs. Ok (e, vs)))
 
 abbrev pub shown : Clause → r.Clause
 shown C.Nothing = r.no_clause

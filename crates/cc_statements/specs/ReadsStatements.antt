@@ -66,6 +66,9 @@ jump m = r.jump_by Tokens look_token rest_tokens semicolon_token m.depth m.turns
 abbrev pub clauses : Limits → Context → ℕ → Bool → List S.RawCase → ℕ → Parser (Sized (List S.RawCase))
 clauses m = r.clauses Tokens look_token rest_tokens semicolon_token m.depth m.turns (within m)
 
+abbrev pub switch : Limits → Context → Parser (Sized (List S.RawStmt))
+switch m = r.switch Tokens look_token rest_tokens semicolon_token m.depth m.turns (within m)
+
 abbrev pub block_in : Limits → Context → Parser (Sized (List S.RawStmt))
 block_in m = r.block_in Tokens look_token rest_tokens semicolon_token m.depth m.turns (within m)
 

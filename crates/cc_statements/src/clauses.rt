@@ -68,6 +68,21 @@ fn sees_default(clause: Clause, seen: bool) -> bool
 
 impl<
     F: Fn(Global, &mut Cursor<'_>, Limits, bool, u8) -> Result<(Boxed<RawExpr>, usize), ReadError>,
+    G,
+> Grammar<F, G> {
+    /// The expression of a `switch`, and the brace before its clauses.
+    fn switch_head(&self, cursor: &mut Cursor<'_>) -> Result<(Boxed<RawExpr>, usize), ReadError>
+        requires { NestsExpr self.now.limits (F.pre self.now.expr) (F.post self.now.expr) }
+        ensures reads { Reads shown.expr (clauses.switch_head self.now.limits cursor.old) result cursor.new }
+        ensures low { IfOk result (λ x. x.1 < self.now.limits.depth) }
+    {
+        let e = self.head(cursor)?;
+        closed(cursor, Mark::OpenBrace, e)
+    }
+}
+
+impl<
+    F: Fn(Global, &mut Cursor<'_>, Limits, bool, u8) -> Result<(Boxed<RawExpr>, usize), ReadError>,
     G: Fn(
         Global,
         &mut Cursor<'_>,
@@ -148,7 +163,7 @@ impl<
     }
 
     /// A `switch`.
-    #[tactic(auto, unfolding(cc_grammar::specs::ReadingStatements::switch))]
+    #[tactic(auto, using(crate::proofs::ClauseLemmas::switch_opened, std::proofs::lemmas::Grind::common_steps))]
     pub(crate) fn switch(
         &self,
         cursor: &mut Cursor<'_>,
@@ -161,8 +176,7 @@ impl<
     {
         self.room(cursor, 0)?;
         let place = cursor.take();
-        let e = self.head(cursor)?;
-        let (e, h) = closed(cursor, Mark::OpenBrace, e)?;
+        let (e, h) = self.switch_head(cursor)?;
         let mut found = Items::new(self.alloc);
         let i = self.clauses(cursor, context.in_switch(), &mut found)?;
         sized(trees::switch(self.alloc, place, e, found), h.max(i) + 1)

@@ -145,6 +145,31 @@ impl<
             .for_vars(cursor, context, place, (declared, height))
     }
 
+    /// A `for` or `for-in` behind its parenthesis.
+    fn for_head(
+        &self,
+        cursor: &mut Cursor<'_>,
+        context: Context<'_>,
+        place: Place,
+    ) -> Result<(Items<RawStmt>, usize), ReadError>
+        requires expr { NestsExpr self.now.grammar.limits (F.pre self.now.grammar.expr) (F.post self.now.grammar.expr) }
+        requires stmt { NestsStmt self.now.grammar.limits (G.pre self.now.grammar.stmt) (G.post self.now.grammar.stmt) }
+        requires whole { NestsWhole self.now.grammar.limits (W.pre self.now.whole) (W.post self.now.whole) }
+        requires some { 0 < self.now.grammar.limits.depth }
+        ensures reads { Reads shown.stmts (steps.for_head self.now.grammar.limits (shown.context context.entry) place cursor.old) result cursor.new }
+        ensures low { IfOk result (λ x. x.1 ≤ self.now.grammar.limits.depth) }
+    {
+        if cursor.sees_word(Word::Var) {
+            return self.for_declared(cursor, context, place);
+        }
+        if cursor.sees(Mark::Semicolon) {
+            return self
+                .grammar
+                .for_rest(cursor, context, place, (trees::no_init(), 0));
+        }
+        self.grammar.for_valued(cursor, context, place)
+    }
+
     /// A `for` or `for-in`.
     #[tactic(auto, using(crate::proofs::Opened::for_opened, std::proofs::lemmas::Grind::common_steps))]
     pub(crate) fn for_loop(
@@ -161,15 +186,6 @@ impl<
         self.grammar.room(cursor, 0)?;
         let place = cursor.take();
         cursor.expect(Mark::OpenParen)?;
-        if cursor.sees_word(Word::Var) {
-            return self.for_declared(cursor, context, place);
-        }
-        if cursor.sees(Mark::Semicolon) {
-            return self
-                .grammar
-                .for_rest(cursor, context, place, (trees::no_init(), 0));
-        }
-        let value = self.grammar.inner_expr(cursor, false, 0)?;
-        self.grammar.for_value(cursor, context, place, value)
+        self.for_head(cursor, context, place)
     }
 }

@@ -109,7 +109,7 @@ impl<
         closed(cursor, mark, found)
     }
 
-    /// What a `for` has between its beginning and its body.
+    /// The test and the step of a `for`.
     fn turning(&self, cursor: &mut Cursor<'_>) -> Result<(Turning, usize), ReadError>
         requires expr { NestsExpr self.now.limits (F.pre self.now.expr) (F.post self.now.expr) }
         ensures reads { Reads steps.sized_turning (steps.turning self.now.limits cursor.old) result cursor.new }
@@ -173,6 +173,22 @@ impl<
         )
     }
 
+    /// What a `for` has behind its beginning.
+    fn for_behind(
+        &self,
+        cursor: &mut Cursor<'_>,
+        context: Context<'_>,
+    ) -> Result<((Turning, Items<RawStmt>), usize), ReadError>
+        requires expr { NestsExpr self.now.limits (F.pre self.now.expr) (F.post self.now.expr) }
+        requires stmt { NestsStmt self.now.limits (G.pre self.now.stmt) (G.post self.now.stmt) }
+        ensures reads { Reads steps.sized_behind (steps.for_behind self.now.limits (shown.context context.entry) cursor.old) result cursor.new }
+        ensures low { IfOk result (λ x. x.1 < self.now.limits.depth) }
+    {
+        let (turning, h) = self.turning(cursor)?;
+        let (body, i) = self.loop_body(cursor, context)?;
+        Ok(((turning, body), h.max(i)))
+    }
+
     /// A `for` behind what it begins with.
     #[tactic(auto, using(crate::proofs::ForLemmas::rest_opened, std::proofs::lemmas::Grind::common_steps))]
     pub(crate) fn for_rest(
@@ -189,12 +205,11 @@ impl<
         ensures low { IfOk result (λ x. x.1 ≤ self.now.limits.depth) }
     {
         let (init, h) = init;
-        let (turning, i) = self.turning(cursor)?;
-        let (body, j) = self.loop_body(cursor, context)?;
+        let ((turning, body), i) = self.for_behind(cursor, context)?;
         let Turning { test, step } = turning;
         let made = trees::for_loop(self.alloc, place, init, test, step, body);
         let _depth = self.limits.depth;
-        sized(made, h.max(i).max(j) + 1)
+        sized(made, h.max(i) + 1)
     }
 
     /// What a `for-in` has behind its target.
@@ -264,7 +279,7 @@ impl<
 
     /// A `for` behind the expression that it begins with.
     #[tactic(auto, using(crate::proofs::ForLemmas::for_steps))]
-    pub(crate) fn for_value(
+    fn for_value(
         &self,
         cursor: &mut Cursor<'_>,
         context: Context<'_>,
@@ -283,5 +298,21 @@ impl<
             return self.for_in(cursor, context, place, target, height);
         }
         self.for_rest(cursor, context, place, (trees::init_value(e), height))
+    }
+
+    /// A `for` or `for-in` at the expression that it begins with.
+    pub(crate) fn for_valued(
+        &self,
+        cursor: &mut Cursor<'_>,
+        context: Context<'_>,
+        place: Place,
+    ) -> Result<(Items<RawStmt>, usize), ReadError>
+        requires expr { NestsExpr self.now.limits (F.pre self.now.expr) (F.post self.now.expr) }
+        requires stmt { NestsStmt self.now.limits (G.pre self.now.stmt) (G.post self.now.stmt) }
+        ensures reads { Reads shown.stmts (steps.for_valued self.now.limits (shown.context context.entry) place cursor.old) result cursor.new }
+        ensures low { IfOk result (λ x. x.1 ≤ self.now.limits.depth) }
+    {
+        let value = self.inner_expr(cursor, false, 0)?;
+        self.for_value(cursor, context, place, value)
     }
 }

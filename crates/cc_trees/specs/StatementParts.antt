@@ -34,9 +34,6 @@ declarators ds = map declarator ds
 abbrev pub sized_declarator : RawDeclarator × ℕ → r.Sized S.RawDeclarator
 sized_declarator x = (declarator x.0, x.1)
 
-abbrev pub sized_declarators : List RawDeclarator × ℕ → r.Sized (List S.RawDeclarator)
-sized_declarators x = (declarators x.0, x.1)
-
 abbrev pub sized_init : RawInit × ℕ → r.Sized S.RawInit
 sized_init x = (raw_init x.0, x.1)
 
@@ -66,9 +63,6 @@ clauses cs = map clause cs
 
 abbrev pub sized_clause : RawCase × ℕ → r.Sized S.RawCase
 sized_clause x = (clause x.0, x.1)
-
-abbrev pub sized_clauses : List RawCase × ℕ → r.Sized (List S.RawCase)
-sized_clauses x = (clauses x.0, x.1)
 
 abbrev pub catch : Option RawCatch → S.RawCatch
 catch None = S.no_catch

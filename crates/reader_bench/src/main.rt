@@ -1,9 +1,13 @@
 //! What the reader answers, and how long it takes: prints for each file that its arguments name its
-//! bytes, what reading it answers, and the microseconds that its tokens and the reader took.
+//! bytes, what reading it answers, and the microseconds that its tokens and the reader took. Without
+//! a file it prints how many bytes a token and the nodes of the trees take.
 #![tactic(auto)]
 
 use cc_ast::place::Place;
 use cc_ast::reading::{LimitKind, Refusal};
+use cc_ast::tree::Stmt;
+use cc_lexer::token::Token;
+use cc_raw::tree::{RawExpr, RawStmt};
 use cc_stmt::{Tree, read_source};
 use std::alloc::{AllocError, Global};
 use std::fmt::Write;
@@ -63,6 +67,15 @@ fn time(rt: &HostRuntime, name: &str) -> io::Result<()> {
     println!(rt; "{size} bytes, {outcome}, {micros} us")
 }
 
+// A tree holds many nodes, so they are small.
+fn sizes(rt: &HostRuntime) -> io::Result<()> {
+    let token = size_of::<Token<'_>>();
+    let raw_expr = size_of::<RawExpr>();
+    let raw_stmt = size_of::<RawStmt>();
+    let stmt = size_of::<Stmt>();
+    println!(rt; "bytes: Token {token}, RawExpr {raw_expr}, RawStmt {raw_stmt}, Stmt {stmt}")
+}
+
 fn main(rt: HostRuntime) -> io::Result<()> {
     let mut args = env::args(&rt)?;
     let _program = args.next();
@@ -74,5 +87,5 @@ fn main(rt: HostRuntime) -> io::Result<()> {
     if named {
         return Ok(());
     }
-    println!(rt; "which file?")
+    sizes(&rt)
 }

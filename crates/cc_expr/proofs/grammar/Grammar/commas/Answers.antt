@@ -1,13 +1,12 @@
-use Rattle.std.proofs.Common.{rules, arith, ◌≡◌, ◌∙◌, ap, sym, ◌<◌, ◌≤◌, true, false, Err}
+use Rattle.std.proofs.Common.{rules, arith, ◌≡◌, ◌∙◌, true, false}
 use Rattle.std.proofs.lemmas.Grind.{common_steps}
 use Rattle.cc_lexer.specs.declared.token.Mark.TheVariants as mark
 use Rattle.cc_grammar.specs.Reading.{look_token}
 use Rattle.cc_grammar.specs.Symbols.{is_mark}
 use Rattle.cc_raw.specs.Bridge.{raw_expr}
-use Rattle.cc_cursor.specs.Shown as shown
 use Rattle.cc_cursor.proofs.Turns.{one_more}
 use Rattle.cc_expr.specs.Expressions as spec
-use Rattle.cc_expr.proofs.OperatorLemmas.{commas_none, commas_deep, commas_on}
+use Rattle.cc_expr.proofs.OperatorLemmas.{commas_none, commas_turn}
 use Rattle.cc_expr.proofs.grammar.Grammar.commas.Goals as goal
 
 pub returns-then-not-sees-clause-reads : goal.returns-then-not-sees-clause-reads
@@ -18,23 +17,13 @@ returns-then-not-sees-clause-reads g c =
     let s : false ≡ is_mark mark.Comma (look_token l.cursor).kind = first_of (grind (arith, common_steps), search rules) in
     e ∙ commas_none m.turns m.depth c.args.with_in _ (raw_expr l.e, l.height) l.cursor s
 
-pub returns-then-height-from-clause-reads : goal.returns-then-height-from-clause-reads
-returns-then-height-from-clause-reads g c =
+pub returns-in_err-e-clause-reads : goal.returns-in_err-e-clause-reads
+returns-in_err-e-clause-reads g c =
     let m = c.args.self.now.limits in
     let l = c.loop-turn in
     let e = one_more (λ n. spec.commas m c.args.with_in n (raw_expr l.e, l.height) l.cursor) _ l._turn c.loop-turn-test.true l.invariant.reads in
     let s : true ≡ is_mark mark.Comma (look_token l.cursor).kind = first_of (grind (arith, common_steps), search rules) in
-    let none : m.depth ≤ l.height = first_of (grind (arith, common_steps), search rules) in
-    e ∙ commas_deep m.turns m.depth c.args.with_in _ (raw_expr l.e, l.height) l.cursor s none ∙ ap (λ f. Err (shown.fault f, l.cursor)) (sym c.stop.ensures)
-
-pub returns-in_err-right-clause-reads : goal.returns-in_err-right-clause-reads
-returns-in_err-right-clause-reads g c =
-    let m = c.args.self.now.limits in
-    let l = c.loop-turn in
-    let e = one_more (λ n. spec.commas m c.args.with_in n (raw_expr l.e, l.height) l.cursor) _ l._turn c.loop-turn-test.true l.invariant.reads in
-    let s : true ≡ is_mark mark.Comma (look_token l.cursor).kind = first_of (grind (arith, common_steps), search rules) in
-    let some : l.height < m.depth = first_of (grind (arith, common_steps), search rules) in
-    let t = e ∙ commas_on m.turns m.depth c.args.with_in _ (raw_expr l.e, l.height) l.cursor s some in
+    let t = e ∙ commas_turn m.turns m.depth c.args.with_in _ (raw_expr l.e, l.height) l.cursor s in
     first_of (search rules, grind (arith, common_steps))
 
 pub loop-turn-preserved : goal.loop-turn-preserved
@@ -43,10 +32,9 @@ loop-turn-preserved g c =
     let l = c.loop-turn in
     let e = one_more (λ n. spec.commas m c.args.with_in n (raw_expr l.e, l.height) l.cursor) _ l._turn c.loop-turn-test.true l.invariant.reads in
     let s : true ≡ is_mark mark.Comma (look_token l.cursor).kind = first_of (grind (arith, common_steps), search rules) in
-    let some : l.height < m.depth = first_of (grind (arith, common_steps), search rules) in
-    let t = e ∙ commas_on m.turns m.depth c.args.with_in _ (raw_expr l.e, l.height) l.cursor s some in
+    let t = e ∙ commas_turn m.turns m.depth c.args.with_in _ (raw_expr l.e, l.height) l.cursor s in
     record {
-      reads = first_of (grind (arith, common_steps), search rules);
+      reads = first_of (search rules, grind (arith, common_steps));
       low = first_of (search rules, grind (arith, common_steps));
       grows = first_of (search rules, grind (arith, common_steps));
     }

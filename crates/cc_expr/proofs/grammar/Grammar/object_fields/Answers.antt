@@ -1,38 +1,55 @@
-use Rattle.std.proofs.Common.{rules, arith, map}
+use Rattle.std.proofs.Common.{rules, arith, ◌≡◌, ◌∙◌, true, false, map}
 use Rattle.std.proofs.lemmas.Grind.{common_steps}
-use Rattle.std.proofs.lemmas.List.{map-append}
-use Rattle.cc_grammar.specs.Reading.{object_fields}
+use Rattle.cc_grammar.specs.ReadingExpressions.{object_fields}
+use Rattle.cc_lexer.specs.declared.token.Mark.TheVariants as mark
+use Rattle.cc_grammar.specs.Reading.{look_token}
+use Rattle.cc_grammar.specs.Symbols.{is_mark}
 use Rattle.cc_cursor.specs.Shown as shown
 use Rattle.cc_expr.specs.Expressions as spec
 use Rattle.cc_cursor.proofs.Turns.{one_more, no_more}
+use Rattle.cc_expr.proofs.ListLemmas.{fields_end, fields_turn}
 use Rattle.cc_expr.proofs.grammar.Grammar.object_fields.Goals as goal
 
 pub returns-then-sees-clause-reads : goal.returns-then-sees-clause-reads
-unfolding object_fields
 returns-then-sees-clause-reads g c =
-    let e = one_more (λ n. spec.object_fields c.args.self.now.limits n (map shown.field c.loop-turn.found) c.loop-turn.height c.loop-turn.cursor) _ c.loop-turn._turn c.loop-turn-test.true c.loop-turn.invariant.reads in
-    first_of (search rules, grind (arith, common_steps, map-append))
+    let m = c.args.self.now.limits in
+    let l = c.loop-turn in
+    let e = one_more (λ n. spec.object_fields m n (map shown.field l.found) l.height l.cursor) _ l._turn c.loop-turn-test.true l.invariant.reads in
+    let s : is_mark mark.CloseBrace (look_token l.cursor).kind ≡ true = first_of (grind (arith, common_steps), search rules) in
+    let t = e ∙ fields_end m.turns m.depth _ (map shown.field l.found) l.height l.cursor s in
+    first_of (search rules, grind (arith, common_steps))
 
-pub returns-in_err-field-clause-reads : goal.returns-in_err-field-clause-reads
-unfolding object_fields
-returns-in_err-field-clause-reads g c =
-    let e = one_more (λ n. spec.object_fields c.args.self.now.limits n (map shown.field c.loop-turn.found) c.loop-turn.height c.loop-turn.cursor) _ c.loop-turn._turn c.loop-turn-test.true c.loop-turn.invariant.reads in
-    first_of (search rules, grind (arith, common_steps, map-append))
+pub returns-in_err-h-clause-reads : goal.returns-in_err-h-clause-reads
+returns-in_err-h-clause-reads g c =
+    let m = c.args.self.now.limits in
+    let l = c.loop-turn in
+    let e = one_more (λ n. spec.object_fields m n (map shown.field l.found) l.height l.cursor) _ l._turn c.loop-turn-test.true l.invariant.reads in
+    let s : is_mark mark.CloseBrace (look_token l.cursor).kind ≡ false = first_of (grind (arith, common_steps), search rules) in
+    let t = e ∙ fields_turn m.turns m.depth _ (map shown.field l.found) l.height l.cursor s in
+    first_of (search rules, grind (arith, common_steps))
 
-pub returns-then-not-sees-clause-reads : goal.returns-then-not-sees-clause-reads
-unfolding object_fields
-returns-then-not-sees-clause-reads g c =
-    let e = one_more (λ n. spec.object_fields c.args.self.now.limits n (map shown.field c.loop-turn.found) c.loop-turn.height c.loop-turn.cursor) _ c.loop-turn._turn c.loop-turn-test.true c.loop-turn.invariant.reads in
-    first_of (search rules, grind (arith, common_steps, map-append))
+pub returns-then-not-more-clause-reads : goal.returns-then-not-more-clause-reads
+returns-then-not-more-clause-reads g c =
+    let m = c.args.self.now.limits in
+    let l = c.loop-turn in
+    let e = one_more (λ n. spec.object_fields m n (map shown.field l.found) l.height l.cursor) _ l._turn c.loop-turn-test.true l.invariant.reads in
+    let s : is_mark mark.CloseBrace (look_token l.cursor).kind ≡ false = first_of (grind (arith, common_steps), search rules) in
+    let t = e ∙ fields_turn m.turns m.depth _ (map shown.field l.found) l.height l.cursor s in
+    first_of (search rules, grind (arith, common_steps))
 
 pub loop-turn-preserved : goal.loop-turn-preserved
-unfolding object_fields
 loop-turn-preserved g c =
-    let e = one_more (λ n. spec.object_fields c.args.self.now.limits n (map shown.field c.loop-turn.found) c.loop-turn.height c.loop-turn.cursor) _ c.loop-turn._turn c.loop-turn-test.true c.loop-turn.invariant.reads in
-    record { reads = first_of (search rules, grind (arith, common_steps, map-append)); low = first_of (search rules, grind (arith, common_steps)) }
+    let m = c.args.self.now.limits in
+    let l = c.loop-turn in
+    let e = one_more (λ n. spec.object_fields m n (map shown.field l.found) l.height l.cursor) _ l._turn c.loop-turn-test.true l.invariant.reads in
+    let s : is_mark mark.CloseBrace (look_token l.cursor).kind ≡ false = first_of (grind (arith, common_steps), search rules) in
+    let t = e ∙ fields_turn m.turns m.depth _ (map shown.field l.found) l.height l.cursor s in
+    record { reads = first_of (search rules, grind (arith, common_steps)); low = first_of (search rules, grind (arith, common_steps)) }
 
 pub returns-clause-reads : goal.returns-clause-reads
 unfolding object_fields
 returns-clause-reads g c =
-    let e = no_more (λ n. spec.object_fields c.args.self.now.limits n (map shown.field c.loop-turn.found) c.loop-turn.height c.loop-turn.cursor) _ c.loop-turn._turn c.loop-turn-test.false c.loop-turn.invariant.reads in
+    let m = c.args.self.now.limits in
+    let l = c.loop-turn in
+    let e = no_more (λ n. spec.object_fields m n (map shown.field l.found) l.height l.cursor) _ l._turn c.loop-turn-test.false l.invariant.reads in
     first_of (search rules, grind (arith, common_steps))

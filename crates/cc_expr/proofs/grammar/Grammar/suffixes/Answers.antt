@@ -1,12 +1,11 @@
-use Rattle.std.proofs.Common.{◌≡◌, ◌<◌, ◌≤◌, ◌∙◌, sym, ap, rules, arith, Some, Err}
+use Rattle.std.proofs.Common.{◌≡◌, ◌∙◌, ap, rules, arith, Some}
 use Rattle.std.proofs.lemmas.Grind.{common_steps}
 use Rattle.cc_grammar.specs.Reading.{suffix_of, look_token}
 use Rattle.cc_raw.specs.Bridge.{raw_expr}
 use Rattle.cc_cursor.specs.Meant as meant
-use Rattle.cc_cursor.specs.Shown as shown
 use Rattle.cc_cursor.proofs.Turns.{one_more}
 use Rattle.cc_expr.specs.Expressions as spec
-use Rattle.cc_expr.proofs.SuffixLemmas.{suffixes_end, suffixes_turn, suffixes_high}
+use Rattle.cc_expr.proofs.SuffixLemmas.{suffixes_end, suffixes_turn}
 use Rattle.cc_expr.proofs.grammar.Grammar.suffixes.Goals as goal
 
 pub returns-in_default-clause-reads : goal.returns-in_default-clause-reads
@@ -15,22 +14,12 @@ returns-in_default-clause-reads g c =
     e ∙ suffixes_end c.args.self.now.limits.turns c.args.self.now.limits.depth c.args.calls _ (raw_expr c.loop-turn.e, c.loop-turn.height) c.loop-turn.cursor
     (c.in_default.ensures ∙ ap (suffix_of c.args.calls) c.kind.ensures.shows)
 
-pub returns-then-height-from-clause-reads : goal.returns-then-height-from-clause-reads
-returns-then-height-from-clause-reads g c =
-    let e = one_more (λ n. spec.suffixes c.args.self.now.limits c.args.calls n (raw_expr c.loop-turn.e, c.loop-turn.height) c.loop-turn.cursor) _ c.loop-turn._turn c.loop-turn-test.true c.loop-turn.invariant.reads in
-    let s : meant.suffix (Some c.in-Some.suffix) ≡ suffix_of c.args.calls (look_token c.loop-turn.cursor).kind
-    = c.in-Some.ensures ∙ ap (suffix_of c.args.calls) c.kind.ensures.shows in
-    let high : c.args.self.now.limits.depth ≤ c.loop-turn.height = omega arith in
-    e ∙ suffixes_high c.args.self.now.limits.turns c.args.self.now.limits.depth c.args.calls _ (raw_expr c.loop-turn.e, c.loop-turn.height) c.in-Some.suffix c.loop-turn.cursor s high
-    ∙ ap (λ f. Err (shown.fault f, c.loop-turn.cursor)) (sym c.stop.ensures)
-
 pub returns-in_err-e-clause-reads : goal.returns-in_err-e-clause-reads
 returns-in_err-e-clause-reads g c =
     let e = one_more (λ n. spec.suffixes c.args.self.now.limits c.args.calls n (raw_expr c.loop-turn.e, c.loop-turn.height) c.loop-turn.cursor) _ c.loop-turn._turn c.loop-turn-test.true c.loop-turn.invariant.reads in
     let s : meant.suffix (Some c.in-Some.suffix) ≡ suffix_of c.args.calls (look_token c.loop-turn.cursor).kind
     = c.in-Some.ensures ∙ ap (suffix_of c.args.calls) c.kind.ensures.shows in
-    let low : c.loop-turn.height < c.args.self.now.limits.depth = omega arith in
-    let t = e ∙ suffixes_turn c.args.self.now.limits.turns c.args.self.now.limits.depth c.args.calls _ (raw_expr c.loop-turn.e, c.loop-turn.height) c.in-Some.suffix c.loop-turn.cursor s low in
+    let t = e ∙ suffixes_turn c.args.self.now.limits.turns c.args.self.now.limits.depth c.args.calls _ (raw_expr c.loop-turn.e, c.loop-turn.height) c.in-Some.suffix c.loop-turn.cursor s in
     first_of (search rules, grind (arith, common_steps))
 
 pub loop-turn-preserved : goal.loop-turn-preserved
@@ -38,8 +27,7 @@ loop-turn-preserved g c =
     let e = one_more (λ n. spec.suffixes c.args.self.now.limits c.args.calls n (raw_expr c.loop-turn.e, c.loop-turn.height) c.loop-turn.cursor) _ c.loop-turn._turn c.loop-turn-test.true c.loop-turn.invariant.reads in
     let s : meant.suffix (Some c.in-Some.suffix) ≡ suffix_of c.args.calls (look_token c.loop-turn.cursor).kind
     = c.in-Some.ensures ∙ ap (suffix_of c.args.calls) c.kind.ensures.shows in
-    let low : c.loop-turn.height < c.args.self.now.limits.depth = omega arith in
-    let t = e ∙ suffixes_turn c.args.self.now.limits.turns c.args.self.now.limits.depth c.args.calls _ (raw_expr c.loop-turn.e, c.loop-turn.height) c.in-Some.suffix c.loop-turn.cursor s low in
+    let t = e ∙ suffixes_turn c.args.self.now.limits.turns c.args.self.now.limits.depth c.args.calls _ (raw_expr c.loop-turn.e, c.loop-turn.height) c.in-Some.suffix c.loop-turn.cursor s in
     record {
       reads = first_of (search rules, grind (arith, common_steps));
       low = first_of (search rules, grind (arith, common_steps));

@@ -1,0 +1,10 @@
+use Rattle.std.proofs.Common.{arith}
+use Rattle.std.proofs.lemmas.Grind.{common_steps}
+use Rattle.cc_statements.proofs.ForLemmas.{rest_opened}
+use Rattle.cc_statements.proofs.grammar.Grammar.for_rest.Goals as goal
+
+pub returns-in_err-turning-clause-reads : goal.returns-in_err-turning-clause-reads
+returns-in_err-turning-clause-reads g c = grind (arith, common_steps, rest_opened)
+
+pub returns-clause-reads : goal.returns-clause-reads
+returns-clause-reads g c = grind (arith, common_steps, rest_opened)

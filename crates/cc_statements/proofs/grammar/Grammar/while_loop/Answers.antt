@@ -1,0 +1,16 @@
+use Rattle.std.proofs.Common.{arith}
+use Rattle.std.proofs.lemmas.Grind.{common_steps}
+use Rattle.cc_statements.proofs.Opened.{while_opened}
+use Rattle.cc_statements.proofs.grammar.Grammar.while_loop.Goals as goal
+
+pub returns-in_err-room-clause-reads : goal.returns-in_err-room-clause-reads
+returns-in_err-room-clause-reads g c = grind (arith, common_steps, while_opened)
+
+pub returns-in_err-test-clause-reads : goal.returns-in_err-test-clause-reads
+returns-in_err-test-clause-reads g c = grind (arith, common_steps, while_opened)
+
+pub returns-in_err-body-clause-reads : goal.returns-in_err-body-clause-reads
+returns-in_err-body-clause-reads g c = grind (arith, common_steps, while_opened)
+
+pub returns-clause-reads : goal.returns-clause-reads
+returns-clause-reads g c = grind (arith, common_steps, while_opened)
