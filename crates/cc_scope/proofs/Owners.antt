@@ -20,6 +20,7 @@ use Rattle.cc_scope.specs.Classes.{methods_in, methods_among, method_functions, 
 use Rattle.cc_scope.proofs.Declared.{in_left, in_right, in_either}
 use Rattle.cc_scope.proofs.Numbers.{head_or}
 use Rattle.cc_scope.proofs.Pieces.{functions_join}
+use Rattle.cc_scope.proofs.SameParts.{stmts_same}
 use Rattle.cc_scope.proofs.Tidy.{once_left, once_right, once_apart, Tidy, tidy_join, stmts_tidy}
 use Rattle.cc_scope.proofs.Names.{eq_self, eq_equal}
 
@@ -242,6 +243,11 @@ module _ (T : Tables) where
   part_in k s [] x e i = absurd (cc)
   part_in ℕ.zero s (z ∷ ss) x e i = in_left (stmts_parts T 0 z.body) (all_parts ss) (let q : z ≡ s = cc in subst (λ y. In x (stmts_parts T 0 y.body)) (sym q) i)
   part_in (suc k) s (z ∷ ss) x e i = in_right (stmts_parts T 0 z.body) (all_parts ss) (part_in k s ss x e i)
+
+pub same_all : (T U : Tables) → T.props ≡ U.props → (ss : List Scope) → all_parts T ss ≡ all_parts U ss
+unfolding all_parts
+same_all T U h [] = refl
+same_all T U h (s ∷ ss) = rw (stmts_same T U h 0 s.body) (rw (same_all T U h ss) refl)
 
 -- ---- the lists of methods
 
