@@ -49,7 +49,7 @@ same_some : {m n : ℕ} → Some m ≡ Some n → m ≡ n
 unfolding some_or
 same_some {m} e = ap (some_or m) e
 
-rising_once : {a b : ℕ} (gs : List ℕ) → Rising a b gs → IsDistinct gs
+pub rising_once : {a b : ℕ} (gs : List ℕ) → Rising a b gs → IsDistinct gs
 rising_once [] r i j x e d = absurd (cc)
 rising_once (g ∷ gs) (one_more h r) zero zero x e d = refl
 rising_once (g ∷ gs) (one_more h r) zero (suc j) x e d = let n = lowest r (at_in gs j x d) in let z = same_some e in absurd (omega arith)

@@ -28,7 +28,7 @@ use Rattle.cc_scope.specs.Functions.{Function, all_functions}
 use Rattle.cc_scope.specs.Externs.{Externs, NamedType, is_class_doc, interface_kind, named_type_in}
 use Rattle.cc_scope.specs.Types.{Meaning, a_class, outside_class, stands_for, nothing, Meanings, dotted_name, class_meant}
 use Rattle.cc_scope.specs.Paths.{names_itself, may_be_variable}
-use Rattle.cc_scope.specs.Written.{fresh}
+use Rattle.cc_scope.specs.Written.{fresh, has}
 use Rattle.cc_scope.specs.Named.{words_of, path_places, path_named}
 
 -- What is annotated: the program that trees resolve to, of which the classes, docs and flat paths don't
@@ -59,10 +59,31 @@ unfolding constructor_kind
 is_constructor_doc None = false
 is_constructor_doc (Some d) = constructor_kind d.kind
 
+-- the functions that are set to `F.prototype.m` for some F
+unfoldable pub method_functions : List Part → List ℕ
+method_functions [] = []
+method_functions (sets_method w p f ∷ xs) = f ∷ method_functions xs
+method_functions (_ ∷ xs) = method_functions xs
+
+-- at any place
+unfoldable pub all_methods : Tables → List Scope → List ℕ
+unfolding method_functions stmts_parts
+all_methods T [] = []
+all_methods T (s ∷ ss) = method_functions (stmts_parts T 0 s.body) ++ all_methods T ss
+
+unfoldable pub is_method : Program → ℕ → Bool
+unfolding has all_methods tables_of
+is_method P f = has f (all_methods (tables_of P) P.scopes)
+
+-- what is said of a function as a class: a method is none
+unfoldable pub unless_method : Annotated → ℕ → Option Doc → Option Doc
+unfolding is_method
+unless_method A f d = pick (is_method A.program f) None d
+
 -- a function marked `@constructor` whose own name is mentioned nowhere: it may hold paths
 unfoldable pub may_hold : Annotated → ℕ → Bool
-unfolding is_constructor_doc said_of function_at names_itself
-may_hold A f = is_constructor_doc (said_of A.comments (function_at A f)) && not (names_itself A.program f)
+unfolding is_constructor_doc unless_method said_of function_at names_itself
+may_hold A f = is_constructor_doc (unless_method A f (said_of A.comments (function_at A f))) && not (names_itself A.program f)
 
 -- ---- where classes stand
 
@@ -100,9 +121,9 @@ class_if A f g None = []
 class_if A f g (Some d) = pick (is_class_doc (Some d)) (class_at_path A f g d (path_set_to (tables_of A.program).set f)) []
 
 unfoldable pub class_places_from : Annotated → ℕ → List Function → List ClassPlace
-unfolding class_if said_at
+unfolding class_if unless_method said_at
 class_places_from A f [] = []
-class_places_from A f (g ∷ gs) = class_if A f g (said_at g.at A.comments) ++ class_places_from A (suc f) gs
+class_places_from A f (g ∷ gs) = class_if A f g (unless_method A f (said_at g.at A.comments)) ++ class_places_from A (suc f) gs
 
 -- the classes of the program, in the order of their functions
 unfoldable pub class_places : Annotated → List ClassPlace
