@@ -2,6 +2,23 @@
 //! functions here state the laws, and do nothing.
 #![tactic(auto)]
 
+mod bodies;
+mod characters;
+mod enter;
+mod expression;
+mod frames;
+mod leftmost;
+mod levels;
+mod lookup;
+mod out;
+mod printer;
+mod quoting;
+mod sequences;
+mod signs;
+pub mod spell;
+mod statement;
+mod work;
+
 ghost use Rattle.cc_printer.specs.Laws.{DerivesAtLevel, TokensDerive, TextHasTokens, ReadsBack, NamesAreNames, SameTokens, TextIsUtf8, NoneLeftOut, ProgramsAreWritten, ProgramsReadBack};
 
 /// What is printed at a level is derived at that level, whatever follows.
