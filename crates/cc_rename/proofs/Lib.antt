@@ -4,3 +4,6 @@ pub mod FreeNames
 pub mod Ranks
 pub mod Standing
 pub mod Given
+mod Walk
+mod WalkParts
+mod Printed

@@ -1,4 +1,6 @@
 pub mod Order
 pub mod Uses
 pub mod Naming
+pub mod Steps
+pub mod Printed
 pub mod Laws
