@@ -7,3 +7,4 @@ pub mod Given
 mod Walk
 mod WalkParts
 mod Printed
+mod Tallies

@@ -5,9 +5,11 @@ ghost use Rattle.cc_rename.specs.Laws.{IsNamed, NamesServe};
 ghost use Rattle.cc_rename.specs.Printed.{ArePrinted};
 
 mod expression;
+mod frames;
 mod met;
 mod parts;
 mod statement;
+mod tally;
 
 /// Each variable has a name of its own, in their order, and externs and built-in globals keep theirs.
 pub fn variables_are_named()
