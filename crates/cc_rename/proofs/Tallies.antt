@@ -1,11 +1,13 @@
 -- What steps of counting change.
-use Rattle.std.specs.Prelude.{◌≡◌, ℕ, zero, suc, ◌+◌, ◌-◌, ◌<◌, ◌≤◌, List, [], ◌∷◌, ◌++◌, false, nat_eq, cond, get_or, length, drop, Option, Some, None, SomeIff, IfSome, ◌^◌}
-use Rattle.std.proofs.Common.{refl, sym, ap, ◌∙◌, arith, length-append, set}
+use Rattle.std.specs.Prelude.{◌≡◌, Bool, true, false, ℕ, zero, suc, ◌+◌, ◌-◌, ◌<◌, ◌≤◌, max, List, [], ◌∷◌, ◌++◌, nat_eq, cond, get_or, length, map, drop, Option, Some, None, SomeIff, IfSome, ◌^◌}
+use Rattle.std.proofs.Common.{refl, subst, sym, ap, ◌∙◌, arith, length-append, set}
 use Rattle.std.proofs.lemmas.Bool.Decides.{nat_tests}
 use Rattle.cc_printer.specs.RawOf.{Frames, places}
 use Rattle.cc_printer.specs.Naming.{inside_catches}
 use Rattle.cc_printer.proofs.Slots.{places_inside, past}
-use Rattle.cc_rename.specs.Uses.{Variable, global, slot, is_same, Use, prints, spans, is_of, occurrences, reach, slots_of}
+use Rattle.cc_rename.specs.Uses.{Variable, global, slot, is_same, Use, prints, spans, is_of, occurrences, reach, slots_of, slot_uses, own_uses, meant}
+use Rattle.cc_ast.specs.declared.tree.Ref.{Ref}
+use Rattle.cc_rename.specs.Order.{numbers}
 use Rattle.cc_rename.specs.Counting.{Reaches, Counts, Took, sums}
 use Rattle.cc_rename.proofs.Ranks.{count_more}
 
@@ -60,6 +62,78 @@ took_span g s h n c = record {
   slots = λ k. let a = c.counts k in let b = one_use (spans n) (slot k) in omega (arith, a, b);
   size = let a = c.size in let b = one_reach (spans n) in omega (arith, a, b);
 }
+
+-- ---- uses one behind the other
+
+slots_behind : (us vs : List Use) → slots_of (us ++ vs) ≡ max (slots_of us) (slots_of vs)
+unfolding slots_of
+slots_behind [] vs = omega arith
+slots_behind (u ∷ us) vs = let a = slots_behind us vs in omega (arith, a)
+
+occurrences_behind : (v : Variable) (us vs : List Use) → occurrences (us ++ vs) v ≡ occurrences us v + occurrences vs v
+unfolding occurrences
+occurrences_behind v [] vs = let z = none v in omega (arith, z) where
+  none : (v : Variable) → occurrences [] v ≡ 0
+  none v = refl
+occurrences_behind v (u ∷ us) vs = let a = occurrences_behind v us vs in let b = count_more (is_of v) u (us ++ vs) in let d = count_more (is_of v) u us in omega (arith, a, b, d)
+
+pub took_none : (g s : List ℕ) → Took g s g s []
+unfolding occurrences slots_of
+took_none g s = record { globals = λ k. omega arith; slots = λ k. omega arith; size = omega arith; }
+
+pub took_both : (g s g1 s1 g2 s2 : List ℕ) (us vs : List Use) → Took g s g1 s1 us → Took g1 s1 g2 s2 vs → Took g s g2 s2 (us ++ vs)
+took_both g s g1 s1 g2 s2 us vs a b = record {
+  globals = λ k. let x = a.globals k in let y = b.globals k in let z = occurrences_behind (global k) us vs in omega (arith, x, y, z);
+  slots = λ k. let x = a.slots k in let y = b.slots k in let z = occurrences_behind (slot k) us vs in omega (arith, x, y, z);
+  size = let x = a.size in let y = b.size in let z = slots_behind us vs in omega (arith, x, y, z);
+}
+
+numbers_more : (k n : ℕ) → numbers k (suc n) ≡ numbers k n ++ (k + n) ∷ []
+unfolding numbers
+numbers_more k zero = ap (λ m. m ∷ []) (omega arith)
+numbers_more k (suc n) = ap (λ xs. k ∷ xs) (numbers_more (suc k) n ∙ ap (λ m. numbers (suc k) n ++ m ∷ []) (omega arith))
+
+slots_on : (xs : List ℕ) (n : ℕ) → map (λ k. prints (slot k)) (xs ++ n ∷ []) ≡ map (λ k. prints (slot k)) xs ++ prints (slot n) ∷ []
+slots_on [] n = refl
+slots_on (x ∷ xs) n = ap (λ us. prints (slot x) ∷ us) (slots_on xs n)
+
+pub slots_more : (k n : ℕ) → slot_uses k n ++ prints (slot (k + n)) ∷ [] ≡ slot_uses k (suc n)
+unfolding slot_uses
+slots_more k n = sym (ap (map (λ k. prints (slot k))) (numbers_more k n) ∙ slots_on (numbers k n) (k + n))
+
+pub slots_from : (k : ℕ) → [] ≡ slot_uses k 0
+unfolding slot_uses numbers
+slots_from k = refl
+
+pub slots_turn : (from k at : ℕ) → at ≡ from + k → slot_uses from k ++ prints (slot at) ∷ [] ≡ slot_uses from (k + 1)
+slots_turn from k at e = ap (λ n. slot_uses from k ++ prints (slot n) ∷ []) e ∙ slots_more from k ∙ ap (slot_uses from) (omega arith)
+
+-- ---- what a use is
+
+pub as_use : (g s g1 s1 : List ℕ) (v w : Variable) → v ≡ w → Took g s g1 s1 (prints v ∷ []) → Took g s g1 s1 (prints w ∷ [])
+as_use g s g1 s1 v w e t = subst (λ v. Took g s g1 s1 (prints v ∷ [])) e t
+
+pub as_uses : (g s g1 s1 : List ℕ) (us vs : List Use) → us ≡ vs → Took g s g1 s1 us → Took g s g1 s1 vs
+as_uses g s g1 s1 us vs e t = subst (Took g s g1 s1) e t
+
+pub means_global : (fs : Frames) (r : Ref) (n : ℕ) → r ≡ Ref.Global n → global n ≡ meant fs r
+unfolding meant
+means_global fs r n e = sym (ap (meant fs) e)
+
+pub means_slot : (fs : Frames) (r : Ref) (u p n : ℕ) → r ≡ Ref.Frame u p → n ≡ places (drop (suc u) fs) + p → slot n ≡ meant fs r
+unfolding meant
+means_slot fs r u p n e q = ap slot q ∙ sym (ap (meant fs) e)
+
+pub own_is : (fs : Frames) (own : Bool) (n : ℕ) → own ≡ true → n ≡ places (drop 0 fs) → prints (slot n) ∷ [] ≡ own_uses own fs
+unfolding own_uses
+own_is fs own n e q = ap (λ n. prints (slot n) ∷ []) q ∙ sym (ap (λ o. own_uses o fs) e)
+
+pub no_own : (fs : Frames) (own : Bool) → own ≡ false → [] ≡ own_uses own fs
+unfolding own_uses
+no_own fs own e = sym (ap (λ o. own_uses o fs) e)
+
+pub clause_is : (fs : Frames) (c p n : ℕ) → p ≡ places (drop 0 fs) → n ≡ p + c → slot n ≡ slot (places (inside_catches c fs))
+clause_is fs c p n e q = let a = places_inside c fs in ap slot (omega (arith, a, e, q))
 
 -- ---- frames
 

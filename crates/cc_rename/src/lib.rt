@@ -6,6 +6,7 @@ ghost use Rattle.cc_rename.specs.Printed.{ArePrinted};
 
 mod expression;
 mod frames;
+mod mention;
 mod met;
 mod parts;
 mod statement;
