@@ -1,6 +1,6 @@
 // The frames around a scope: how many places they have together, from the outermost one on.
 ghost use Rattle.std.specs.Prelude.{◌≡◌, ◌+◌, ◌∷◌, drop, OnOk, IfSome, suc};
-ghost use Rattle.cc_printer.specs.RawOf.{Frames, places};
+ghost use Rattle.cc_printer.specs.RawOf.{Frames, places, outside};
 ghost use Rattle.cc_printer.specs.Naming.{inside_catches};
 ghost use Rattle.cc_rename.specs.Counting.{sums};
 
@@ -55,4 +55,14 @@ pub(crate) fn slot_of(ends: &[usize], catches: usize, up: u32, place: u32) -> Op
     ensures { (fs : Frames) → ends.now ≡ sums fs → IfSome result (λ n. n ≡ places (drop (suc up) (inside_catches catches fs)) + place) }
 {
     base_of(ends, catches, up)?.checked_add(place as usize)
+}
+
+/// The frame of a function's own name, where it has one.
+pub(crate) fn enter_own(ends: &mut Vec<usize>, own: bool) -> Result<(), AllocError>
+    ensures { OnOk result ((fs : Frames) → ends.old.items ≡ sums fs → ends.new.items ≡ sums (outside own fs)) }
+{
+    if own {
+        enter(ends, 1)?;
+    }
+    Ok(())
 }

@@ -1,11 +1,11 @@
 // How often the names of variables are printed, part by part.
-ghost use Rattle.std.specs.Prelude.{◌≡◌, [], ◌∷◌, OnOk};
-ghost use Rattle.cc_printer.specs.RawOf.{Frames, places};
+ghost use Rattle.std.specs.Prelude.{◌≡◌, [], ◌∷◌, ◌++◌, OnOk};
+ghost use Rattle.cc_printer.specs.RawOf.{Frames, places, outside};
 ghost use Rattle.cc_printer.specs.Naming.{inside_catches};
 ghost use Rattle.cc_rename.specs.Counting.{Took, sums};
 ghost use Rattle.cc_rename.specs.Uses.{prints, slot, meant, own_uses, slot_uses};
 
-use crate::frames::{places_behind, slot_of};
+use crate::frames::{enter_own, places_behind, slot_of};
 use crate::tally::{Tally, count_global, count_slot};
 use cc_ast::tree::Ref;
 use std::alloc::AllocError;
@@ -68,5 +68,21 @@ pub(crate) fn count_params(tally: &mut Tally, from: usize, n: usize) -> Result<(
         };
         count_slot(tally, at)?;
     }
+    Ok(())
+}
+
+/// The own name and the parameters of a function, which is left in the frames outside its own.
+pub(crate) fn count_head(
+    tally: &mut Tally,
+    ends: &mut Vec<usize>,
+    own: bool,
+    params: u32,
+) -> Result<(), AllocError>
+    ensures frames { OnOk result ((fs : Frames) → ends.old.items ≡ sums fs → ends.new.items ≡ sums (outside own fs)) }
+    ensures counts { OnOk result ((fs : Frames) → ends.old.items ≡ sums fs → Took tally.old.globals.items tally.old.slots.items tally.new.globals.items tally.new.slots.items (own_uses own fs ++ slot_uses (places (outside own fs)) params)) }
+{
+    count_own(tally, ends.as_slice(), own)?;
+    enter_own(ends, own)?;
+    count_params(tally, places_behind(ends.as_slice(), 0), params as usize)?;
     Ok(())
 }
