@@ -56,7 +56,7 @@ module _ (P : S.Program) (ns : S.Names) (W : WellMade P) (spelled : IsSpelled Is
   own_fine true fs h = let v = names.slots (places fs) (omega (arith, h)) in (v.allowed, v.identifier)
   own_fine false fs h = (tt, tt)
 
-  abbrev FineBodies : Bodies → Type 0
+  abbrev pub FineBodies : Bodies → Type 0
   FineBodies B = (f : ℕ) (fs : Frames) → Around P f fs → FineStmts (context (opened P f) []) (B f fs)
 
   function_fine : (B : Bodies) → FineBodies B → (f c g : ℕ) (fs : Frames) → Around P f fs → In (makes c g false) (parts_of P f) → FineExpr (function ns B (inside_catches c fs) g (slice_get P.scopes g))
@@ -122,7 +122,7 @@ module _ (P : S.Program) (ns : S.Names) (W : WellMade P) (spelled : IsSpelled Is
   body_fine B go f fs a None e = (tt, tt)
   body_fine B go f fs a (Some s) e = scope_fine B go f fs a s e
 
-  bodies_fine : (n : ℕ) → FineBodies (raw_bodies P ns n)
+  pub bodies_fine : (n : ℕ) → FineBodies (raw_bodies P ns n)
   bodies_fine zero f fs a = (tt, tt)
   bodies_fine (suc n) f fs a = body_fine (raw_bodies P ns n) (bodies_fine n) f fs a (slice_get P.scopes f) refl
 

@@ -1,6 +1,10 @@
-mod NameOrder
-mod NameForm
-mod FreeNames
-mod Ranks
-mod Standing
-mod Given
+pub mod NameOrder
+pub mod NameForm
+pub mod FreeNames
+pub mod Ranks
+pub mod Standing
+pub mod Given
+mod Walk
+mod WalkParts
+mod Printed
+mod Tallies

@@ -104,7 +104,7 @@ are_scalars (c ∷ v) h = let p = split_all (nat_lt c 128) (list_all (λ c. nat_
 
 -- ---- lists of names
 
-itself : (n : List ℕ) → list_eq n n ≡ true
+pub itself : (n : List ℕ) → list_eq n n ≡ true
 unfolding list_eq
 itself [] = refl
 itself (x ∷ xs) = and_true _ (list_eq xs xs) (grind (arith, nat_tests)) (itself xs)

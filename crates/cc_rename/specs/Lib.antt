@@ -1,4 +1,7 @@
 pub mod Order
 pub mod Uses
 pub mod Naming
+pub mod Steps
+pub mod Counting
+pub mod Printed
 pub mod Laws

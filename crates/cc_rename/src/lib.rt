@@ -2,6 +2,15 @@
 #![tactic(auto)]
 
 ghost use Rattle.cc_rename.specs.Laws.{IsNamed, NamesServe};
+ghost use Rattle.cc_rename.specs.Printed.{ArePrinted};
+
+mod expression;
+mod frames;
+mod mention;
+mod met;
+mod parts;
+mod statement;
+mod tally;
 
 /// Each variable has a name of its own, in their order, and externs and built-in globals keep theirs.
 pub fn variables_are_named()
@@ -11,4 +20,9 @@ pub fn variables_are_named()
 /// Under its names a well made program can be written.
 pub fn names_serve_printing()
     ensures { NamesServe }
+{}
+
+/// A name is printed as often as the variable that it stands for occurs.
+pub fn occurrences_are_printed()
+    ensures { ArePrinted }
 {}

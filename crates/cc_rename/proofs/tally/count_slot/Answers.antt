@@ -1,0 +1,5 @@
+use Rattle.cc_rename.proofs.Tallies.{took_slot}
+use Rattle.cc_rename.proofs.tally.count_slot.Goals as goal
+
+pub returns : goal.returns
+returns c = took_slot c.args.tally.now.globals.items c.args.tally.now.slots.items c.count.new.counts.items c.args.n (c.in_ok-count.ensures)

@@ -1,0 +1,9 @@
+mod NoCasts
+mod AnyPlaces
+mod Trees
+mod Declares
+mod Seen
+mod Scopes
+mod NoPlaces
+mod Outer
+mod Whole
