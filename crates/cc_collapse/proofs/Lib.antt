@@ -3,9 +3,7 @@ mod Rows
 pub mod FlatTrees
 pub mod FlatKit
 pub mod FlatRider
+pub mod FlatHolders
 pub mod FlatReads
 pub mod FlatCalls
 pub mod FlatPairs
-pub mod FlatEnds
-pub mod FlatDeclares
-pub mod FlatWrites

@@ -25,7 +25,7 @@ use Rattle.cc_tied.proofs.Equality.EqualModes.{same_end, paid_sum}
 use Rattle.cc_tied.proofs.Turns.{member_tied}
 use Rattle.cc_tied.proofs.Upkeep.{Upkeep, kit}
 use Rattle.cc_tied.proofs.Injection.World.{Tabs, Mates, Vals, same_kind, Codes}
-use Rattle.cc_tied.proofs.Injection.Tie.{Other, KeyI, same_key, with_set, TiedI, with_budget, once, inject}
+use Rattle.cc_tied.proofs.Injection.Tie.{view, Other, KeyI, same_key, with_set, TiedI, with_budget, once, inject}
 use Rattle.cc_tied.proofs.Injection.Rules.{name_same, any_dotted}
 use Rattle.cc_tied.proofs.Injection.Objects.{code_at_tied, chain_of_tied, slots_on_tied}
 use Rattle.cc_tied.proofs.Injection.Acts.{judged_in, judged_i, stopped_left, at_of}
@@ -119,7 +119,7 @@ module _ (F : Facts) (S : Tables) (set' : Other S) where
 
   load_t : {w : W} (c : ℕ) → Sim T Done w (changing (note_load c)) (changing (note_load c))
   unfolding changing note_load ret
-  load_t c s t ti le le' = fine T tt tt tt (record { tables = ti.tables; tables' = ti.tables'; objs = ti.objs; owned = ti.owned; mated = ti.mated; frames = ti.frames; globals = ti.globals; known = ti.known; loaded = ap (λ z. z ++ c ∷ []) ti.loaded; begun = λ d q. still_loaded s c d (ti.begun d q); failed = ti.failed; constructed = ti.constructed; handles = ti.handles; replies = ti.replies; budget = ti.budget; extra = ti.extra }) le le'
+  load_t {w = w} c s t ti le le' = fine T tt tt tt (record { tables = ti.tables; tables' = ti.tables'; objs = ti.objs; owned = ti.owned; mated = ti.mated; frames = ti.frames; globals = ti.globals; known = ti.known; loaded = ap (λ z. z ++ c ∷ []) ti.loaded; begun = λ d q. still_loaded s c d (ti.begun d q); failed = ti.failed; constructed = ti.constructed; handles = ti.handles; replies = ti.replies; budget = ti.budget; extra = set'.rider.loading (view w.w s t) c ti.extra }) le le'
 
   host_none : {w : Tabs} {s t : State} → Tied w s t → (given : Bool) (b b' c c' : Bool) → b ≡ b' → c ≡ c' → rule_unless (given && b && not c) 13 ≡ None → rule_unless (given && b' && not c') 13 ≡ None
   host_none ti given b b' c c' e d h = rw (← e, ← d) h
