@@ -1,6 +1,6 @@
 -- What is tied where slots of objects of the left are globals of the right: of each holder the object of
 -- the left and that of the right, to which no value leads.
-use Rattle.std.proofs.Common.{◌≡◌, ◌≢◌, ◌⊎◌, inl, inr, ℕ, ◌<◌, Bool, true, false, List, [], ◌∷◌, ◌++◌, length, Option, Some, None, refl, sym, ap, subst, ◌∙◌, arith}
+use Rattle.std.proofs.Common.{◌≡◌, ◌≢◌, ◌⊎◌, inl, inr, ℕ, zero, suc, ◌<◌, Bool, true, false, List, [], ◌∷◌, ◌++◌, length, Option, Some, None, is_some, refl, sym, ap, subst, ◌∙◌, arith}
 use Rattle.std.specs.Prelude.{slice_get, slice_set, not, nat_eq}
 use Rattle.std.specs.List.{filter, list_any}
 use Rattle.cc_ast.specs.declared.tables.GlobalInfo.{GlobalInfo}
@@ -75,6 +75,14 @@ Paired ps m n = (x : Option Code) × In (record { label = x; left = m; right = n
 abbrev pub once : (h m n : ℕ) → Once
 once h m n = record { mark = h; left = m; right = n }
 
+-- a global that is set stays there
+pub set_there : (ys : List (Option Val)) (n m : ℕ) (v : Option Val) → is_some (slice_get (slice_set ys n v) m) ≡ is_some (slice_get ys m)
+set_there [] n m v = refl
+set_there (y ∷ ys) zero zero v = refl
+set_there (y ∷ ys) zero (suc m) v = refl
+set_there (y ∷ ys) (suc n) zero v = refl
+set_there (y ∷ ys) (suc n) (suc m) v = set_there ys n m v
+
 -- a holder that isn't declared
 abbrev pub Undeclared : List Once → ℕ → Type 0
 Undeclared st h = (m n : ℕ) → In (once h m n) st → ⊥
@@ -136,6 +144,10 @@ module _ (S : Tables) (P : Plan S) where
     pub roots : (h : ℕ) → P.Root h → CellT v.pairs v.stage (IsRoot h) (flat_option (slice_get v.values (P.var h))) (flat_option (slice_get v.values' (P.var h)))
     pub held : (h m n : ℕ) → In (once h m n) v.stage → HeldT v h m n
     pub one : (h m n p q : ℕ) → In (once h m n) v.stage → In (once h p q) v.stage → (m ≡ p) × (n ≡ q)
+    pub apart : (h m n i p q : ℕ) → In (once h m n) v.stage → In (once i p q) v.stage → h ≢ i → (m ≢ p) × (n ≢ q)
+    -- the globals are there
+    pub root_there : (h : ℕ) → P.Root h → is_some (slice_get v.values (P.var h)) ≡ true
+    pub foreign_there : (n : ℕ) → P.Foreign n → is_some (slice_get v.values' n) ≡ true
     -- of a holder that isn't declared no property is set
     pub unset : (h p : ℕ) → Undeclared v.stage h → P.Child h p → CellT v.pairs v.stage (P.Inner h p) None (flat_option (slice_get v.values' (P.fresh h p)))
 
@@ -172,6 +184,9 @@ module _ (S : Tables) (P : Plan S) where
     roots = λ h k. cell_more (r.roots h k);
     held = λ h m n i. keeps (r.held h m n i);
     one = r.one;
+    apart = r.apart;
+    root_there = r.root_there;
+    foreign_there = r.foreign_there;
     unset = λ h p u k. cell_more (r.unset h p u k);
   }
     where
@@ -200,7 +215,7 @@ module _ (S : Tables) (P : Plan S) where
       }
 
   pub spare_made : (v : View) (x : Obj) → RidesT v → RidesT (record v { spare = record { place = length v.left; entry = tt } ∷ v.spare; left = v.left ++ x ∷ [] })
-  spare_made v x r = record { roots = r.roots; held = λ h m n i. keeps (r.held h m n i); one = r.one; unset = r.unset }
+  spare_made v x r = record { roots = r.roots; held = λ h m n i. keeps (r.held h m n i); one = r.one; apart = r.apart; root_there = r.root_there; foreign_there = r.foreign_there; unset = r.unset }
     where
       apart : (l : Lone (Unit {0})) {m : ℕ} → m < length v.left → ((q : Lone (Unit {0})) → In q v.spare → q.place ≢ m) → (l ≡ record { place = length v.left; entry = tt }) ⊎ In l v.spare → l.place ≢ m
       apart l less f (inl e) d = let z : l.place ≡ length v.left = ap (λ y. y.place) e in omega arith
@@ -223,7 +238,7 @@ module _ (S : Tables) (P : Plan S) where
       }
 
   pub left_made : (v : View) (x : Obj) → RidesT v → RidesT (record v { left = v.left ++ x ∷ [] })
-  left_made v x r = record { roots = r.roots; held = λ h m n i. keeps (r.held h m n i); one = r.one; unset = r.unset }
+  left_made v x r = record { roots = r.roots; held = λ h m n i. keeps (r.held h m n i); one = r.one; apart = r.apart; root_there = r.root_there; foreign_there = r.foreign_there; unset = r.unset }
     where
       keeps : {h m n : ℕ} → HeldT v h m n → HeldT (record v { left = v.left ++ x ∷ [] }) h m n
       keeps {m = m} d = record { object = d.object; object' = d.object'; stands = get_old v.left (x ∷ []) m d.object d.stands; stands' = d.stands'; plain = d.plain; plain' = d.plain'; no_pair = d.no_pair; no_pair' = d.no_pair'; no_spare = d.no_spare; cells = d.cells; rest = d.rest; near = d.near }
@@ -231,13 +246,13 @@ module _ (S : Tables) (P : Plan S) where
   -- ---- other objects change
 
   pub changed : (v : View) (os ps : List Obj) → ((h m n : ℕ) → HeldT v h m n → (slice_get os m ≡ slice_get v.left m) × (slice_get ps n ≡ slice_get v.right n)) → RidesT v → RidesT (record v { left = os; right = ps })
-  changed v os ps f r = record { roots = r.roots; held = λ h m n i. keeps h m n (r.held h m n i); one = r.one; unset = r.unset }
+  changed v os ps f r = record { roots = r.roots; held = λ h m n i. keeps h m n (r.held h m n i); one = r.one; apart = r.apart; root_there = r.root_there; foreign_there = r.foreign_there; unset = r.unset }
     where
       keeps : (h m n : ℕ) → HeldT v h m n → HeldT (record v { left = os; right = ps }) h m n
       keeps h m n d = let e = f h m n d in record { object = d.object; object' = d.object'; stands = e.0 ∙ d.stands; stands' = e.1 ∙ d.stands'; plain = d.plain; plain' = d.plain'; no_pair = d.no_pair; no_pair' = d.no_pair'; no_spare = d.no_spare; cells = d.cells; rest = d.rest; near = d.near }
 
   pub any_changed : (v : View) (k : ℕ) (o x : Obj) → slice_get v.left k ≡ Some o → x ≡ record o { wanted = x.wanted } → RidesT v → RidesT (record v { left = slice_set v.left k x })
-  any_changed v k o x e d r = record { roots = r.roots; held = λ h m n i. by_place (r.held h m n i) (place_cases k m); one = r.one; unset = r.unset }
+  any_changed v k o x e d r = record { roots = r.roots; held = λ h m n i. by_place (r.held h m n i) (place_cases k m); one = r.one; apart = r.apart; root_there = r.root_there; foreign_there = r.foreign_there; unset = r.unset }
     where
       by_place : {h m n : ℕ} → HeldT v h m n → (k ≡ m) ⊎ (k ≢ m) → HeldT (record v { left = slice_set v.left k x }) h m n
       by_place {m = m} a (inr n) = record { object = a.object; object' = a.object'; stands = get_set_other v.left k m x n ∙ a.stands; stands' = a.stands'; plain = a.plain; plain' = a.plain'; no_pair = a.no_pair; no_pair' = a.no_pair'; no_spare = a.no_spare; cells = a.cells; rest = a.rest; near = a.near }
@@ -265,15 +280,18 @@ module _ (S : Tables) (P : Plan S) where
   other_global : (n m : ℕ) → (P.Foreign n → ⊥) → P.Foreign m → n ≢ m
   other_global n m f g e = f (subst (λ z. P.Foreign z) (sym e) g)
 
-  kept_value : (vs : List (Option Val)) (n m : ℕ) (x : Option Val) → n ≢ m → flat_option (slice_get (slice_set vs n x) m) ≡ flat_option (slice_get vs m)
+  pub kept_value : (vs : List (Option Val)) (n m : ℕ) (x : Option Val) → n ≢ m → flat_option (slice_get (slice_set vs n x) m) ≡ flat_option (slice_get vs m)
   kept_value vs n m x d = ap flat_option (get_set_other vs n m x d)
 
   -- of the left the roots are as they were, and of the right the globals of roots and of properties
-  pub globals_set : (v : View) (xs ys : List (Option Val)) → ((h : ℕ) → P.Root h → flat_option (slice_get xs (P.var h)) ≡ flat_option (slice_get v.values (P.var h))) → ((m : ℕ) → P.Foreign m → flat_option (slice_get ys m) ≡ flat_option (slice_get v.values' m)) → RidesT v → RidesT (record v { values = xs; values' = ys })
-  globals_set v xs ys e d r = record {
+  pub globals_set : (v : View) (xs ys : List (Option Val)) → ((h : ℕ) → P.Root h → flat_option (slice_get xs (P.var h)) ≡ flat_option (slice_get v.values (P.var h))) → ((m : ℕ) → P.Foreign m → flat_option (slice_get ys m) ≡ flat_option (slice_get v.values' m)) → ((m : ℕ) → is_some (slice_get xs m) ≡ is_some (slice_get v.values m)) → ((m : ℕ) → is_some (slice_get ys m) ≡ is_some (slice_get v.values' m)) → RidesT v → RidesT (record v { values = xs; values' = ys })
+  globals_set v xs ys e d es ds r = record {
     roots = λ h k. rw (e h k, d (P.var h) (P.root_foreign h k)) (r.roots h k);
     held = λ h m n i. keeps (r.held h m n i);
     one = r.one;
+    apart = r.apart;
+    root_there = λ h k. es (P.var h) ∙ r.root_there h k;
+    foreign_there = λ m g. ds m ∙ r.foreign_there m g;
     unset = λ h p u k. rw (d (P.fresh h p) (P.fresh_foreign h p k)) (r.unset h p u k);
   }
     where
@@ -281,15 +299,15 @@ module _ (S : Tables) (P : Plan S) where
       keeps {h = h} a = record { object = a.object; object' = a.object'; stands = a.stands; stands' = a.stands'; plain = a.plain; plain' = a.plain'; no_pair = a.no_pair; no_pair' = a.no_pair'; no_spare = a.no_spare; cells = λ p k. rw (d (P.fresh h p) (P.fresh_foreign h p k)) (a.cells p k); rest = a.rest; near = a.near }
 
   pub both_set : (v : View) (n : ℕ) → (P.Foreign n → ⊥) → (x y : Val) → RidesT v → RidesT (record v { values = slice_set v.values n (Some x); values' = slice_set v.values' n (Some y) })
-  both_set v n f x y r = globals_set v _ _ (λ h k. kept_value v.values n (P.var h) (Some x) (other_global n (P.var h) f (P.root_foreign h k))) (λ m g. kept_value v.values' n m (Some y) (other_global n m f g)) r
+  both_set v n f x y r = globals_set v _ _ (λ h k. kept_value v.values n (P.var h) (Some x) (other_global n (P.var h) f (P.root_foreign h k))) (λ m g. kept_value v.values' n m (Some y) (other_global n m f g)) (λ m. set_there v.values n m (Some x)) (λ m. set_there v.values' n m (Some y)) r
 
   pub left_set : (v : View) (n : ℕ) → (P.Foreign n → ⊥) → (x : Val) → RidesT v → RidesT (record v { values = slice_set v.values n (Some x) })
-  left_set v n f x r = globals_set v _ _ (λ h k. kept_value v.values n (P.var h) (Some x) (other_global n (P.var h) f (P.root_foreign h k))) (λ m g. refl) r
+  left_set v n f x r = globals_set v _ _ (λ h k. kept_value v.values n (P.var h) (Some x) (other_global n (P.var h) f (P.root_foreign h k))) (λ m g. refl) (λ m. set_there v.values n m (Some x)) (λ m. refl) r
 
   -- ---- a chunk begins to load
 
   pub loading : (v : View) (c : ℕ) → RidesT v → RidesT (record v { loaded = v.loaded ++ c ∷ [] })
-  loading v c r = record { roots = r.roots; held = λ h m n i. keeps (r.held h m n i); one = r.one; unset = r.unset }
+  loading v c r = record { roots = r.roots; held = λ h m n i. keeps (r.held h m n i); one = r.one; apart = r.apart; root_there = r.root_there; foreign_there = r.foreign_there; unset = r.unset }
     where
       keeps : {h m n : ℕ} → HeldT v h m n → HeldT (record v { loaded = v.loaded ++ c ∷ [] }) h m n
       keeps d = record { object = d.object; object' = d.object'; stands = d.stands; stands' = d.stands'; plain = d.plain; plain' = d.plain'; no_pair = d.no_pair; no_pair' = d.no_pair'; no_spare = d.no_spare; cells = d.cells; rest = d.rest; near = λ e q. any_front (λ z. nat_eq z e) v.loaded (c ∷ []) (d.near e q) }

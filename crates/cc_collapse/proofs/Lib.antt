@@ -7,3 +7,6 @@ pub mod FlatHolders
 pub mod FlatReads
 pub mod FlatCalls
 pub mod FlatPairs
+pub mod FlatSlots
+pub mod FlatWrites
+pub mod FlatTargets

@@ -145,7 +145,7 @@ module _ (F : Facts) (S : Tables) (set' : Other S) where
   stopped_left r i m' s t ti le le' = broken_t tt
 
   -- in two states: where the left act breaks no rule, the right one breaks none
-  judged_at : {A B : Type 0} {Q : W → A → B → Type 0} {w : W} (i i' : Spot) (a a' : Act) (m : M A) (m' : M B) (s t : State) → (least_broken s.tables s a ≡ None → (least_broken t.tables t a' ≡ None) × ResT T Q w (m s) (m' t)) → ResT T Q w (judged checked i a m s) (judged checked i' a' m' t)
+  pub judged_at : {A B : Type 0} {Q : W → A → B → Type 0} {w : W} (i i' : Spot) (a a' : Act) (m : M A) (m' : M B) (s t : State) → (least_broken s.tables s a ≡ None → (least_broken t.tables t a' ≡ None) × ResT T Q w (m s) (m' t)) → ResT T Q w (judged checked i a m s) (judged checked i' a' m' t)
   unfolding judged allowed
   judged_at {Q = Q} {w = w} i i' a a' m m' s t h = by_rule (least_broken s.tables s a) refl
     where

@@ -139,13 +139,13 @@ module _ (F : Facts) (S : Tables) (set' : Other S) where
   pub back_now : {A : Type 0} {Q : Tabs → A → Type 0} {w : Tabs} {s t : State} (x : A) → Tied w s t → Q w x → Back Q w s t x
   back_now {w = w} x ti q = record { world = w; ext = record { ext = ext_same w; still = refl; stage = refl }; tied = ti; says = q }
 
-  abbrev with_begun : Tabs → ℕ → Tabs
+  abbrev pub with_begun : Tabs → ℕ → Tabs
   with_begun w c = record w { begun = c ∷ w.begun }
 
-  ext_begun : (w : Tabs) (c : ℕ) → Ext w (with_begun w c)
+  pub ext_begun : (w : Tabs) (c : ℕ) → Ext w (with_begun w c)
   ext_begun w c = record { objs = λ q h. h; frames = λ q h. h; spare = λ q h. h; alone = λ q h. h; begun = λ d h. there h }
 
-  begun_now : {w : Tabs} {s t : State} → Tied w s t → (c : ℕ) → list_any (λ d. nat_eq d c) s.loaded ≡ true → Tied (with_begun w c) s t
+  pub begun_now : {w : Tabs} {s t : State} → Tied w s t → (c : ℕ) → list_any (λ d. nat_eq d c) s.loaded ≡ true → Tied (with_begun w c) s t
   begun_now {w = w} {s = s} ti c l = let e = ext_begun w c in record {
     tables = ti.tables;
     tables' = ti.tables';
