@@ -66,6 +66,9 @@ pub record Plan (S : Tables) : Type 1 where
   -- a property that is a holder itself
   pub Inner : (h prop inner : ℕ) → Type 0
   pub inner_is : (h p i : ℕ) → Inner h p i → Child h p × ((fresh h p ≡ var i) × ((path i ≡ extended (path h) p) × (top i ≡ top h)))
+  pub inner_root : (h p i : ℕ) → Inner h p i → Root i → ⊥
+  pub inner_once : (h p j q i : ℕ) → Inner h p i → Inner j q i → (h ≡ j) × (p ≡ q)
+  pub inner_other : (h p i : ℕ) → Inner h p i → h ≢ i
   pub inner_one : (h p i j : ℕ) → Inner h p i → Inner h p j → i ≡ j
   pub sort : (h p : ℕ) → Child h p → ((i : ℕ) → Inner h p i → ⊥) ⊎ ((i : ℕ) × Inner h p i)
 

@@ -22,7 +22,7 @@ use Rattle.cc_tied.proofs.Expressions as E
 use Rattle.cc_tied.proofs.Laws.{said_none, bind_ret}
 use Rattle.cc_tied.proofs.Sim.{ResT, ok_t, Sim, fine}
 use Rattle.cc_tied.proofs.Injection.Frames.{undefined_tied}
-use Rattle.cc_tied.proofs.Injection.Globals.{with_begun, ext_begun, begun_now}
+use Rattle.cc_tied.proofs.Injection.Acts.{with_begun, ext_begun, begun_now}
 use Rattle.cc_tied.proofs.Injection.World.{Vals}
 use Rattle.cc_collapse.proofs.FlatRider.{Plan, once, flat_other, name}
 use Rattle.cc_collapse.proofs.FlatHolders.{HolderAt, way_on, refer, get_at, holder_value, value_runs}

@@ -10,3 +10,4 @@ pub mod FlatPairs
 pub mod FlatSlots
 pub mod FlatWrites
 pub mod FlatTargets
+pub mod FlatDeclares

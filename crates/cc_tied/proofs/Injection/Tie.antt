@@ -310,13 +310,13 @@ module _ (F : Facts) (S : Tables) (set' : Other S) where
     KeyT = λ w x. KeyI;
     UpT = λ w f f' a b. UpT F S w (outward F S (called f)) a b;
     EnvT = λ c w. EnvI w c;
-    LoadedT = λ w c. Unit {0};
+    LoadedT = λ w c. In c w.begun;
     O_later = λ l h. mates_more l.ext h;
     new_later = λ l h. val_more l.ext _ _ h;
     key_later = λ l h. h;
     up_later = λ l h. up_more F S l.ext h;
     env_later = λ l h. env_more l h;
-    loaded_later = λ l h. h;
+    loaded_later = λ l h. l.ext.begun _ h;
     new_value = λ h. h;
     runs_code = λ h. h;
     key_runtime = λ x v e. same_key;
