@@ -80,6 +80,9 @@ module _ (S : Tables) (P : Plan S) where
   abbrev pub with_slot : Obj → (prop : ℕ) → Kind → Val → Obj
   with_slot o p k x = record o { slots = set_slot o.slots (name S P p) k x }
 
+  pub bare_with : (p : ℕ) (k : Kind) (x : Val) (a b : Obj) → a ≡ b → IsBare a → IsBare (with_slot b p k x)
+  bare_with p k x a b e d = record { klass = ap (λ z. z.class) (sym e) ∙ d.klass; code = ap (λ z. z.code) (sym e) ∙ d.code; chain = ap (λ z. z.chain) (sym e) ∙ d.chain; elements = ap (λ z. z.elements) (sym e) ∙ d.elements }
+
   abbrev pub slot_set : View → (h p m : ℕ) → Obj → Kind → Val → Val → View
   slot_set v h p m o k x y = record v { left = slice_set v.left m (with_slot o p k x); values' = slice_set v.values' (P.fresh h p) (Some y) }
 
@@ -107,9 +110,6 @@ module _ (S : Tables) (P : Plan S) where
         rw (find_other o.slots (name S P p) (name S P q) k x (not_one q c z (list_eq (name S P p) (name S P q)) refl), same_fresh h q c (inr z))
         (subst (λ u. CellT v.pairs v.stage (P.Inner h q) (find_slot u.slots (name S P q)) (flat_option (slice_get v.values' (P.fresh h q)))) e (d.cells q c))
 
-    bare_with : (a b : Obj) → a ≡ b → IsBare a → IsBare (with_slot b p k x)
-    bare_with a b e d = record { klass = ap (λ z. z.class) (sym e) ∙ d.klass; code = ap (λ z. z.code) (sym e) ∙ d.code; chain = ap (λ z. z.chain) (sym e) ∙ d.chain; elements = ap (λ z. z.elements) (sym e) ∙ d.elements }
-
     held_here : (d : HeldT S P v h m n) → HeldT S P V h m n
     held_here d =
         let both : Some d.object ≡ Some o = sym d.stands ∙ stands in
@@ -118,7 +118,7 @@ module _ (S : Tables) (P : Plan S) where
           object' = d.object';
           stands = get_set_same v.left m o (with_slot o p k x) stands;
           stands' = d.stands';
-          plain = bare_with d.object o e d.plain;
+          plain = bare_with p k x d.object o e d.plain;
           plain' = d.plain';
           no_pair = d.no_pair;
           no_pair' = d.no_pair';

@@ -2,6 +2,8 @@
 use Rattle.std.proofs.Common.{◌≡◌, ℕ, true, [], Some, None, refl, sym, ap, subst, ◌∙◌, arith}
 use Rattle.cc_ast.specs.Syntax.{Prim, undefined, Expr, to_var, to_member}
 use Rattle.cc_ast.specs.declared.tree.Ref.{Ref}
+use Rattle.cc_tied.proofs.Sim.{broken_t}
+use Rattle.cc_tied.proofs.Parts.{Done}
 use Rattle.cc_meaning.specs.Values.{Val, prim, obj, at_site}
 use Rattle.cc_meaning.specs.Builtins.{or_undefined}
 use Rattle.cc_meaning.specs.State.{Env, State, Tables}
@@ -26,7 +28,7 @@ use Rattle.cc_tied.proofs.Injection.Acts.{with_begun, ext_begun, begun_now}
 use Rattle.cc_tied.proofs.Injection.World.{Vals}
 use Rattle.cc_collapse.proofs.FlatRider.{Plan, once, flat_other, name}
 use Rattle.cc_collapse.proofs.FlatHolders.{HolderAt, way_on, refer, get_at, holder_value, value_runs}
-use Rattle.cc_collapse.proofs.FlatReads.{T, W, Tied, HomeT, home_loaded, plain_of, as_left, left_then, holder_then, slot_then, undeclared_then, right_value}
+use Rattle.cc_collapse.proofs.FlatReads.{Stops, T, W, Tied, HomeT, home_loaded, plain_of, as_left, left_any, holder_then, slot_then, undeclared_then, right_value}
 use Rattle.cc_collapse.proofs.FlatPairs.{K}
 use Rattle.cc_collapse.proofs.FlatWrites.{Globals, written, path_keeps, slot_put}
 
@@ -62,7 +64,7 @@ module _ (F : Facts) (S : Tables) (P : Plan S) (G : Globals F S P) (h p : ℕ) (
     unfolding put_to ◌>>=◌ write_var
     held_puts i i' g g' {x = x} {y = y} v s t ti le le' =
         let d = ti.extra.held h m n at in
-        slot_put F S P G h p is single (at_site i) (kind_by key) x (declares_on s g.declares (obj m)) (λ _. keep_path checked (at_site i) (Some ((P.path h).0, P.number h p)) x) s t d ti.tables
+        slot_put F S P G h p (λ z. ResT (T F S P) (λ v a b. Unit {0}) u z (write_var checked (at_site i') g' (Ref.Global (P.fresh h p)) y t)) (λ l r j. broken_t tt) (at_site i) m (kind_by key) x (declares_on s g.declares (obj m)) (λ _. keep_path checked (at_site i) (Some ((P.path h).0, P.number h p)) x) s d.object d.stands d.plain ti.tables
         (path_keeps F S P G h p is single (at_site i) (at_site i') _ t v (written F S P G h p is single ti at d (kind_for S (name S P p) (kind_by key)) v) ti.tables' le le')
 
   -- ---- where it isn't, the left breaks a rule at the read and at the write
@@ -73,9 +75,9 @@ module _ (F : Facts) (S : Tables) (P : Plan S) (G : Globals F S P) (h p : ℕ) (
   none_some : {A : Type 0} {r : ℕ} → Some r ≡ None → A
   none_some d = absurd (cc)
 
-  free_puts : {C : Type 0} {Q : W F S P → Unit {0} → C → Type 0} (u : W F S P) (i : ℕ) (g : Env) (x : Val) (s : State) {y : Res C} → s.tables ≡ S → ResT (T F S P) Q u (put_to checked g (refer_to i (prim undefined)) x s) y
+  pub free_any : (G : Res (Unit {0}) → Type 0) → Stops G → (i : ℕ) (g : Env) (x : Val) (s : State) → s.tables ≡ S → G (put_to checked g (refer_to i (prim undefined)) x s)
   unfolding put_to put_on least_broken write_rule ◌>>=◌
-  free_puts {Q = Q} u i g x s e = left_then F S P (at_site i) (writes (prim undefined) key x (declares_on s g.declares (prim undefined))) skip (λ _. keep_path checked (at_site i) (Some ((P.path h).0, P.number h p)) x) s e (λ d. none_some d)
+  free_any G stops i g x s e = left_any G stops S (at_site i) (writes (prim undefined) key x (declares_on s g.declares (prim undefined))) skip (λ _. keep_path checked (at_site i) (Some ((P.path h).0, P.number h p)) x) s e (λ d. none_some d)
 
   -- ---- the pair
 
@@ -97,7 +99,7 @@ module _ (F : Facts) (S : Tables) (P : Plan S) (G : Globals F S P) (h p : ℕ) (
     unfolding get_place put_place
     free_served v = record {
       gets = λ u k g g' en s t ti le le'. free_gets u X.B i s ti.tables;
-      puts = λ u k g g' en x y q s t ti le le'. free_puts u i g x s ti.tables;
+      puts = λ u k g g' en x y q s t ti le le'. free_any (λ z. ResT (T F S P) (Done (K F S P)) u z (write_var checked (at_site i') g' (Ref.Global (P.fresh h p)) y t)) (λ l r j. broken_t tt) i g x s ti.tables;
     }
 
     abbrev to_slot : Val → M Place

@@ -1,6 +1,7 @@
 -- A write to a property of a holder, on the left, is a write to its global on the right.
 use Rattle.std.proofs.Common.{◌≡◌, ◌≢◌, ◌⊎◌, inl, inr, ℕ, ◌≤◌, Bool, List, [], Option, Some, None, refl, sym, ap, subst, ◌∙◌}
 use Rattle.std.specs.Prelude.{slice_get, slice_set}
+use Rattle.cc_collapse.proofs.FlatRider.{IsBare}
 use Rattle.cc_meaning.specs.Values.{Val, obj, Spot}
 use Rattle.cc_meaning.specs.State.{Kind, Obj, State, Tables}
 use Rattle.cc_meaning.specs.Monad.{M, Res, ret, after, ◌>>=◌, with_tables}
@@ -29,7 +30,7 @@ use Rattle.cc_tied.proofs.Injection.Tie.{view}
 use Rattle.cc_collapse.proofs.FlatRider.{Plan, HeldT, flat_other, name, once, set_there}
 use Rattle.cc_collapse.proofs.FlatHolders.{class_none}
 use Rattle.cc_collapse.proofs.FlatSlots.{with_slot, slot_rides}
-use Rattle.cc_collapse.proofs.FlatReads.{R, T, W, Tied, as_left, left_then}
+use Rattle.cc_collapse.proofs.FlatReads.{Stops, as_any, left_any, R, T, W, Tied}
 
 -- the left run changes an entry that stands in no pair and isn't listed
 pub set_apart : {X Y A : Type 0} {R : X → A → A → Type 0} {Z : Y → A → Type 0} {w : List (Pair X)} {z : List (Lone Y)} {xs ys : List A} → Table R Z w z xs ys → (n : ℕ) → ((p : Pair X) → In p w → p.left ≢ n) → ((l : Lone Y) → In l z → l.place ≢ n) → (a : A) → Table R Z w z (slice_set xs n a) ys
@@ -60,7 +61,7 @@ pub record Globals (F : Facts) (S : Tables) (P : Plan S) : Type 0 where
   pub unknown : (g : ℕ) (k : Held) → F.Known g k → ⊥
 
 module _ (F : Facts) (S : Tables) (P : Plan S) (G : Globals F S P) where
-  abbrev put_state : (m p : ℕ) → Obj → Kind → Val → State → State
+  abbrev pub put_state : (m p : ℕ) → Obj → Kind → Val → State → State
   put_state m p o k x s = record s { objs = slice_set s.objs m (with_slot S P o p k x) }
 
   module _ (h p : ℕ) (is : P.Child h p) (single : (i : ℕ) → P.Inner h p i → ⊥) where
@@ -108,8 +109,9 @@ module _ (F : Facts) (S : Tables) (P : Plan S) (G : Globals F S P) where
           fine (T F S P) tt tt tt ti le le',
         )))
 
-    -- ---- the write of the slot, and what is left of it
+  -- ---- the write of the slot, and what is left of it
 
+  module _ (h p : ℕ) where
     abbrev key : Access
     key = dotted p
 
@@ -121,14 +123,14 @@ module _ (F : Facts) (S : Tables) (P : Plan S) (G : Globals F S P) where
     unfolding receive_all ret after
     got_none T os m x s k e = ap (λ z. after (receive_all z x s) k) e ∙ said_none (k tt s)
 
-    pub slot_put : {A C : Type 0} {Q : W F S P → A → C → Type 0} {w : W F S P} (i : Spot) {m n : ℕ} (made : Kind) (x : Val) (b : Bool) (k : Unit {0} → M A) (s t : State) {y : Res C} (d : HeldT S P (view w.w s t) h m n) → s.tables ≡ S → ResT (T F S P) Q w (k tt (put_state m p d.object (kind_for S (name S P p) made) x s)) y → ResT (T F S P) Q w ((put_on checked i (obj m) key made x b >>= k) s) y
+    pub slot_put : {A : Type 0} (G : Res A → Type 0) → Stops G → (i : Spot) (m : ℕ) (made : Kind) (x : Val) (b : Bool) (k : Unit {0} → M A) (s : State) (o : Obj) → slice_get s.objs m ≡ Some o → IsBare o → s.tables ≡ S → G (k tt (put_state m p o (kind_for S (name S P p) made) x s)) → G ((put_on checked i (obj m) key made x b >>= k) s)
     unfolding put_on write_slot changing ret ◌>>=◌ after
-    slot_put {Q = Q} {w = w} i {m = m} made x b k s t {y = y} d e f =
+    slot_put G stops i m made x b k s o stands plain e f =
         let nm : name_of s.tables key ≡ name S P p = ap (λ z. name_of z key) e in
         let kd : kind_for s.tables (name_of s.tables key) made ≡ kind_for S (name S P p) made = ap (λ z. kind_for z (name_of z key) made) e in
         let next : State = change m (put_own (name_of s.tables key) (kind_for s.tables (name_of s.tables key) made) x) s in
-        let is_next : next ≡ put_state m p d.object (kind_for S (name S P p) made) x s = changed_is s m d.object (name_of s.tables key) (kind_for s.tables (name_of s.tables key) made) x d.stands d.plain.elements nm ∙ ap (λ z. put_state m p d.object z x s) kd in
-        as_left F S P (ap (λ z. z s) (bind_assoc (judged checked i (writes (obj m) key x b) (λ s. changing (change m (put_own (name_of s.tables key) (kind_for s.tables (name_of s.tables key) made) x)) s)) (λ _ s. receive_all (fields_reached s.tables s.objs m key) x s) k))
-        (left_then F S P i (writes (obj m) key x b) (λ s. changing (change m (put_own (name_of s.tables key) (kind_for s.tables (name_of s.tables key) made) x)) s) (λ _. (λ s. receive_all (fields_reached s.tables s.objs m key) x s) >>= k) s e (λ r.
-        as_left F S P (said_none _ ∙ ap (λ z. after (receive_all (fields_reached z.tables z.objs m key) x z) k) is_next ∙ got_none s.tables (slice_set s.objs m (with_slot S P d.object p (kind_for S (name S P p) made) x)) m x (put_state m p d.object (kind_for S (name S P p) made) x s) k (class_none s.tables (slice_set s.objs m (with_slot S P d.object p (kind_for S (name S P p) made) x)) m (with_slot S P d.object p (kind_for S (name S P p) made) x) key (get_set_same s.objs m d.object (with_slot S P d.object p (kind_for S (name S P p) made) x) d.stands) d.plain.klass))
+        let is_next : next ≡ put_state m p o (kind_for S (name S P p) made) x s = changed_is s m o (name_of s.tables key) (kind_for s.tables (name_of s.tables key) made) x stands plain.elements nm ∙ ap (λ z. put_state m p o z x s) kd in
+        as_any G (ap (λ z. z s) (bind_assoc (judged checked i (writes (obj m) key x b) (λ s. changing (change m (put_own (name_of s.tables key) (kind_for s.tables (name_of s.tables key) made) x)) s)) (λ _ s. receive_all (fields_reached s.tables s.objs m key) x s) k))
+        (left_any G stops S i (writes (obj m) key x b) (λ s. changing (change m (put_own (name_of s.tables key) (kind_for s.tables (name_of s.tables key) made) x)) s) (λ _. (λ s. receive_all (fields_reached s.tables s.objs m key) x s) >>= k) s e (λ r.
+        as_any G (said_none _ ∙ ap (λ z. after (receive_all (fields_reached z.tables z.objs m key) x z) k) is_next ∙ got_none s.tables (slice_set s.objs m (with_slot S P o p (kind_for S (name S P p) made) x)) m x (put_state m p o (kind_for S (name S P p) made) x s) k (class_none s.tables (slice_set s.objs m (with_slot S P o p (kind_for S (name S P p) made) x)) m (with_slot S P o p (kind_for S (name S P p) made) x) key (get_set_same s.objs m o (with_slot S P o p (kind_for S (name S P p) made) x) stands) plain.klass))
         f))
