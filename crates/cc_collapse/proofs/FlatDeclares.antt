@@ -1,5 +1,5 @@
 -- Where a holder is declared: both runs make an object, to which no value leads, and set the holder to it.
-use Rattle.std.proofs.Common.{◌≡◌, ◌≢◌, ◌⊎◌, inl, inr, ℕ, ◌<◌, Bool, true, false, List, [], ◌∷◌, ◌++◌, length, Option, Some, None, is_some, refl, sym, ap, subst, ◌∙◌, arith}
+use Rattle.std.proofs.Common.{◌≡◌, ◌≢◌, ◌⊎◌, inl, inr, ℕ, ◌<◌, Bool, true, false, List, [], ◌∷◌, ◌++◌, length, Option, Some, None, refl, sym, ap, subst, ◌∙◌, arith}
 use Rattle.std.specs.Prelude.{slice_get, slice_set, nat_eq}
 use Rattle.std.specs.List.{list_any}
 use Rattle.cc_meaning.specs.Values.{Val, obj}
@@ -7,7 +7,7 @@ use Rattle.cc_meaning.specs.Operators.{list_eq}
 use Rattle.cc_meaning.specs.State.{Obj, bare, Code, Kind, Tables}
 use Rattle.cc_meaning.specs.Store.{flat_option, find_slot, set_slot}
 use Rattle.cc_meaning.specs.Alike.{In, here, there}
-use Rattle.cc_tied.specs.Tied.{nil_t, OptT, ListT}
+use Rattle.cc_tied.specs.Tied.{nil_t, ListT}
 use Rattle.cc_tied.specs.Injection.{Pair, Lone}
 use Rattle.cc_tied.proofs.Lists.{place_cases, get_old, get_new, get_set_same, get_set_other}
 use Rattle.cc_tied.proofs.Injection.Table.{get_range, in_cases}
@@ -79,20 +79,35 @@ module _ (S : Tables) (P : Plan S) where
 
       still : (i a b : ℕ) → HeldT S P v i a b → HeldT S P root_declared i a b
       still i a b d = record {
-        object = d.object; object' = d.object';
-        stands = get_old v.left (bare ∷ []) a d.object d.stands; stands' = get_old v.right (bare ∷ []) b d.object' d.stands';
-        plain = d.plain; plain' = d.plain'; no_pair = d.no_pair; no_pair' = d.no_pair'; no_spare = d.no_spare;
+        object = d.object;
+        object' = d.object';
+        stands = get_old v.left (bare ∷ []) a d.object d.stands;
+        stands' = get_old v.right (bare ∷ []) b d.object' d.stands';
+        plain = d.plain;
+        plain' = d.plain';
+        no_pair = d.no_pair;
+        no_pair' = d.no_pair';
+        no_spare = d.no_spare;
         cells = λ p c. rw (fresh_same i p c) (cell_later (once h m n) (λ j q. not_inner i p j q) (d.cells p c));
-        rest = d.rest; near = d.near;
+        rest = d.rest;
+        near = d.near;
       }
 
       new : HeldT S P root_declared h m n
       unfolding find_slot
       new = record {
-        object = bare; object' = bare; stands = get_new v.left bare; stands' = get_new v.right bare; plain = bare_is; plain' = bare_is;
-        no_pair = fresh_pair; no_pair' = fresh_right; no_spare = fresh_spare;
+        object = bare;
+        object' = bare;
+        stands = get_new v.left bare;
+        stands' = get_new v.right bare;
+        plain = bare_is;
+        plain' = bare_is;
+        no_pair = fresh_pair;
+        no_pair' = fresh_right;
+        no_spare = fresh_spare;
         cells = λ p c. rw (fresh_same h p c) (cell_later (once h m n) (λ j q. not_inner h p j q) (r.unset h p undeclared c));
-        rest = nil_t; near = near;
+        rest = nil_t;
+        near = near;
       }
 
       held_now : (i a b : ℕ) → (once i a b ≡ once h m n) ⊎ In (once i a b) v.stage → HeldT S P root_declared i a b
@@ -149,12 +164,18 @@ module _ (S : Tables) (P : Plan S) where
 
       others_still : (i c d : ℕ) → In (once i c d) v.stage → q ≢ i → HeldT S P v i c d → HeldT S P inner_declared i c d
       others_still i c d l z e = record {
-        object = e.object; object' = e.object';
+        object = e.object;
+        object' = e.object';
         stands = get_set_other (v.left ++ bare ∷ []) a c (with_slot S P o p k (obj m)) (r.apart q a b i c d at l z).0 ∙ get_old v.left (bare ∷ []) c e.object e.stands;
         stands' = get_old v.right (bare ∷ []) d e.object' e.stands';
-        plain = e.plain; plain' = e.plain'; no_pair = e.no_pair; no_pair' = e.no_pair'; no_spare = e.no_spare;
+        plain = e.plain;
+        plain' = e.plain';
+        no_pair = e.no_pair;
+        no_pair' = e.no_pair';
+        no_spare = e.no_spare;
         cells = λ u x. rw (fresh_kept i u x (inl z)) (cell_kept i u (inl z) (e.cells u x));
-        rest = e.rest; near = e.near;
+        rest = e.rest;
+        near = e.near;
       }
 
       cell_at : (u : ℕ) → P.Child q u → (e : HeldT S P v q a b) → e.object ≡ o → (p ≡ u) ⊎ (p ≢ u) → CellT v.pairs (once h m n ∷ v.stage) (P.Inner q u) (find_slot (set_slot o.slots (name S P p) k (obj m)) (name S P u)) (flat_option (slice_get inner_declared.values' (P.fresh q u)))
@@ -173,12 +194,15 @@ module _ (S : Tables) (P : Plan S) where
       holder_still e =
           let both : Some e.object ≡ Some o = sym e.stands ∙ stands in
           let f : e.object ≡ o = cc in record {
-            object = with_slot S P o p k (obj m); object' = e.object';
+            object = with_slot S P o p k (obj m);
+            object' = e.object';
             stands = get_set_same (v.left ++ bare ∷ []) a o (with_slot S P o p k (obj m)) there_a;
             stands' = get_old v.right (bare ∷ []) b e.object' e.stands';
             plain = bare_with S P p k (obj m) e.object o f e.plain;
             plain' = e.plain';
-            no_pair = e.no_pair; no_pair' = e.no_pair'; no_spare = e.no_spare;
+            no_pair = e.no_pair;
+            no_pair' = e.no_pair';
+            no_spare = e.no_spare;
             cells = λ u c. cell_at u c e f (place_cases p u);
             rest = subst (λ z. ListT (SlotT (Paired v.pairs)) z e.object'.slots) (ap (λ z. others S P q z.slots) f ∙ sym (left_set (P.flat_name q) o.slots (name S P p) k (obj m) (P.child_name q p is))) e.rest;
             near = e.near;
@@ -187,12 +211,18 @@ module _ (S : Tables) (P : Plan S) where
       new_inner : HeldT S P inner_declared h m n
       unfolding find_slot
       new_inner = record {
-        object = bare; object' = bare;
+        object = bare;
+        object' = bare;
         stands = get_set_other (v.left ++ bare ∷ []) a m (with_slot S P o p k (obj m)) m_apart ∙ get_new v.left bare;
-        stands' = get_new v.right bare; plain = bare_is; plain' = bare_is;
-        no_pair = fresh_pair; no_pair' = fresh_right; no_spare = fresh_spare;
+        stands' = get_new v.right bare;
+        plain = bare_is;
+        plain' = bare_is;
+        no_pair = fresh_pair;
+        no_pair' = fresh_right;
+        no_spare = fresh_spare;
         cells = λ u c. rw (fresh_kept h u c (inl (P.inner_other q p h inner))) (cell_kept h u (inl (P.inner_other q p h inner)) (r.unset h u undeclared c));
-        rest = nil_t; near = near;
+        rest = nil_t;
+        near = near;
       }
 
       held_old : (i c d : ℕ) → In (once i c d) v.stage → (q ≡ i) ⊎ (q ≢ i) → HeldT S P inner_declared i c d

@@ -43,6 +43,7 @@ pub record Plan (S : Tables) : Type 1 where
   -- the chunk of the global that a holder's path begins with
   pub top : (h : ℕ) → ℕ
   pub root_kind : (h : ℕ) → Root h → (global_kind S (var h) ≡ of_chunk (top h)) × (global_kind (record S { set = set; globals = globals }) (var h) ≡ of_chunk (top h))
+  pub root_type : (h : ℕ) → Root h → variable_type S (global (var h)) ≡ variable_type (record S { set = set; globals = globals }) (global (var h))
   -- chunks that are loaded once a holder is declared
   pub Near : (h chunk : ℕ) → Type 0
   -- a property of a holder that is a global of the right

@@ -11,3 +11,5 @@ pub mod FlatSlots
 pub mod FlatWrites
 pub mod FlatTargets
 pub mod FlatDeclares
+pub mod FlatDeclared
+pub mod FlatInner
