@@ -13,3 +13,5 @@ pub mod FlatTargets
 pub mod FlatDeclares
 pub mod FlatDeclared
 pub mod FlatInner
+pub mod FlatRules
+pub mod FlatChunks
