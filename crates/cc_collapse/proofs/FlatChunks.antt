@@ -34,7 +34,7 @@ use Rattle.cc_collapse.proofs.FlatInner.{inner_set}
 -- ---- what a declaration of one variable is: the assignment to it
 
 module _ (B : Bodies) (g : Env) where
-  abbrev written : (i : ℕ) (r : Ref) (e : Expr) → M (Unit {0})
+  abbrev pub written : (i : ℕ) (r : Ref) (e : Expr) → M (Unit {0})
   written i r e = value checked B (ev checked B g (path_of_ref r) e) >>= λ v. write_var checked (at_site i) g r v
 
   pub var_runs : (i j : ℕ) (r : Ref) (e : Expr) → ex checked B g [] (vars i ((record { site = j; variable = r; value = Some e }) ∷ [])) ≡ (written j r e >>= λ _. ret normal)
@@ -42,7 +42,7 @@ module _ (B : Bodies) (g : Env) where
   var_runs i j r e = ap (λ z. z >>= λ _. ret normal) (bind_alike (written j r e) (λ _. skip) ret (λ x. refl) ∙ bind_ret (written j r e))
 
   -- what is written to, and then the value
-  abbrev sets_to : (t : Target) (e : Expr) → M (Unit {0})
+  abbrev pub sets_to : (t : Target) (e : Expr) → M (Unit {0})
   sets_to t e = ev_target checked B g t >>= λ p. value checked B (ev checked B g (path_of_target t) e) >>= λ v. put_place checked g p v
 
   value_plain : (v : Val) → (value_of checked B (plain v)) ≡ ret v
@@ -67,7 +67,7 @@ module _ (B : Bodies) (g : Env) where
           ∙ sym (bind_assoc m (λ v. put l v) (λ _. ret normal)))
       ∙ sym (bind_assoc p (λ l. m >>= λ v. put l v) (λ _. ret normal))
 
-  to_var_sets : (j : ℕ) (r : Ref) (e : Expr) → sets_to (to_var j r) e ≡ written j r e
+  pub to_var_sets : (j : ℕ) (r : Ref) (e : Expr) → sets_to (to_var j r) e ≡ written j r e
   unfolding ev_target path_of_target put_place
   to_var_sets j r e = ret_bind (variable_place j r) (λ p. value checked B (ev checked B g (path_of_ref r) e) >>= λ v. put_place checked g p v)
 

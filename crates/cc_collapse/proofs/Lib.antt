@@ -15,3 +15,4 @@ pub mod FlatDeclared
 pub mod FlatInner
 pub mod FlatRules
 pub mod FlatChunks
+pub mod FlatOwn
