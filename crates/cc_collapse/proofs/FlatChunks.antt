@@ -1,35 +1,16 @@
 -- A chunk's own list, in which holders are declared: which of them are is known from statement to statement.
-use Rattle.std.proofs.Common.{◌≡◌, ◌≢◌, ◌⊎◌, inl, inr, ℕ, ◌≤◌, List, [], ◌∷◌, Option, Some, None, refl, sym, ap, subst, ◌∙◌, arith}
-use Rattle.cc_ast.specs.Syntax.{Expr, object, no_fields, assign, Target, to_var, to_member, Declarator, Stmt, simple, vars, Stmts, no_stmts, more_stmts, Program}
+use Rattle.std.proofs.Common.{◌≡◌, ℕ, [], ◌∷◌, Some, None, refl, sym, ap, ◌∙◌}
+use Rattle.cc_ast.specs.Syntax.{Expr, assign, Target, to_var, simple, vars}
 use Rattle.cc_ast.specs.declared.tree.Ref.{Ref}
 use Rattle.cc_meaning.specs.Values.{Val, at_site}
-use Rattle.cc_meaning.specs.State.{Env, State, Tables, Path}
-use Rattle.cc_meaning.specs.Monad.{M, Res, ok, ret, skip, after, said, ◌>>=◌, with_tables}
+use Rattle.cc_meaning.specs.State.{Env}
+use Rattle.cc_meaning.specs.Monad.{M, ret, skip, ◌>>=◌}
 use Rattle.cc_meaning.specs.Acts.{write_var}
-use Rattle.cc_meaning.specs.Calls.{Bodies, Reach, plain, value, value_of}
-use Rattle.cc_meaning.specs.Meaning.{Comp, normal, returns, breaks, continues, next as next_by, Place, variable_place, put_place, updated, value_at, set_variable, declare, ev, ev_target, ex, ex_chunk, bodies}
-use Rattle.cc_meaning.specs.Shapes.{declared_by, path_of_target, path_of_ref}
-use Rattle.cc_meaning.specs.Script.{checked, top}
-use Rattle.cc_meaning.specs.Alike.{In, here, there}
-use Rattle.cc_tied.specs.Facts.{Facts}
-use Rattle.cc_tied.specs.Tied.{ValT, CompT, normal_t, returns_t, breaks_t, continues_t}
-use Rattle.cc_tied.proofs.Kit.{Kit}
-use Rattle.cc_tied.proofs.Parts.{Below, CompV, BodiesT}
-use Rattle.cc_tied.proofs.Laws.{said_none, ret_bind, bind_ret, bind_assoc, bind_alike}
-use Rattle.cc_tied.proofs.Sim.{Tie, World, Later, now, later, Sim, sim_ret, sim_tables}
-use Rattle.cc_tied.proofs.Runs.{IsExact}
-use Rattle.cc_tied.proofs.Whole.{WholeT, ok_w, threw_w, broken_w, over_w, Whole, whole_of, whole_bind}
-use Rattle.cc_tied.proofs.Turns.{AllBodiesT, below_of}
-use Rattle.cc_tied.proofs.Statements as S
-use Rattle.cc_tied.proofs.Injection.Tie.{Ctx, at, DeclaresI, env_top}
-use Rattle.cc_tied.proofs.Injection.World.{Once, Tabs}
-use Rattle.cc_collapse.proofs.FlatRider.{Plan, Undeclared, once, flat_other}
-use Rattle.cc_collapse.proofs.FlatHolders.{HolderAt}
-use Rattle.cc_collapse.proofs.FlatReads.{T, W}
-use Rattle.cc_collapse.proofs.FlatPairs.{K}
-use Rattle.cc_collapse.proofs.FlatWrites.{Globals}
-use Rattle.cc_collapse.proofs.FlatDeclared.{next, root_set}
-use Rattle.cc_collapse.proofs.FlatInner.{inner_set}
+use Rattle.cc_meaning.specs.Calls.{Bodies, plain, value, value_of}
+use Rattle.cc_meaning.specs.Meaning.{normal, Place, variable_place, put_place, updated, value_at, set_variable, declare, ev, ev_target, ex}
+use Rattle.cc_meaning.specs.Shapes.{path_of_target, path_of_ref}
+use Rattle.cc_meaning.specs.Script.{checked}
+use Rattle.cc_tied.proofs.Laws.{ret_bind, bind_ret, bind_assoc, bind_alike}
 
 -- ---- what a declaration of one variable is: the assignment to it
 
@@ -58,13 +39,13 @@ module _ (B : Bodies) (g : Env) where
       ap (λ z. z >>= λ _. ret normal) (bind_assoc p (λ l. m >>= λ v. put l v >>= λ _. ret (plain v)) (λ r. value_of checked B r))
       ∙ bind_assoc p (λ l. (m >>= λ v. put l v >>= λ _. ret (plain v)) >>= λ r. value_of checked B r) (λ _. ret normal)
       ∙ bind_alike p (λ l. ((m >>= λ v. put l v >>= λ _. ret (plain v)) >>= λ r. value_of checked B r) >>= λ _. ret normal) (λ l. (m >>= λ v. put l v) >>= λ _. ret normal) (λ l.
-          ap (λ z. z >>= λ _. ret normal) (bind_assoc m (λ v. put l v >>= λ _. ret (plain v)) (λ r. value_of checked B r))
-          ∙ bind_assoc m (λ v. (put l v >>= λ _. ret (plain v)) >>= λ r. value_of checked B r) (λ _. ret normal)
-          ∙ bind_alike m (λ v. ((put l v >>= λ _. ret (plain v)) >>= λ r. value_of checked B r) >>= λ _. ret normal) (λ v. put l v >>= λ _. ret normal) (λ v.
-              ap (λ z. z >>= λ _. ret normal) (bind_assoc (put l v) (λ _. ret (plain v)) (λ r. value_of checked B r))
-              ∙ bind_assoc (put l v) (λ _. ret (plain v) >>= λ r. value_of checked B r) (λ _. ret normal)
-              ∙ bind_alike (put l v) (λ _. (ret (plain v) >>= λ r. value_of checked B r) >>= λ _. ret normal) (λ _. ret normal) (λ x. ap (λ z. z >>= λ _. ret normal) (ret_bind (plain v) (λ r. value_of checked B r) ∙ value_plain v) ∙ ret_bind v (λ _. ret normal)))
-          ∙ sym (bind_assoc m (λ v. put l v) (λ _. ret normal)))
+      ap (λ z. z >>= λ _. ret normal) (bind_assoc m (λ v. put l v >>= λ _. ret (plain v)) (λ r. value_of checked B r))
+      ∙ bind_assoc m (λ v. (put l v >>= λ _. ret (plain v)) >>= λ r. value_of checked B r) (λ _. ret normal)
+      ∙ bind_alike m (λ v. ((put l v >>= λ _. ret (plain v)) >>= λ r. value_of checked B r) >>= λ _. ret normal) (λ v. put l v >>= λ _. ret normal) (λ v.
+      ap (λ z. z >>= λ _. ret normal) (bind_assoc (put l v) (λ _. ret (plain v)) (λ r. value_of checked B r))
+      ∙ bind_assoc (put l v) (λ _. ret (plain v) >>= λ r. value_of checked B r) (λ _. ret normal)
+      ∙ bind_alike (put l v) (λ _. (ret (plain v) >>= λ r. value_of checked B r) >>= λ _. ret normal) (λ _. ret normal) (λ x. ap (λ z. z >>= λ _. ret normal) (ret_bind (plain v) (λ r. value_of checked B r) ∙ value_plain v) ∙ ret_bind v (λ _. ret normal)))
+      ∙ sym (bind_assoc m (λ v. put l v) (λ _. ret normal)))
       ∙ sym (bind_assoc p (λ l. m >>= λ v. put l v) (λ _. ret normal))
 
   pub to_var_sets : (j : ℕ) (r : Ref) (e : Expr) → sets_to (to_var j r) e ≡ written j r e

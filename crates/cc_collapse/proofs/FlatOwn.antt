@@ -1,30 +1,28 @@
 -- The own lists of a chunk in two programs, where holders are declared: which of them are is known from
 -- statement to statement.
-use Rattle.std.proofs.Common.{◌≡◌, ◌≢◌, ◌⊎◌, inl, inr, ℕ, ◌≤◌, List, [], ◌∷◌, Option, Some, None, refl, sym, ap, subst, ◌∙◌, arith}
-use Rattle.cc_ast.specs.Syntax.{Expr, object, no_fields, assign, Target, to_var, to_member, Declarator, Stmt, simple, vars, Stmts, no_stmts, more_stmts, Program}
+use Rattle.std.proofs.Common.{◌≡◌, ◌⊎◌, inl, inr, ℕ, ◌≤◌, List, [], ◌∷◌, Some, None, refl, sym, ap, subst, ◌∙◌, arith}
+use Rattle.cc_ast.specs.Syntax.{Expr, object, no_fields, assign, to_var, to_member, Declarator, Stmt, simple, vars, Stmts, no_stmts, more_stmts, Program}
 use Rattle.cc_ast.specs.declared.tree.Ref.{Ref}
-use Rattle.cc_meaning.specs.Values.{Val, at_site}
-use Rattle.cc_meaning.specs.State.{Env, State, Tables, Path}
-use Rattle.cc_meaning.specs.Monad.{M, Res, ok, ret, skip, after, said, ◌>>=◌, with_tables}
-use Rattle.cc_meaning.specs.Meaning.{Comp, normal, returns, breaks, continues, next as next_by, declare, set_variable, ex, ex_chunk, bodies}
+use Rattle.cc_meaning.specs.Values.{at_site}
+use Rattle.cc_meaning.specs.State.{Env, State, Tables}
+use Rattle.cc_meaning.specs.Monad.{M, Res, ret, skip, after, ◌>>=◌, with_tables}
+use Rattle.cc_meaning.specs.Meaning.{Comp, normal, next as next_by, declare, set_variable, ex, ex_chunk, bodies}
 use Rattle.cc_meaning.specs.Calls.{Bodies}
 use Rattle.cc_meaning.specs.Shapes.{declared_by}
 use Rattle.cc_meaning.specs.Script.{checked, top}
-use Rattle.cc_meaning.specs.Alike.{In, here, there}
+use Rattle.cc_meaning.specs.Alike.{In}
 use Rattle.cc_tied.specs.Facts.{Facts}
-use Rattle.cc_tied.specs.Tied.{ValT, CompT, normal_t, returns_t, breaks_t, continues_t}
-use Rattle.cc_tied.proofs.Kit.{Kit}
-use Rattle.cc_tied.proofs.Parts.{Below, CompV, BodiesT}
-use Rattle.cc_tied.proofs.Laws.{said_none, ret_bind, bind_assoc, bind_alike}
-use Rattle.cc_tied.proofs.Sim.{Tie, World, Later, now, later, Sim, sim_ret, sim_tables}
+use Rattle.cc_tied.specs.Tied.{normal_t, returns_t, breaks_t, continues_t}
+use Rattle.cc_tied.proofs.Parts.{Below, CompV}
+use Rattle.cc_tied.proofs.Laws.{said_none, ret_bind}
+use Rattle.cc_tied.proofs.Sim.{Tie, Later, now, Sim, sim_ret, sim_tables}
 use Rattle.cc_tied.proofs.Runs.{IsExact}
 use Rattle.cc_tied.proofs.Whole.{WholeT, ok_w, threw_w, broken_w, over_w, Whole, whole_of, whole_bind}
 use Rattle.cc_tied.proofs.Turns.{AllBodiesT, below_of}
 use Rattle.cc_tied.proofs.Statements as St
 use Rattle.cc_tied.proofs.Injection.Table.{in_cases}
-use Rattle.cc_tied.proofs.Injection.Tie.{Ctx, at, DeclaresI, env_top}
-use Rattle.cc_tied.proofs.Injection.World.{Once, Tabs}
-use Rattle.cc_collapse.proofs.FlatRider.{Plan, Undeclared, once, flat_other}
+use Rattle.cc_tied.proofs.Injection.Tie.{at, DeclaresI, env_top}
+use Rattle.cc_collapse.proofs.FlatRider.{Plan, once, flat_other}
 use Rattle.cc_collapse.proofs.FlatHolders.{HolderAt}
 use Rattle.cc_collapse.proofs.FlatReads.{T, W}
 use Rattle.cc_collapse.proofs.FlatPairs.{K}
@@ -59,11 +57,17 @@ module _ (F : Facts) (S : Tables) (P : Plan S) (G : Globals F S P) (exact : IsEx
       by_case i a b (inr q) = inl (k.among i a b q)
 
   -- what is known at the end of a part goes with its value
-  split : {A B : Type 0} {J : W F S P → Type 0} {I : W F S P → Type 0} {Q : W F S P → A → B → Type 0} {w : W F S P} {x : Res A} {y : Res B} → ((v : W F S P) → J v → I v) → WholeT TF J Q w x y → WholeT TF I (λ v a b. J v × Q v a b) w x y
+  pub split : {A B : Type 0} {J : W F S P → Type 0} {I : W F S P → Type 0} {Q : W F S P → A → B → Type 0} {w : W F S P} {x : Res A} {y : Res B} → ((v : W F S P) → J v → I v) → WholeT TF J Q w x y → WholeT TF I (λ v a b. J v × Q v a b) w x y
   split f (ok_w d v l i h ti le le') = ok_w d v l (f v i) (i, h) ti le le'
   split f (threw_w d v l i h ti le le') = threw_w d v l (f v i) h ti le le'
   split f (broken_w x) = broken_w x
   split f (over_w d h) = over_w d h
+
+  pub whole_as : {A B : Type 0} {J : W F S P → Type 0} {I : W F S P → Type 0} {Q : W F S P → A → B → Type 0} {w : W F S P} {x : Res A} {y : Res B} → ((v : W F S P) → J v → I v) → WholeT TF J Q w x y → WholeT TF I Q w x y
+  whole_as f (ok_w d v l i h ti le le') = ok_w d v l (f v i) h ti le le'
+  whole_as f (threw_w d v l i h ti le le') = threw_w d v l (f v i) h ti le le'
+  whole_as f (broken_w x) = broken_w x
+  whole_as f (over_w d h) = over_w d h
 
   abbrev Ends : (D : ℕ → Type 0) → W F S P → Comp → Comp → Type 0
   Ends D v a b = Known D v × CompV (K F S P) v a b

@@ -1,10 +1,9 @@
 -- The rules of the exchange: what stands at one place of both programs, and a property of a holder where
 -- the right has its global.
-use Rattle.std.proofs.Common.{◌≡◌, ◌⊎◌, inl, inr, ℕ, Bool, List, [], Option, Some, None, refl, ap}
+use Rattle.std.proofs.Common.{◌≡◌, ◌⊎◌, inl, inr, ℕ, Option, None, refl, ap}
 use Rattle.cc_ast.specs.Syntax.{Expr, var, member, Target, to_var, to_member}
 use Rattle.cc_ast.specs.declared.tree.Ref.{Ref}
-use Rattle.cc_ast.specs.declared.tree.Key.{Key}
-use Rattle.cc_meaning.specs.State.{Path, Env, Tables}
+use Rattle.cc_meaning.specs.State.{Path, Tables}
 use Rattle.cc_meaning.specs.Store.{dotted, flat_of}
 use Rattle.cc_meaning.specs.Calls.{member_use}
 use Rattle.cc_meaning.specs.Shapes.{literal_text}
@@ -20,7 +19,7 @@ use Rattle.cc_collapse.proofs.FlatTrees.{Exchange}
 use Rattle.cc_collapse.proofs.FlatKit.{FlatRules}
 use Rattle.cc_collapse.proofs.FlatRider.{Plan, flat_other}
 use Rattle.cc_collapse.proofs.FlatHolders.{HolderAt}
-use Rattle.cc_collapse.proofs.FlatReads.{R, HomeT, top_home, near_home}
+use Rattle.cc_collapse.proofs.FlatReads.{HomeT, top_home, near_home}
 use Rattle.cc_collapse.proofs.FlatPairs.{K, flat_values, flat_called, flat_on}
 use Rattle.cc_collapse.proofs.FlatTargets.{flat_target}
 use Rattle.cc_collapse.proofs.FlatWrites.{Globals}

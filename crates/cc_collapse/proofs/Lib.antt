@@ -16,3 +16,4 @@ pub mod FlatInner
 pub mod FlatRules
 pub mod FlatChunks
 pub mod FlatOwn
+pub mod FlatEnds
