@@ -29,7 +29,7 @@ use Rattle.cc_collapse.proofs.FlatPairs.{K}
 use Rattle.cc_collapse.proofs.FlatWrites.{Globals}
 use Rattle.cc_collapse.proofs.FlatDeclared.{next, root_set}
 use Rattle.cc_collapse.proofs.FlatInner.{inner_set}
-use Rattle.cc_collapse.proofs.FlatChunks.{written, sets_to, var_runs, assign_runs, var_assigns, to_var_sets}
+use Rattle.cc_collapse.proofs.FlatChunks.{chunk_split, written, sets_to, var_runs, assign_runs, var_assigns, to_var_sets}
 
 module _ (F : Facts) (S : Tables) (P : Plan S) (G : Globals F S P) (exact : IsExact (T F S P)) (c : ℕ) (End : ℕ → Type 0) where
   abbrev TF : Tie
@@ -184,3 +184,11 @@ module _ (F : Facts) (S : Tables) (P : Plan S) (G : Globals F S P) (exact : IsEx
 
     pub own_bare : {D : ℕ → Type 0} {ss ss' : Stmts} (i j : ℕ) (r : Ref) → OwnT D ss ss' → OwnT D ss (more_stmts (vars i ((record { site = j; variable = r; value = None }) ∷ [])) ss')
     own_bare {ss = ss} {ss' = ss'} i j r h = record { by = λ w le le' k z t ti lb lb'. subst (λ y. WholeT TF I (λ v a b. CompV (K F S P) v a b) w (ex_chunk checked B top ss z) y) (sym (bare_list i j r ss' t)) (h.by w le le' k z t ti lb lb') }
+
+    -- ---- lists of declarators, one by one
+
+    pub own_split : {D : ℕ → Type 0} {ss ss' : Stmts} (i : ℕ) (x : Declarator) (xs : List Declarator) → OwnT D (more_stmts (vars i (x ∷ [])) (more_stmts (vars i xs) ss)) ss' → OwnT D (more_stmts (vars i (x ∷ xs)) ss) ss'
+    own_split {ss = ss} {ss' = ss'} i x xs h = record { by = λ w le le' k. subst (λ z. Whole TF I (λ v a b. CompV (K F S P) v a b) w z (ex_chunk checked B' top ss')) (sym (chunk_split B i x xs ss)) (h.by w le le' k) }
+
+    pub own_split_right : {D : ℕ → Type 0} {ss ss' : Stmts} (i : ℕ) (x : Declarator) (xs : List Declarator) → OwnT D ss (more_stmts (vars i (x ∷ [])) (more_stmts (vars i xs) ss')) → OwnT D ss (more_stmts (vars i (x ∷ xs)) ss')
+    own_split_right {ss = ss} {ss' = ss'} i x xs h = record { by = λ w le le' k. subst (λ z. Whole TF I (λ v a b. CompV (K F S P) v a b) w (ex_chunk checked B top ss) z) (sym (chunk_split B' i x xs ss')) (h.by w le le' k) }
