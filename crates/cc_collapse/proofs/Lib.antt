@@ -1,4 +1,6 @@
 pub mod NoPaths
+pub mod SpelledExprs
+pub mod SpelledLists
 mod Rows
 pub mod FlatTrees
 pub mod FlatKit
