@@ -1,6 +1,7 @@
 pub mod NoPaths
 pub mod SpelledExprs
 pub mod SpelledLists
+pub mod KeepsSpelling
 mod Rows
 pub mod FlatTrees
 pub mod FlatKit

@@ -1,20 +1,15 @@
 -- Labels and properties of a flattened program stood in the old one.
-use Rattle.std.proofs.Common.{◌≡◌, ◌⊎◌, inl, inr, refl, ℕ, zero, suc, ◌+◌, Bool, true, false, List, [], ◌∷◌, ◌++◌, map, Option, Some, None, is_some, subst, sym, ap, ◌∙◌, arith}
-use Rattle.std.specs.Prelude.{slice_get}
-use Rattle.cc_ast.specs.Syntax.{Expr, object, assign, Target, Fields, no_fields, more_fields, Declarator, Stmt, simple, vars, fun_decl, if, while, do_while, for, for_in, return, throw, break, continue, label, switch, try, pay_stmt, Stmts, no_stmts, more_stmts, MaybeStmts, absent, present, Cases, no_cases, more_cases, Scope, Program}
+use Rattle.std.proofs.Common.{◌≡◌, refl, ℕ, Bool, true, false, List, [], ◌∷◌, ◌++◌, map, Option, Some, None}
+use Rattle.cc_ast.specs.Syntax.{Expr, object, assign, Target, Fields, no_fields, more_fields, Declarator, Stmt, simple, vars, Stmts, no_stmts, more_stmts}
 use Rattle.cc_ast.specs.declared.tree.Ref.{Ref}
 use Rattle.cc_ast.specs.declared.tree.Key.{Key}
 use Rattle.cc_meaning.specs.State.{Path, Tables}
 use Rattle.cc_meaning.specs.Monad.{pick}
-use Rattle.cc_meaning.specs.Shapes.{site_of, path_of_key, path_of_ref, path_of_target, tables_of, body_of, body_in}
-use Rattle.cc_meaning.specs.Alike.{In, here, there}
-use Rattle.cc_meaning.specs.Parts.{Part, has_site, uses_prop, declares, method_in, key_parts, expr_parts, target_parts, fields_parts, option_parts, vars_parts, stmt_parts, stmts_parts}
-use Rattle.cc_meaning.specs.WellMade.{parts_of, is_chunk}
-use Rattle.cc_meaning.specs.Spelled.{stmt_labels, stmts_labels, maybe_labels, cases_labels, IsSpelled}
-use Rattle.cc_collapse.specs.Paths.{flat_paths}
-use Rattle.cc_collapse.specs.Flattening.{flat_expr, flat_target, flat_stmt, flat_stmts, flat_maybe, flat_cases, is_key, kept_value, kept_fields, declared_at, key_vars, field_vars, set_var, set_vars, target_site, alone, set_path, is_among, own_value, own_stmt, still_unset, is_declared, and_also, holder_of, bare_vars, still_bare, in_list, own_list, declared_in, site_in, set_paths, bare_paths, new_number, flat_body, flat_scopes, flattened}
-use Rattle.cc_collapse.specs.Law.{FlatteningKeepsSpelling}
-use Rattle.cc_collapse.proofs.SpelledExprs.{Sub, sub_nil, sub_refl, sub_on, sub_tail, sub_cons, sub_site, sub_declares, sub_append, sub_back, sub_front, sub_join, in_front, in_back, no_methods, expr_sub, written_sub, stmt_sub, stmts_sub}
+use Rattle.cc_meaning.specs.Shapes.{site_of, path_of_key, path_of_ref, path_of_target}
+use Rattle.cc_meaning.specs.Alike.{there}
+use Rattle.cc_meaning.specs.Parts.{Part, has_site, declares, key_parts, expr_parts, fields_parts, option_parts, vars_parts, stmt_parts, stmts_parts}
+use Rattle.cc_collapse.specs.Flattening.{flat_expr, flat_target, is_key, kept_value, kept_fields, declared_at, key_vars, field_vars, set_var, set_vars, target_site, alone, set_path, is_among, own_value, own_stmt, still_unset, is_declared, and_also, holder_of, bare_vars, still_bare, in_list, own_list, declared_in, site_in}
+use Rattle.cc_collapse.proofs.SpelledExprs.{Sub, sub_nil, sub_refl, sub_on, sub_tail, sub_cons, sub_site, sub_declares, sub_append, sub_back, sub_front, sub_join, in_front, in_back, no_methods, expr_sub, written_sub, stmt_sub}
 
 module _ (T U : Tables) (global : Option Path → Option ℕ) where
   -- ---- declarators
@@ -62,8 +57,8 @@ module _ (T U : Tables) (global : Option Path → Option ℕ) where
     field_sub w (more_fields k e fs) =
         vars_join (pick (is_key global (path_of_key w k)) (declared_at global (site_of e) (global (path_of_key w k)) (Some (kept_value global (path_of_key w k) e)) ++ key_vars global (path_of_key w k) e) []) (field_vars global w fs)
         (picked_vars (is_key global (path_of_key w k)) _ (vars_join (declared_at global (site_of e) (global (path_of_key w k)) (Some (kept_value global (path_of_key w k) e))) (key_vars global (path_of_key w k) e)
-          (one_var (site_of e) (global (path_of_key w k)) (kept_value global (path_of_key w k) e) (sub_front (fields_parts T 0 fs) (sub_back (key_parts k) (kept_sub (path_of_key w k) e))))
-          (sub_front (fields_parts T 0 fs) (sub_back (key_parts k) (key_sub (path_of_key w k) e)))))
+        (one_var (site_of e) (global (path_of_key w k)) (kept_value global (path_of_key w k) e) (sub_front (fields_parts T 0 fs) (sub_back (key_parts k) (kept_sub (path_of_key w k) e))))
+        (sub_front (fields_parts T 0 fs) (sub_back (key_parts k) (key_sub (path_of_key w k) e)))))
         (sub_back (key_parts k ++ expr_parts T 0 e) (field_sub w fs))
 
   set_sub : (d : Declarator) (o : Option Expr) {zs : List Part} → Sub (option_parts T 0 o) zs → d.value ≡ o → Sub (vars_parts U 0 (set_var global d o)) zs
