@@ -13,6 +13,7 @@ use Rattle.cc_meaning.specs.Script.{checked, top}
 use Rattle.cc_meaning.specs.Alike.{In}
 use Rattle.cc_tied.specs.Facts.{Facts}
 use Rattle.cc_tied.specs.Tied.{normal_t, returns_t, breaks_t, continues_t}
+use Rattle.cc_tied.proofs.Kit.{Kit}
 use Rattle.cc_tied.proofs.Parts.{Below, CompV}
 use Rattle.cc_tied.proofs.Laws.{said_none, ret_bind}
 use Rattle.cc_tied.proofs.Sim.{Tie, Later, now, Sim, sim_ret, sim_tables}
@@ -192,3 +193,9 @@ module _ (F : Facts) (S : Tables) (P : Plan S) (G : Globals F S P) (exact : IsEx
 
     pub own_split_right : {D : ℕ → Type 0} {ss ss' : Stmts} (i : ℕ) (x : Declarator) (xs : List Declarator) → OwnT D ss (more_stmts (vars i (x ∷ [])) (more_stmts (vars i xs) ss')) → OwnT D ss (more_stmts (vars i (x ∷ xs)) ss')
     own_split_right {ss = ss} {ss' = ss'} i x xs h = record { by = λ w le le' k. subst (λ z. Whole TF I (λ v a b. CompV (K F S P) v a b) w (ex_chunk checked B top ss) z) (sym (chunk_split B' i x xs ss')) (h.by w le le' k) }
+
+-- ---- functions are bound before: declarations that the right has alone bind none
+
+pub hoist_right : (K : Kit) (X : Below K) (c : K.Ctx) (i : ℕ) (ds : List Declarator) {ss ss' : Stmts} → St.FollowsHoist K X c ss ss' → St.FollowsHoist K X c ss (more_stmts (vars i ds) ss')
+unfolding Rattle.cc_meaning.specs.Meaning.hoist Rattle.cc_meaning.specs.Meaning.hoist_one
+hoist_right K X c i ds {ss = ss} {ss' = ss'} h = record { by = λ v l g g' t. subst (λ z. K.Rel (λ w a b. Unit {0}) v (Rattle.cc_meaning.specs.Meaning.hoist K.J g ss) z) (sym (ret_bind tt (λ _. Rattle.cc_meaning.specs.Meaning.hoist K.J' g' ss'))) (h.by v l g g' t) }
