@@ -1,4 +1,5 @@
 pub mod NoPaths
+pub mod NewGlobals
 pub mod SpelledExprs
 pub mod SpelledLists
 pub mod KeepsSpelling
