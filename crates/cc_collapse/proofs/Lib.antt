@@ -1,5 +1,6 @@
 pub mod NoPaths
 pub mod NewGlobals
+pub mod NewTables
 pub mod SpelledExprs
 pub mod SpelledLists
 pub mod KeepsSpelling
