@@ -1,6 +1,7 @@
 pub mod NoPaths
 pub mod NewGlobals
 pub mod NewTables
+pub mod NewDocs
 pub mod SpelledExprs
 pub mod SpelledLists
 pub mod KeepsSpelling

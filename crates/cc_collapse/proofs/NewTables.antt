@@ -1,14 +1,14 @@
 -- The tables of a flattened program: those that were there, but for the globals and for what is set.
-use Rattle.std.proofs.Common.{◌≡◌, refl, ℕ, zero, suc, ◌+◌, ◌-◌, ◌<◌, Bool, true, false, List, [], ◌∷◌, ◌++◌, length, map, Option, Some, None, is_some, subst, sym, ap, ◌∙◌, arith}
+use Rattle.std.proofs.Common.{◌≡◌, refl, ℕ, suc, ◌-◌, Bool, true, false, List, [], ◌∷◌, ◌++◌, map, Some, is_some, sym, ap, ◌∙◌}
 use Rattle.std.specs.Prelude.{slice_get}
 use Rattle.cc_ast.specs.Syntax.{Scope, Program}
 use Rattle.cc_ast.specs.declared.tables.GlobalInfo.{GlobalInfo}
-use Rattle.cc_meaning.specs.State.{Path, Head, Tables}
+use Rattle.cc_meaning.specs.State.{Path}
 use Rattle.cc_meaning.specs.Monad.{pick}
 use Rattle.cc_meaning.specs.Store.{of_chunk, global_kind, global_by, without_chunk, chunk_in}
 use Rattle.cc_meaning.specs.Typed.{Variable, global, variable_type, variable_doc, is_settled, is_param, global_doc, doc_at}
 use Rattle.cc_meaning.specs.Shapes.{tables_of, head_of, without_paths}
-use Rattle.cc_collapse.specs.Paths.{flat_paths, new_global, chunk_of_path, doc_of_path}
+use Rattle.cc_collapse.specs.Paths.{flat_paths, new_global, chunk_of_path}
 use Rattle.cc_collapse.specs.Flattening.{new_number, flat_scopes, flattened}
 use Rattle.cc_collapse.proofs.NewGlobals.{old_stands, new_stands}
 
