@@ -1,6 +1,7 @@
 -- Acts of two checked runs, where the left one excuses the right one by a broken rule; and changes of tied objects.
 use Rattle.std.proofs.Common.{◌≡◌, ◌≢◌, ◌⊎◌, inl, inr, ℕ, zero, suc, Bool, true, false, List, [], ◌∷◌, ◌++◌, length, Option, Some, None, is_some, refl, sym, ap, subst, ◌∙◌, arith}
-use Rattle.std.specs.Prelude.{slice_get, slice_set}
+use Rattle.std.specs.Prelude.{slice_get, slice_set, nat_eq}
+use Rattle.std.specs.List.{list_any}
 use Rattle.cc_ast.specs.Syntax.{Prim}
 use Rattle.cc_ast.specs.declared.tables.TypeSet.{TypeSet}
 use Rattle.cc_ast.specs.declared.tables.Element.{Element}
@@ -145,7 +146,7 @@ module _ (F : Facts) (S : Tables) (set' : Other S) where
   stopped_left r i m' s t ti le le' = broken_t tt
 
   -- in two states: where the left act breaks no rule, the right one breaks none
-  judged_at : {A B : Type 0} {Q : W → A → B → Type 0} {w : W} (i i' : Spot) (a a' : Act) (m : M A) (m' : M B) (s t : State) → (least_broken s.tables s a ≡ None → (least_broken t.tables t a' ≡ None) × ResT T Q w (m s) (m' t)) → ResT T Q w (judged checked i a m s) (judged checked i' a' m' t)
+  pub judged_at : {A B : Type 0} {Q : W → A → B → Type 0} {w : W} (i i' : Spot) (a a' : Act) (m : M A) (m' : M B) (s t : State) → (least_broken s.tables s a ≡ None → (least_broken t.tables t a' ≡ None) × ResT T Q w (m s) (m' t)) → ResT T Q w (judged checked i a m s) (judged checked i' a' m' t)
   unfolding judged allowed
   judged_at {Q = Q} {w = w} i i' a a' m m' s t h = by_rule (least_broken s.tables s a) refl
     where
@@ -211,6 +212,38 @@ module _ (F : Facts) (S : Tables) (set' : Other S) where
   add_t {w = w} x y h s t ti le le' =
       let q : Pair (Option Code) = record { label = x.code; left = length s.objs; right = length t.objs } in
       ok_t refl (record { l = w.l; r = w.r; w = with_obj w.w q }) (omega arith, omega arith, record { ext = ext_obj w.w q; still = refl; stage = refl }) tt (obj_t (x.code, here)) (add_tied x y ti h) le le'
+
+  -- ---- a chunk that is loaded
+
+  abbrev pub with_begun : Tabs → ℕ → Tabs
+  with_begun w c = record w { begun = c ∷ w.begun }
+
+  pub ext_begun : (w : Tabs) (c : ℕ) → Ext w (with_begun w c)
+  ext_begun w c = record { objs = λ q h. h; frames = λ q h. h; spare = λ q h. h; alone = λ q h. h; begun = λ d h. there h }
+
+  pub begun_now : {w : Tabs} {s t : State} → Tied w s t → (c : ℕ) → list_any (λ d. nat_eq d c) s.loaded ≡ true → Tied (with_begun w c) s t
+  begun_now {w = w} {s = s} ti c l = let e = ext_begun w c in record {
+    tables = ti.tables;
+    tables' = ti.tables';
+    objs = table_more ti.objs (obj_more F S e);
+    owned = ti.owned;
+    mated = ti.mated;
+    frames = table_more ti.frames (frame_more F S e);
+    globals = places_more (val_more e) ti.globals;
+    known = λ g h k. known_more e (ti.known g h k);
+    loaded = ti.loaded;
+    begun = λ d q. by_case d (in_cases q);
+    failed = ti.failed;
+    constructed = ti.constructed;
+    handles = list_as (λ m n o. mates_more e o) ti.handles;
+    replies = ti.replies;
+    budget = ti.budget;
+    extra = ti.extra;
+  }
+    where
+      by_case : (d : ℕ) → (d ≡ c) ⊎ In d w.begun → list_any (λ k. nat_eq k d) s.loaded ≡ true
+      by_case d (inl e) = rw e l
+      by_case d (inr q) = ti.begun d q
 
   -- ---- tied objects change
 

@@ -12,10 +12,11 @@ use Rattle.cc_meaning.specs.Judge.{Act, keeps, least_broken}
 use Rattle.cc_meaning.specs.Acts.{judged, allowed, refused, is_fatal, changing, set_global, keep, write_var}
 use Rattle.cc_meaning.specs.Meaning.{hoist_one, hoist}
 use Rattle.cc_meaning.specs.Script.{checked, top}
+use Rattle.cc_meaning.specs.Alike.{In}
 use Rattle.cc_tied.specs.Facts.{Held, holds_function, Facts}
 use Rattle.cc_tied.proofs.Lists.{place_cases, get_set_other}
 use Rattle.cc_tied.proofs.Parts.{list_as}
-use Rattle.cc_tied.proofs.Sim.{Tie, World, Sim, sim_bind, sim_ret}
+use Rattle.cc_tied.proofs.Sim.{Tie, World, Later, Sim, sim_bind, sim_ret}
 use Rattle.cc_tied.proofs.Runs.{IsExact}
 use Rattle.cc_tied.specs.Fine.{FineStmt, FineStmts}
 use Rattle.cc_tied.proofs.Kit.{Kit}
@@ -111,49 +112,53 @@ module _ (F : Facts) (S : Tables) (set' : Other S) where
         extra = set'.rider.both_set (view w s t) n fo u v ti.extra;
       }
 
-  abbrev Always : W → Type 0
-  Always v = Unit {0}
+  module _ (exact : IsExact T) (chunk : ℕ) where
+    -- the chunk is loaded
+    abbrev Loaded : W → Type 0
+    Loaded v = In chunk v.w.begun
 
-  module _ (exact : IsExact T) where
-    keep_bound : {w : W} (i i' : Spot) (n f : ℕ) {u v : Val} → MadeT w.w f u v → ((h : Held) → F.Known n h → h ≡ holds_function f) → (set'.Foreign n → ⊥) → Whole T Always (Nothing T) w (keep checked i (global n) u (set_global n u)) (keep checked i' (global n) v (set_global n v))
+    loaded_on : {w : W} → Loaded w → (v : W) → Later T w v → Loaded v
+    loaded_on b v l = l.2.ext.begun chunk b
+
+    keep_bound : {w : W} → Loaded w → (i i' : Spot) (n f : ℕ) {u v : Val} → MadeT w.w f u v → ((h : Held) → F.Known n h → h ≡ holds_function f) → (set'.Foreign n → ⊥) → Whole T Loaded (Nothing T) w (keep checked i (global n) u (set_global n u)) (keep checked i' (global n) v (set_global n v))
     unfolding keep changing ret least_broken
-    keep_bound {w = w} i i' n f {u = u} {v = v} m k fo =
+    keep_bound {w = w} lo i i' n f {u = u} {v = v} m k fo =
         whole_bind T {R = λ z a b. Vals z.w u v} (λ s t ti le le'. judged_whole i i' (keeps (global n) u) (keeps (global n) v) (changing (set_global n u)) (changing (set_global n v)) ti (λ q.
         let b = global_budget F S set' n u s in let b' = global_budget F S set' n v t in
         let e = ext_still w.w (slice_set s.globals n (Some u)) in
-        (keep_none F S set' ti (shared_global {n = n} fo) m.vals q, ok_w refl (record { l = w.l; r = w.r; w = with_still w.w (slice_set s.globals n (Some u)) }) (omega arith, omega arith) tt (val_more e _ _ m.vals) (function_bound ti n f m k fo) (omega arith) (omega arith)))) (λ z l _ _ _ h.
-        whole_of T {R = Nothing T} exact (λ z2 l2. tt) (received_t F S set' (shared_global {n = n} fo) h))
+        (keep_none F S set' ti (shared_global {n = n} fo) m.vals q, ok_w refl (record { l = w.l; r = w.r; w = with_still w.w (slice_set s.globals n (Some u)) }) (omega arith, omega arith) lo (val_more e _ _ m.vals) (function_bound ti n f m k fo) (omega arith) (omega arith)))) (λ z l lo2 _ _ h.
+        whole_of T {R = Nothing T} exact (loaded_on lo2) (received_t F S set' (shared_global {n = n} fo) h))
 
-    write_bound : {w : W} (i i' : Spot) (n f : ℕ) {u v : Val} → MadeT w.w f u v → ((h : Held) → F.Known n h → h ≡ holds_function f) → (set'.Foreign n → ⊥) → Whole T Always (Nothing T) w (write_var checked i top (Ref.Global n) u) (write_var checked i' top (Ref.Global n) v)
+    write_bound : {w : W} → Loaded w → (i i' : Spot) (n f : ℕ) {u v : Val} → MadeT w.w f u v → ((h : Held) → F.Known n h → h ≡ holds_function f) → (set'.Foreign n → ⊥) → Whole T Loaded (Nothing T) w (write_var checked i top (Ref.Global n) u) (write_var checked i' top (Ref.Global n) v)
     unfolding write_var
-    write_bound i i' n f m k fo s t ti le le' = keep_bound i i' n f m k fo s t ti le le'
+    write_bound lo i i' n f m k fo s t ti le le' = keep_bound lo i i' n f m k fo s t ti le le'
 
     -- a declaration of a function that is known of a global
-    pub binds_t : {w : W} (i : ℕ) {r : Ref} {f : ℕ} → StandI F (at None 0) f f → BindI F S set'.Foreign (at None 0) r f → Whole T Always (Nothing T) w (hoist_one checked top (fun_decl i r f)) (hoist_one checked top (fun_decl i r f))
+    pub binds_t : {w : W} → Loaded w → (i : ℕ) {r : Ref} {f : ℕ} → StandI F (at None 0) f f → BindI F S set'.Foreign (at None 0) r f → Whole T Loaded (Nothing T) w (hoist_one checked top (fun_decl i r f)) (hoist_one checked top (fun_decl i r f))
     unfolding hoist_one
-    binds_t i {f = f} st (binds_known {n = n} d k fo) =
-        whole_bind T {R = λ v. MadeT v.w f} (whole_of T exact (λ v l. tt) (function_made_t F S set' i i st (env_top F S set' {d = []} {d' = []} (record { keeps = λ g e. e })))) (λ v l _ x y m.
-        write_bound (at_site i) (at_site i) n f m k fo)
+    binds_t lo i {f = f} st (binds_known {n = n} d k fo) =
+        whole_bind T {R = λ v. MadeT v.w f} (whole_of T exact (loaded_on lo) (function_made_t F S set' i i st (env_top F S set' {d = []} {d' = []} (record { keeps = λ g e. e })))) (λ v l lo2 x y m.
+        write_bound lo2 (at_site i) (at_site i) n f m k fo)
 
     written_t : {w : W} (i : ℕ) {r : Ref} {f : ℕ} → StandI F (at None 0) f f → WriteI F S set'.Foreign (at None 0) r r → Sim T (Nothing T) w (hoist_one checked top (fun_decl i r f)) (hoist_one checked top (fun_decl i r f))
     unfolding hoist_one
     written_t i st wr = sim_bind T {R = λ v. Vals v.w} (function_t F S set' i i st (env_top F S set' {d = []} {d' = []} (record { keeps = λ g e. e }))) (λ v l x y h. write_var_t F S set' (at_site i) (at_site i) (env_top F S set' {d = []} {d' = []} (record { keeps = λ g e. e })) wr h)
 
-    one_bound : {w : W} (i : ℕ) (r : Ref) (f : ℕ) → BindsT K (at None 0) r f → StandI F (at None 0) f f → Whole T Always (Nothing T) w (hoist_one checked top (fun_decl i r f)) (hoist_one checked top (fun_decl i r f))
-    one_bound i r f (bound_by_write wr) st = whole_of T exact (λ v l. tt) (written_t i st wr)
-    one_bound i r f (bound_alone h) st = binds_t i st h
+    one_bound : {w : W} → Loaded w → (i : ℕ) (r : Ref) (f : ℕ) → BindsT K (at None 0) r f → StandI F (at None 0) f f → Whole T Loaded (Nothing T) w (hoist_one checked top (fun_decl i r f)) (hoist_one checked top (fun_decl i r f))
+    one_bound lo i r f (bound_by_write wr) st = whole_of T exact (loaded_on lo) (written_t i st wr)
+    one_bound lo i r f (bound_alone h) st = binds_t lo i st h
 
-    none_bound : {w : W} (s : Stmt) → declares_function s ≡ false → Whole T Always (Nothing T) w (hoist_one checked top s) (hoist_one checked top s)
-    none_bound s e = rw (hoists_nothing checked top s e) (whole_of T exact (λ v l. tt) (sim_ret T tt tt tt))
+    none_bound : {w : W} → Loaded w → (s : Stmt) → declares_function s ≡ false → Whole T Loaded (Nothing T) w (hoist_one checked top s) (hoist_one checked top s)
+    none_bound lo s e = rw (hoists_nothing checked top s e) (whole_of T exact (loaded_on lo) (sim_ret T tt tt tt))
 
     module _ (Stands : Standing Ctx) where
-      statement_bound : {w : W} (s : Stmt) → FineStmt Ctx (R.allowed K Stands) (at None 0) [] s → Whole T Always (Nothing T) w (hoist_one checked top s) (hoist_one checked top s)
+      statement_bound : {w : W} → Loaded w → (s : Stmt) → FineStmt Ctx (R.allowed K Stands) (at None 0) [] s → Whole T Loaded (Nothing T) w (hoist_one checked top s) (hoist_one checked top s)
       unfolding FineStmt declares_function
-      statement_bound (fun_decl i r f) o = one_bound i r f o.0 o.1
-      statement_bound s o = none_bound s refl
+      statement_bound lo (fun_decl i r f) o = one_bound lo i r f o.0 o.1
+      statement_bound lo s o = none_bound lo s refl
 
       -- the functions of a chunk's own list
-      pub list_bound : {w : W} (ss : Stmts) → FineStmts Ctx (R.allowed K Stands) (at None 0) [] ss → Whole T Always (Nothing T) w (hoist checked top ss) (hoist checked top ss)
+      pub list_bound : {w : W} → Loaded w → (ss : Stmts) → FineStmts Ctx (R.allowed K Stands) (at None 0) [] ss → Whole T Loaded (Nothing T) w (hoist checked top ss) (hoist checked top ss)
       unfolding hoist FineStmt
-      list_bound no_stmts o = whole_of T exact (λ v l. tt) (sim_ret T tt tt tt)
-      list_bound (more_stmts s ss) o = whole_bind T {R = Nothing T} (statement_bound s o.1) (λ v l _ _ _ _. list_bound ss o.2)
+      list_bound lo no_stmts o = whole_of T exact (loaded_on lo) (sim_ret T tt tt tt)
+      list_bound lo (more_stmts s ss) o = whole_bind T {R = Nothing T} (statement_bound lo s o.1) (λ v l lo2 _ _ _. list_bound lo2 ss o.2)

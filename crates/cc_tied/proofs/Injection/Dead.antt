@@ -205,4 +205,4 @@ module _ (F : Facts) (S : Tables) (set' : Other S) where
 
     pub idle_goes_of_chunk : {s : Stmt} {ss ss' : Stmts} → Idle X (at None 0) [] s → FollowsChunk K X n ss ss' → FollowsChunk K X n (more_stmts s ss) ss'
     unfolding ex_chunk
-    idle_goes_of_chunk {s = s} h k = record { by = λ v l q. L.rel_left T tt (silent_tables F S set' _ (h.by v l _ _ (Rattle.cc_tied.proofs.Injection.Tie.env_top F S set' (record { keeps = λ f e. e })))) (λ v2 l2 x e. go_on X (at None 0) (k.by v2 (later T l l2) q) x e) }
+    idle_goes_of_chunk {s = s} h k = record { by = λ v l q. L.rel_left T tt (silent_tables F S set' _ (h.by v l _ _ (Rattle.cc_tied.proofs.Injection.Tie.env_top F S set' (record { keeps = λ f e. e })))) (λ v2 l2 x e. go_on X (at None 0) (k.by v2 (later T l l2) (K.loaded_later l2 q)) x e) }

@@ -26,6 +26,7 @@ use Rattle.cc_tied.proofs.RightRuns.{Gives, gives_broken, gives_ret}
 use Rattle.cc_tied.proofs.Injection.Table.{in_cases, table_more}
 use Rattle.cc_tied.proofs.Injection.Places.{places_more}
 use Rattle.cc_tied.proofs.Injection.World.{Tabs, Ext, ext_same, mates_more, Vals, val_more, KnownT, function_k, known_more, obj_more, frame_more}
+use Rattle.cc_tied.proofs.Injection.Acts.{with_begun, ext_begun, begun_now}
 use Rattle.cc_tied.proofs.Injection.Tie.{Other, ExtI, Given, ArgI, with_set, TiedI}
 use Rattle.cc_tied.proofs.Injection.Rules.{least_none, unless_none}
 use Rattle.cc_tied.proofs.Injection.Frames.{undefined_tied}
@@ -139,36 +140,6 @@ module _ (F : Facts) (S : Tables) (set' : Other S) where
   pub back_now : {A : Type 0} {Q : Tabs → A → Type 0} {w : Tabs} {s t : State} (x : A) → Tied w s t → Q w x → Back Q w s t x
   back_now {w = w} x ti q = record { world = w; ext = record { ext = ext_same w; still = refl; stage = refl }; tied = ti; says = q }
 
-  abbrev with_begun : Tabs → ℕ → Tabs
-  with_begun w c = record w { begun = c ∷ w.begun }
-
-  ext_begun : (w : Tabs) (c : ℕ) → Ext w (with_begun w c)
-  ext_begun w c = record { objs = λ q h. h; frames = λ q h. h; spare = λ q h. h; alone = λ q h. h; begun = λ d h. there h }
-
-  begun_now : {w : Tabs} {s t : State} → Tied w s t → (c : ℕ) → list_any (λ d. nat_eq d c) s.loaded ≡ true → Tied (with_begun w c) s t
-  begun_now {w = w} {s = s} ti c l = let e = ext_begun w c in record {
-    tables = ti.tables;
-    tables' = ti.tables';
-    objs = table_more ti.objs (obj_more F S e);
-    owned = ti.owned;
-    mated = ti.mated;
-    frames = table_more ti.frames (frame_more F S e);
-    globals = places_more (val_more e) ti.globals;
-    known = λ g h k. known_more e (ti.known g h k);
-    loaded = ti.loaded;
-    begun = λ d q. by_case d (in_cases q);
-    failed = ti.failed;
-    constructed = ti.constructed;
-    handles = list_as (λ m n o. mates_more e o) ti.handles;
-    replies = ti.replies;
-    budget = ti.budget;
-    extra = ti.extra;
-  }
-    where
-      by_case : (d : ℕ) → (d ≡ c) ⊎ In d w.begun → list_any (λ k. nat_eq k d) s.loaded ≡ true
-      by_case d (inl e) = rw e l
-      by_case d (inr q) = ti.begun d q
-
   -- the value of the left run at such a global
   left_held : {w : Tabs} {s t : State} {x : Val} {n f : ℕ} → Tied w s t → F.Known n (holds_function f) → (F.Unread n → ⊥) → Vals w x (or_undefined (global_value t n)) → x ≡ or_undefined (flat_option (slice_get w.still n))
   left_held ti k u c = val_one F S set' ti c (undefined_tied (still_tied ti k u))
@@ -187,9 +158,9 @@ module _ (F : Facts) (S : Tables) (set' : Other S) where
       let p : x ≡ or_undefined (flat_option (slice_get w.still n)) = left_held ti k u q in
       let free : take_rule Right (global n) true (is_some (flat_option (slice_get w.still n))) ≡ None = ap (λ z. take_rule Right (global n) true z) (sym (set_same F S set' (still_tied ti k u))) ∙ d in
       record {
-        world = with_begun w c;
-        ext = record { ext = ext_begun w c; still = refl; stage = refl };
-        tied = begun_now ti c (loaded_left ti c ld);
+        world = with_begun F S set' w c;
+        ext = record { ext = ext_begun F S set' w c; still = refl; stage = refl };
+        tied = begun_now F S set' ti c (loaded_left ti c ld);
         says = record {
           by = λ z l s2 t2 ti2 B.
               subst (λ y. Given F S set' z t2 B h (var i (Ref.Global n)) y) (sym (p ∙ ap (λ y. or_undefined (flat_option (slice_get y n))) l.still))

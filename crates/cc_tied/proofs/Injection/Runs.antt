@@ -5,6 +5,7 @@ use Rattle.cc_meaning.specs.Shapes.{tables_of, body_of}
 use Rattle.cc_meaning.specs.Meaning.{hoist, bodies}
 use Rattle.cc_meaning.specs.Script.{graph_of, checked, top}
 use Rattle.cc_meaning.specs.Same.{Same}
+use Rattle.cc_meaning.specs.Alike.{In}
 use Rattle.cc_tied.specs.Facts.{Facts}
 use Rattle.cc_tied.specs.Fine.{FineStmts}
 use Rattle.cc_tied.proofs.Kit.{Kit}
@@ -32,7 +33,7 @@ module _ (F : Facts) (P Q : Program) (same : SameButSet P Q) (Stands : Standing 
 
   whole_chunks : BoundT → WholeChunksT (pair_tie F P Q same) (exact F P Q same) (upkeep F (tables_of P) (same_right (tables_of P) (tables_of Q).set)) P Q (IsChunk (graph_of P))
   whole_chunks h = record {
-    binds = λ c q w l. subst (λ z. Whole (pair_tie F P Q same) (λ v. Unit {0}) (Nothing (pair_tie F P Q same)) w (hoist checked top (body_of P c)) z) (sym (h.hoists c q)) (list_bound F (tables_of P) (same_right (tables_of P) (tables_of Q).set) (exact F P Q same) Stands (body_of P c) (h.fine c q));
+    binds = λ c q w l. subst (λ z. Whole (pair_tie F P Q same) (λ v. In c v.w.begun) (Nothing (pair_tie F P Q same)) w (hoist checked top (body_of P c)) z) (sym (h.hoists c q)) (list_bound F (tables_of P) (same_right (tables_of P) (tables_of Q).set) (exact F P Q same) c Stands l (body_of P c) (h.fine c q));
     runs = h.runs;
   }
 

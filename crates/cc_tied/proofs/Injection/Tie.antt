@@ -24,7 +24,7 @@ use Rattle.cc_tied.specs.Injection.{Pair, Lone, Table}
 use Rattle.cc_tied.proofs.Sim.{Tie, World, PayT, both_pay, neither, excuse}
 use Rattle.cc_tied.proofs.Equality.EqualModes.{SameEnd, same_end}
 use Rattle.cc_tied.proofs.Injection.Places.{Places}
-use Rattle.cc_tied.proofs.Injection.World.{Tabs, Ext, ext_same, ext_on, Mates, Mate, AllMated, mates_more, Vals, val_more, opt_more, UpT, no_up, up_more, FunI, Codes, ObjT, FrameT, KnownT}
+use Rattle.cc_tied.proofs.Injection.World.{Once, Tabs, Ext, ext_same, ext_on, Mates, Mate, AllMated, mates_more, Vals, val_more, opt_more, UpT, no_up, up_more, FunI, Codes, ObjT, FrameT, KnownT}
 
 -- what stays tied, while functions are bound to no global
 pub record ExtI (v w : Tabs) : Type 0 where
@@ -102,13 +102,14 @@ pub record View : Type 0 where
   pub right : List Obj
   pub values : List (Option Val)
   pub values' : List (Option Val)
-  pub stage : List (ℕ × ℕ)
+  pub stage : List Once
+  pub loaded : List ℕ
 
 abbrev pub view : Tabs → State → State → View
-view w s t = record { pairs = w.objs; spare = w.spare; left = s.objs; right = t.objs; values = s.globals; values' = t.globals; stage = w.stage }
+view w s t = record { pairs = w.objs; spare = w.spare; left = s.objs; right = t.objs; values = s.globals; values' = t.globals; stage = w.stage; loaded = s.loaded }
 
 -- What else is tied of two states, where no value leads to it: it stays where the runs make objects,
--- change objects of a pair or of the left alone, and set globals that aren't foreign.
+-- change objects of a pair or of the left alone, set globals that aren't foreign, and begin to load a chunk.
 pub record Rider (Foreign : ℕ → Type 0) : Type 1 where
   pub Rides : View → Type 0
   pub both_made : (v : View) (c : Option Code) (x y : Obj) → Rides v → Rides (record v { pairs = record { label = c; left = length v.left; right = length v.right } ∷ v.pairs; left = v.left ++ x ∷ []; right = v.right ++ y ∷ [] })
@@ -120,9 +121,10 @@ pub record Rider (Foreign : ℕ → Type 0) : Type 1 where
   pub any_changed : (v : View) (n : ℕ) (o x : Obj) → slice_get v.left n ≡ Some o → x ≡ record o { wanted = x.wanted } → Rides v → Rides (record v { left = slice_set v.left n x })
   pub both_set : (v : View) (n : ℕ) → (Foreign n → ⊥) → (x y : Val) → Rides v → Rides (record v { values = slice_set v.values n (Some x); values' = slice_set v.values' n (Some y) })
   pub left_set : (v : View) (n : ℕ) → (Foreign n → ⊥) → (x : Val) → Rides v → Rides (record v { values = slice_set v.values n (Some x) })
+  pub loading : (v : View) (c : ℕ) → Rides v → Rides (record v { loaded = v.loaded ++ c ∷ [] })
 
 abbrev pub no_rider : {Foreign : ℕ → Type 0} → Rider Foreign
-no_rider = record { Rides = λ v. Unit {0}; both_made = λ v c x y h. h; spare_made = λ v x h. h; left_made = λ v x h. h; both_changed = λ v p i x y h. h; left_changed = λ v p i x h. h; spare_changed = λ v a i x h. h; any_changed = λ v n o x e d h. h; both_set = λ v n f x y h. h; left_set = λ v n f x h. h }
+no_rider = record { Rides = λ v. Unit {0}; both_made = λ v c x y h. h; spare_made = λ v x h. h; left_made = λ v x h. h; both_changed = λ v p i x y h. h; left_changed = λ v p i x h. h; spare_changed = λ v a i x h. h; any_changed = λ v n o x e d h. h; both_set = λ v n f x y h. h; left_set = λ v n f x h. h; loading = λ v c h. h }
 
 -- The tables of the right program: the left one's, but for the functions that globals and paths are
 -- set to, and for globals, of which some are foreign; and the flat paths that stay.
@@ -308,13 +310,13 @@ module _ (F : Facts) (S : Tables) (set' : Other S) where
     KeyT = λ w x. KeyI;
     UpT = λ w f f' a b. UpT F S w (outward F S (called f)) a b;
     EnvT = λ c w. EnvI w c;
-    LoadedT = λ w c. Unit {0};
+    LoadedT = λ w c. In c w.begun;
     O_later = λ l h. mates_more l.ext h;
     new_later = λ l h. val_more l.ext _ _ h;
     key_later = λ l h. h;
     up_later = λ l h. up_more F S l.ext h;
     env_later = λ l h. env_more l h;
-    loaded_later = λ l h. h;
+    loaded_later = λ l h. l.ext.begun _ h;
     new_value = λ h. h;
     runs_code = λ h. h;
     key_runtime = λ x v e. same_key;

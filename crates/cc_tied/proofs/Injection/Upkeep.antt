@@ -2,6 +2,7 @@
 use Rattle.std.proofs.Common.{◌≡◌, ℕ, ◌+◌, ◌≤◌, Bool, true, false, List, [], ◌∷◌, ◌++◌, Option, Some, None, refl, sym, ap, subst, ◌∙◌, arith}
 use Rattle.std.specs.Prelude.{slice_get, nat_eq, not, ◌&&◌, ◌||◌}
 use Rattle.std.specs.List.{list_any}
+use Rattle.std.proofs.lemmas.Bool.{eq-eqb}
 use Rattle.cc_ast.specs.Syntax.{Prim, undefined}
 use Rattle.cc_meaning.specs.Values.{Val, prim, obj, out, handle, Spot}
 use Rattle.cc_meaning.specs.Operators.{is_in}
@@ -15,6 +16,7 @@ use Rattle.cc_meaning.specs.Judge.{reads, writes, hosts, least_broken}
 use Rattle.cc_meaning.specs.Acts.{judged, changing, cast_to, read_slot, write_slot, next_place, handle_of, shown, show}
 use Rattle.cc_meaning.specs.Calls.{code_at, prim_member, take_path, keep_path}
 use Rattle.cc_meaning.specs.Script.{checked, deps_of, dependency_failed, note_load}
+use Rattle.cc_meaning.specs.Alike.{In, here}
 use Rattle.cc_tied.specs.Tied.{ListT, nil_t, cons_t, OptT, ValT, prim_t, out_t, obj_t, WayT, leaving, loading}
 use Rattle.cc_tied.specs.Facts.{Facts}
 use Rattle.cc_tied.proofs.Parts.{list_on}
@@ -25,10 +27,10 @@ use Rattle.cc_tied.proofs.Equality.EqualModes.{same_end, paid_sum}
 use Rattle.cc_tied.proofs.Turns.{member_tied}
 use Rattle.cc_tied.proofs.Upkeep.{Upkeep, kit}
 use Rattle.cc_tied.proofs.Injection.World.{Tabs, Mates, Vals, same_kind, Codes}
-use Rattle.cc_tied.proofs.Injection.Tie.{Other, KeyI, same_key, with_set, TiedI, with_budget, once, inject}
+use Rattle.cc_tied.proofs.Injection.Tie.{view, Other, KeyI, same_key, with_set, TiedI, with_budget, once, inject}
 use Rattle.cc_tied.proofs.Injection.Rules.{name_same, any_dotted}
 use Rattle.cc_tied.proofs.Injection.Objects.{code_at_tied, chain_of_tied, slots_on_tied}
-use Rattle.cc_tied.proofs.Injection.Acts.{judged_in, judged_i, stopped_left, at_of}
+use Rattle.cc_tied.proofs.Injection.Acts.{judged_in, judged_i, stopped_left, at_of, with_begun, ext_begun, begun_now}
 use Rattle.cc_tied.proofs.Injection.Made.{any_front, object_t, array_t, function_t, instance_t}
 use Rattle.cc_tied.proofs.Injection.Store.{read_none, read_slot_t, method_same, method_read_t}
 use Rattle.cc_tied.proofs.Injection.Writes.{out_none, write_slot_t, write_t}
@@ -117,14 +119,25 @@ module _ (F : Facts) (S : Tables) (set' : Other S) where
   still_loaded : (s : State) (c d : ℕ) → list_any (λ k. nat_eq k d) s.loaded ≡ true → list_any (λ k. nat_eq k d) (s.loaded ++ c ∷ []) ≡ true
   still_loaded s c d e = any_front (λ k. nat_eq k d) s.loaded (c ∷ []) e
 
-  load_t : {w : W} (c : ℕ) → Sim T Done w (changing (note_load c)) (changing (note_load c))
+  any_last : (xs : List ℕ) (c : ℕ) → list_any (λ d. nat_eq d c) (xs ++ c ∷ []) ≡ true
+  any_last [] c = rw (eq-eqb c c refl) refl
+  any_last (x ∷ xs) c = by_first (nat_eq x c) (any_last xs c)
+    where
+      by_first : (b : Bool) → list_any (λ d. nat_eq d c) (xs ++ c ∷ []) ≡ true → b || list_any (λ d. nat_eq d c) (xs ++ c ∷ []) ≡ true
+      by_first true h = refl
+      by_first false h = h
+
+  loaded_tied : {w : Tabs} {s t : State} (c : ℕ) → Tied w s t → Tied w (record s { loaded = s.loaded ++ c ∷ [] }) (record t { loaded = t.loaded ++ c ∷ [] })
+  loaded_tied {w = w} {s = s} {t = t} c ti = record { tables = ti.tables; tables' = ti.tables'; objs = ti.objs; owned = ti.owned; mated = ti.mated; frames = ti.frames; globals = ti.globals; known = ti.known; loaded = ap (λ z. z ++ c ∷ []) ti.loaded; begun = λ d q. still_loaded s c d (ti.begun d q); failed = ti.failed; constructed = ti.constructed; handles = ti.handles; replies = ti.replies; budget = ti.budget; extra = set'.rider.loading (view w s t) c ti.extra }
+
+  load_t : {w : W} (c : ℕ) → Sim T (λ v a b. In c v.w.begun) w (changing (note_load c)) (changing (note_load c))
   unfolding changing note_load ret
-  load_t c s t ti le le' = fine T tt tt tt (record { tables = ti.tables; tables' = ti.tables'; objs = ti.objs; owned = ti.owned; mated = ti.mated; frames = ti.frames; globals = ti.globals; known = ti.known; loaded = ap (λ z. z ++ c ∷ []) ti.loaded; begun = λ d q. still_loaded s c d (ti.begun d q); failed = ti.failed; constructed = ti.constructed; handles = ti.handles; replies = ti.replies; budget = ti.budget; extra = ti.extra }) le le'
+  load_t {w = w} c s t ti le le' = ok_t refl (record { l = w.l; r = w.r; w = with_begun F S set' w.w c }) (omega arith, omega arith, record { ext = ext_begun F S set' w.w c; still = refl; stage = refl }) tt here (begun_now F S set' (loaded_tied c ti) c (any_last s.loaded c)) le le'
 
   host_none : {w : Tabs} {s t : State} → Tied w s t → (given : Bool) (b b' c c' : Bool) → b ≡ b' → c ≡ c' → rule_unless (given && b && not c) 13 ≡ None → rule_unless (given && b' && not c') 13 ≡ None
   host_none ti given b b' c c' e d h = rw (← e, ← d) h
 
-  loading_t : {w : W} (i i' : Spot) (c : ℕ) → Sim T Done w (loading checked i c) (loading checked i' c)
+  loading_t : {w : W} (i i' : Spot) (c : ℕ) → Sim T (λ v a b. In c v.w.begun) w (loading checked i c) (loading checked i' c)
   unfolding least_broken host_rule names_well
   loading_t i i' c s t ti le le' = judged_in F S set' i i' (hosts true None None (dependency_failed s c)) (hosts true None None (dependency_failed t c)) (changing (note_load c)) (changing (note_load c)) ti (λ e. (host_none ti true true true (dependency_failed s c) (dependency_failed t c) refl (failed_same ti c) e, load_t c s t ti le le'))
 

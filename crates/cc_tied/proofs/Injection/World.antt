@@ -21,6 +21,13 @@ pub record Label : Type 0 where
   pub up' : Option ℕ
   pub first : List (Option Val)
 
+-- An object of the left and one of the right that stand in no pair, which a chunk's own list made once for
+-- all; and what for.
+pub record Once : Type 0 where
+  pub mark : ℕ
+  pub left : ℕ
+  pub right : ℕ
+
 -- Objects are labelled with the left one's code. Of the left run alone there are objects that aren't
 -- functions, and frames, which stay as they are. Known globals hold what `still` says, until functions
 -- are bound to them anew; and chunks of which `begun` says so are loaded.
@@ -31,8 +38,8 @@ pub record Tabs : Type 0 where
   pub alone : List (Lone Frame)
   pub still : List (Option Val)
   pub begun : List ℕ
-  -- what a chunk's own list did once for all, and the object that it did it with
-  pub stage : List (ℕ × ℕ)
+  -- what chunks' own lists made once for all
+  pub stage : List Once
 
 -- what is tied stays tied
 pub record Ext (v w : Tabs) : Type 0 where

@@ -1,0 +1,4 @@
+//! Flattening: accesses on namespaces become variables.
+#![tactic(auto)]
+
+pub mod laws;
