@@ -1,5 +1,5 @@
 -- The objects after a value was received by a type: an array has its element type entered.
-use Rattle.std.specs.Prelude.{◌≡◌, List, Option, Some, None, slice_get}
+use Rattle.std.specs.Prelude.{◌≡◌, [], ◌∷◌, List, Option, Some, None, slice_get}
 use Rattle.cc_ast.specs.declared.tables.Element.{Element}
 use Rattle.cc_ast.specs.declared.tables.TypeSet.{TypeSet}
 use Rattle.cc_meaning.specs.Values.{Val, prim, obj, out}
@@ -22,3 +22,8 @@ pub record SparesObjects (f : State → State) : Type 0 where
   pub tables : (s : State) → (f s).tables ≡ s.tables
   pub objs : (s : State) → (f s).objs ≡ s.objs
   pub apart : (s : State) (os : List Obj) → f (record s { objs = os }) ≡ record (f s) { objs = os }
+
+-- the same by each of these types in turn
+unfoldable pub received_all : List TypeSet → Val → List Obj → List Obj
+received_all [] v os = os
+received_all (t ∷ ts) v os = received_all ts v (received (Some t) v os)
