@@ -7,3 +7,4 @@ pub mod Handles
 pub mod Operating
 pub mod Making
 pub mod FieldLaws
+pub mod SlotLaws

@@ -15,9 +15,10 @@ ghost use Rattle.cc_acts.specs.Received.{received_all};
 use crate::receives::receive;
 use cc_ast::program::Program;
 use cc_ast::tables::Class;
+use cc_ast::units::Units;
 use cc_conform::act::Access;
 use cc_conform::docs::value_type;
-use cc_conform::names::is_kept;
+use cc_conform::names::{is_kept, name_of};
 use cc_heap::heap::Heap;
 use cc_value::texts;
 use cc_value::value::Value;
@@ -100,9 +101,8 @@ fn is_dot(key: &Access) -> bool
     }
 }
 
-/// The field that an access reaches receives or gives a value. Of a value that is no object nothing
-/// is entered.
-pub fn receive_field(
+// The field that is reached by this key, which means this name.
+fn receive_field(
     program: &Program,
     heap: &mut Heap,
     object: usize,
@@ -113,9 +113,6 @@ pub fn receive_field(
     requires { name.now ≡ Store.name_of (tables_of program.now) (access_of key.now) }
     ensures { OnOk result (heap.new ≡ record heap.old { objs = received_all (SlotRules.fields_reached (tables_of program.now) heap.old.objs object (access_of key.now)) (value_of value.now) heap.old.objs }) }
 {
-    let Value::Object(_) = value else {
-        return Ok(());
-    };
     let is_reached = is_kept(program, name) | is_dot(key);
     if !is_reached {
         return Ok(());
@@ -124,4 +121,25 @@ pub fn receive_field(
         Some(class) => receive_in_classes(program, heap, class, name, value),
         None => Ok(()),
     }
+}
+
+/// The field that an access reaches receives or gives a value. Of a value that is no object nothing
+/// is entered.
+pub fn receive_reached(
+    program: &Program,
+    heap: &mut Heap,
+    object: usize,
+    key: &Access,
+    value: &Value,
+) -> Result<(), AllocError>
+    ensures { OnOk result (heap.new ≡ record heap.old { objs = received_all (SlotRules.fields_reached (tables_of program.now) heap.old.objs object (access_of key.now)) (value_of value.now) heap.old.objs }) }
+{
+    let Value::Object(_) = value else {
+        return Ok(());
+    };
+    let none = Units {
+        list: Vec::new(heap.allocator()),
+    };
+    let name = name_of(program, key, &none).list.as_slice();
+    receive_field(program, heap, object, key, name, value)
 }

@@ -15,6 +15,7 @@ pub mod reads;
 pub mod receives;
 pub mod script;
 pub mod setting;
+pub mod slots;
 pub mod state;
 pub mod stop;
 pub mod views;

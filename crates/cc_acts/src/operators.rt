@@ -2,6 +2,7 @@
 
 ghost use Rattle.std.specs.Prelude.{◌≡◌, ◌≢◌, ℕ, List, nat_le};
 ghost use Rattle.cc_ast.specs.declared.operator.BinOp.{BinOp};
+ghost use Rattle.cc_ast.specs.declared.operator.UnOp.{UnOp};
 ghost use Rattle.cc_meaning.specs.Acts as Acts;
 ghost use Rattle.cc_meaning.specs.Acts.{is_fatal, judged, outcome_value};
 ghost use Rattle.cc_meaning.specs.Judge.{Act, least_broken};
@@ -56,4 +57,68 @@ fn operate_values(
 {
     let answer = binary(state.heap.allocator(), op, left, right);
     settle_answer(setting.plain, spot, answer)
+}
+
+// `instanceof` (ECMA-262 5.1, 11.8.6).
+fn operate_instance(
+    setting: &Setting,
+    state: &State,
+    spot: Spot,
+    left: &Value,
+    right: &Value,
+) -> Result<Value, Stop>
+    ensures { (rs : List Reply) → let s = state_of setting.now.program.now rs state.now in Comes value_of result s (Acts.operate (mode_of setting.now.plain) (spot_of spot) BinOp.Instance (value_of left.now) (value_of right.now) s) }
+{
+    match state.heap.instance(left, right) {
+        Ok(answer) => Ok(Value::Truth(answer)),
+        Err(op_fault) => Err(stop_by(setting.plain, spot, op_fault)),
+    }
+}
+
+// `typeof` (ECMA-262 5.1, 11.4.3).
+fn operate_typeof(
+    setting: &Setting,
+    state: &State,
+    spot: Spot,
+    value: &Value,
+) -> Result<Value, Stop>
+    ensures { (rs : List Reply) → let s = state_of setting.now.program.now rs state.now in Comes value_of result s (Acts.operate_one (mode_of setting.now.plain) (spot_of spot) UnOp.Typeof (value_of value.now) s) }
+{
+    match state.heap.type_name(value) {
+        Ok(name) => Ok(Value::Text(name)),
+        Err(op_fault) => Err(stop_by(setting.plain, spot, op_fault)),
+    }
+}
+
+// A unary operator that needs no heap.
+fn operate_value(
+    setting: &Setting,
+    state: &State,
+    spot: Spot,
+    op: UnOp,
+    value: &Value,
+) -> Result<Value, Stop>
+    requires no_delete { op ≢ UnOp.Delete }
+    requires no_type { op ≢ UnOp.Typeof }
+    ensures { (rs : List Reply) → let s = state_of setting.now.program.now rs state.now in Comes value_of result s (Acts.operate_one (mode_of setting.now.plain) (spot_of spot) op (value_of value.now) s) }
+{
+    let answer = unary(state.heap.allocator(), op, value);
+    settle_answer(setting.plain, spot, answer)
+}
+
+/// A unary operator on a value. `delete` is none.
+pub fn operate_one(
+    setting: &Setting,
+    state: &State,
+    spot: Spot,
+    op: UnOp,
+    value: &Value,
+) -> Result<Value, Stop>
+    requires { op ≢ UnOp.Delete }
+    ensures { (rs : List Reply) → let s = state_of setting.now.program.now rs state.now in Comes value_of result s (Acts.operate_one (mode_of setting.now.plain) (spot_of spot) op (value_of value.now) s) }
+{
+    match op {
+        UnOp::Typeof => operate_typeof(setting, state, spot, value),
+        _ => operate_value(setting, state, spot, op, value),
+    }
 }

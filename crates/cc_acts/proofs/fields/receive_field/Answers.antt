@@ -8,12 +8,8 @@ use Rattle.cc_meaning.specs.Store.{is_kept, name_of}
 use Rattle.cc_meaning.specs.Typed.{field_types, fields_of_class}
 use Rattle.cc_value.specs.Bridge.{value_of}
 use Rattle.cc_acts.specs.Received.{received_all}
-use Rattle.cc_acts.proofs.FieldLaws.{nothing-entered, nothing-received, all-received, no-obj}
+use Rattle.cc_acts.proofs.FieldLaws.{nothing-received, all-received}
 use Rattle.cc_acts.proofs.fields.receive_field.Goals as goal
-
-pub returns-in_default : goal.returns-in_default
-returns-in_default c =
-    ap (λ (os : List Obj). record c.args.heap.now { objs = os }) (nothing-entered (value_of c.args.value.now) (no-obj c.args.value.now c.in_default.not-Object) (fields_reached (tables_of c.args.program.now) c.args.heap.now.objs c.args.object (access_of c.args.key.now)) c.args.heap.now.objs)
 
 pub returns-then-not-is_reached : goal.returns-then-not-is_reached
 unfolding fields_reached
