@@ -4,5 +4,5 @@ pub mod ExpressionSteps
 pub mod StatementSteps
 pub mod FrameSteps
 pub mod Steps
-pub mod Verdicts
 pub mod Promises
+pub mod Frames
