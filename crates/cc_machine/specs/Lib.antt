@@ -6,3 +6,4 @@ pub mod FrameSteps
 pub mod Steps
 pub mod Promises
 pub mod Frames
+pub mod Shown

@@ -4,8 +4,12 @@
 ghost use Rattle.cc_acts.specs.Verdicts.{VerdictLaws};
 ghost use Rattle.cc_machine.specs.Promises.{MachineMeans, MachineAnswers, LoopLaws};
 
+mod focus;
 mod frame;
+mod gives;
+mod machine;
 mod reach;
+mod wants;
 
 /// From its start the machine comes to the end that the meaning says, in every mode, for every
 /// program, script and budget.
