@@ -2,3 +2,9 @@ pub mod Judging
 pub mod Outer
 pub mod Variables
 pub mod FrameLaws
+pub mod Budgets
+pub mod Handles
+pub mod Operating
+pub mod Making
+pub mod FieldLaws
+pub mod SlotLaws

@@ -1,12 +1,14 @@
 -- What stands in the meaning for the state of src/, and what the answer of an act says.
-use Rattle.std.specs.Prelude.{◌≡◌, List, [], Option, Some, None, Result, Ok, Err, ⊤, map}
+use Rattle.std.specs.Prelude.{◌≡◌, ℕ, List, [], Option, Some, None, Result, Ok, Err, ⊤, map}
 use Rattle.std.specs.Option.{option_map}
 use Rattle.cc_ast.specs.Syntax.{Program}
 use Rattle.cc_value.specs.Bridge.{value_of}
 use Rattle.cc_meaning.specs.Values.{Spot, at_site, at_turn}
 use Rattle.cc_meaning.specs.State.{Reply, State}
-use Rattle.cc_meaning.specs.Monad.{End, spent, waits, broken, strayed, Res, ok, over}
+use Rattle.cc_meaning.specs.Monad.{End, spent, waits, broken, strayed, Res, ok, over, Mode}
 use Rattle.cc_meaning.specs.Shapes.{tables_of}
+use Rattle.cc_value.specs.declared.value.OpFault.{OpFault}
+use Rattle.cc_value.specs.declared.value.OpFault.TheVariants.{Rule1, Rule2}
 use Rattle.cc_acts.specs.declared.stop.Spot as spots
 use Rattle.cc_acts.specs.declared.stop.Spot.TheVariants.{Site, Turn}
 use Rattle.cc_acts.specs.declared.stop.End as ends
@@ -52,3 +54,14 @@ abbrev pub Comes : {A B : Type 0} → (A → B) → Result A Stop → State → 
 Comes f (Ok a) s r = r ≡ ok [] (f a) s
 Comes f (Err (Ended e)) s r = r ≡ over [] (ended e)
 Comes f (Err Memory) s r = ⊤
+
+-- the run ends at an act for which there is no value to go on with
+abbrev pub StopsAt : Stop → Mode → (rule : ℕ) → Spot → Type 0
+StopsAt (Ended e) J r i = ended e ≡ J.fault r i
+StopsAt Memory J r i = ⊥
+
+-- the same by what an operator answered
+abbrev pub StopsBy : OpFault → Stop → Mode → Spot → Type 0
+StopsBy Rule1 x J i = StopsAt x J 1 i
+StopsBy Rule2 x J i = StopsAt x J 2 i
+StopsBy OpFault.Memory x J i = x ≡ Memory

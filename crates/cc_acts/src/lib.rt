@@ -4,11 +4,19 @@
 #![tactic(auto)]
 
 pub mod copies;
+pub mod costs;
+pub mod fields;
 pub mod frames;
 pub mod globals;
+pub mod keys;
+pub mod makes;
+pub mod operators;
 pub mod reads;
 pub mod receives;
+pub mod script;
 pub mod setting;
+pub mod slots;
 pub mod state;
 pub mod stop;
+pub mod views;
 pub mod writes;

@@ -4,5 +4,6 @@ pub mod ExpressionSteps
 pub mod StatementSteps
 pub mod FrameSteps
 pub mod Steps
-pub mod Verdicts
 pub mod Promises
+pub mod Frames
+pub mod Shown

@@ -1,8 +1,15 @@
 //! The machine: a run as steps over a stack, which does what the written meaning says.
 #![tactic(auto)]
 
+ghost use Rattle.cc_acts.specs.Verdicts.{VerdictLaws};
 ghost use Rattle.cc_machine.specs.Promises.{MachineMeans, MachineAnswers, LoopLaws};
-ghost use Rattle.cc_machine.specs.Verdicts.{VerdictLaws};
+
+mod focus;
+mod frame;
+mod gives;
+mod machine;
+mod reach;
+mod wants;
 
 /// From its start the machine comes to the end that the meaning says, in every mode, for every
 /// program, script and budget.

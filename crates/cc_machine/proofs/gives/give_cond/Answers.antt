@@ -1,0 +1,14 @@
+use Rattle.std.proofs.Common.{◌∙◌, Bool, None, sym, ap}
+use Rattle.cc_ast.specs.Bridge.{term}
+use Rattle.cc_meaning.specs.Monad.{pick}
+use Rattle.cc_machine.specs.Machine.{on, want}
+use Rattle.cc_machine.specs.Steps.{onward}
+use Rattle.cc_machine.proofs.gives.give_cond.Goals as goal
+
+pub returns-then-is_truthy : goal.returns-then-is_truthy
+unfolding onward
+returns-then-is_truthy c = λ J P m. ap (λ (b : Bool). on (record m { focus = pick b (want None (term c.args.first.now)) (want None (term c.args.second.now)) })) (sym c.is_truthy.ensures ∙ c.if-is_truthy.true)
+
+pub returns-else-is_truthy : goal.returns-else-is_truthy
+unfolding onward
+returns-else-is_truthy c = λ J P m. ap (λ (b : Bool). on (record m { focus = pick b (want None (term c.args.first.now)) (want None (term c.args.second.now)) })) (sym c.is_truthy.ensures ∙ c.if-is_truthy.false)
