@@ -1,27 +1,23 @@
 -- The table of classes: which functions stand in it, each once, and how they are found in it.
-use Rattle.std.proofs.Common.{◌≡◌, refl, sym, ap, ◌∙◌, subst, arith, ◌⊎◌, inl, inr, ℕ, zero, suc, ◌+◌, ◌-◌, ◌<◌, ◌≤◌, Bool, true, false, not, ◌&&◌, nat_eq, nat_lt, List, [], ◌∷◌, ◌++◌, length, map, Option, Some, None, IsTrue, IsFalse, option_map, length-append}
+use Rattle.std.proofs.Common.{◌≡◌, refl, sym, ap, ◌∙◌, subst, arith, ◌⊎◌, inl, inr, ℕ, zero, suc, ◌+◌, ◌<◌, ◌≤◌, Bool, true, false, nat_eq, List, [], ◌∷◌, ◌++◌, length, map, Option, Some, None, option_map}
 use Rattle.std.specs.Prelude.{slice_get}
 use Rattle.std.proofs.lemmas.Option.{slice_get-map, slice_get_within}
 use Rattle.std.proofs.lemmas.Bool.Decides.{nat_tests}
-use Rattle.cc_ast.specs.Syntax.{Scope, Program}
 use Rattle.cc_ast.specs.declared.tables.Class.{Class}
 use Rattle.cc_jsdoc.specs.declared.doc.Doc.{Doc}
-use Rattle.cc_jsdoc.specs.declared.doc.DocKind.{DocKind}
-use Rattle.cc_jsdoc.specs.declared.doc.DocKind.TheVariants as kind
 use Rattle.cc_meaning.specs.State.{Path}
 use Rattle.cc_meaning.specs.Monad.{pick}
-use Rattle.cc_meaning.specs.Store.{class_from, class_of_function, is_number}
+use Rattle.cc_meaning.specs.Store.{class_from, is_number}
 use Rattle.cc_meaning.specs.Shapes.{tables_of}
 use Rattle.cc_meaning.specs.Alike.{In, here, there}
-use Rattle.cc_meaning.specs.FlatPaths.{Setting, mentions_of, settings}
-use Rattle.cc_meaning.specs.WellMade.{IsDistinct}
-use Rattle.cc_scope.specs.Annotations.{Comment, said_at}
+use Rattle.cc_meaning.specs.FlatPaths.{Setting}
+use Rattle.cc_scope.specs.Annotations.{said_at}
 use Rattle.cc_scope.specs.Functions.{Function, all_functions}
-use Rattle.cc_scope.specs.Externs.{class_kind, is_class_doc, interface_kind}
-use Rattle.cc_scope.specs.Classes.{Annotated, ClassPlace, function_at, said_of, constructor_kind, is_constructor_doc, unless_method, path_set_to, is_once, is_class_path, class_at_path, class_if, class_places_from, class_places, outside_class_of, class_of, classes_of}
+use Rattle.cc_scope.specs.Externs.{is_class_doc}
+use Rattle.cc_scope.specs.Classes.{Annotated, ClassPlace, unless_method, path_set_to, is_once, is_class_path, class_at_path, class_if, class_places_from, class_places, outside_class_of, class_of, classes_of}
 use Rattle.cc_scope.proofs.Declared.{in_left, in_right, in_either, length_map}
-use Rattle.cc_scope.proofs.Globals.{at_in, after}
-use Rattle.cc_scope.proofs.Numbers.{head_or, first_part}
+use Rattle.cc_scope.proofs.Globals.{after}
+use Rattle.cc_scope.proofs.Numbers.{head_or}
 use Rattle.cc_scope.proofs.Pieces.{Rising, no_more, one_more, rising_from}
 use Rattle.cc_scope.proofs.Tables.{mapped_at, split_at}
 use Rattle.cc_scope.proofs.Made.{rising_once}

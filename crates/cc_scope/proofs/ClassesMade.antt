@@ -1,7 +1,6 @@
 -- The classes of a program are well made: each has its place, and no function is the code of two.
-use Rattle.std.proofs.Common.{◌≡◌, refl, sym, ap, ◌∙◌, subst, arith, ◌⊎◌, inl, inr, ℕ, zero, suc, ◌+◌, ◌-◌, ◌<◌, ◌≤◌, Bool, true, false, not, ◌&&◌, nat_eq, nat_lt, List, [], ◌∷◌, ◌++◌, length, map, Option, Some, None, IsTrue, IsFalse}
+use Rattle.std.proofs.Common.{◌≡◌, refl, sym, ap, ◌∙◌, subst, arith, inl, inr, ℕ, ◌+◌, ◌-◌, Bool, true, false, ◌&&◌, nat_eq, nat_lt, List, [], ◌∷◌, length, Option, Some, None}
 use Rattle.std.specs.Prelude.{slice_get}
-use Rattle.std.proofs.lemmas.Option.{slice_get_within}
 use Rattle.std.proofs.lemmas.Bool.Decides.{nat_tests}
 use Rattle.cc_ast.specs.Syntax.{Scope, Program}
 use Rattle.cc_ast.specs.declared.tree.Ref.{Ref}
@@ -13,12 +12,12 @@ use Rattle.cc_jsdoc.specs.declared.doc.DocKind.{DocKind}
 use Rattle.cc_jsdoc.specs.declared.doc.DocKind.TheVariants as kind
 use Rattle.cc_meaning.specs.State.{Path}
 use Rattle.cc_meaning.specs.Monad.{pick}
-use Rattle.cc_meaning.specs.Store.{class_from, class_of_function, set_to, same_numbers}
+use Rattle.cc_meaning.specs.Store.{class_of_function, set_to, same_numbers}
 use Rattle.cc_meaning.specs.Shapes.{tables_of, body_of, body_in, set_by}
 use Rattle.cc_meaning.specs.Alike.{In, here, there}
-use Rattle.cc_meaning.specs.FlatPaths.{same_path, Setting, by_value, by_function, elsewhere, mentions_of, settings, OwnNameOf, own_here, own_outer, own_further, IsConstructor, MayBeVariable}
+use Rattle.cc_meaning.specs.FlatPaths.{same_path, Setting, mentions_of, settings, OwnNameOf, own_here, own_outer, own_further, IsConstructor, MayBeVariable}
 use Rattle.cc_meaning.specs.Parts.{Part, mentions, makes, sets_method, stmts_parts}
-use Rattle.cc_meaning.specs.WellMade.{parts_of, functions_in, all_functions, IsDistinct, HasPlace, IsCode, its_function, its_method, HasMethod}
+use Rattle.cc_meaning.specs.WellMade.{parts_of, functions_in, IsDistinct, HasPlace, IsCode, its_function, its_method, HasMethod}
 use Rattle.cc_scope.specs.Lists.{Name}
 use Rattle.cc_scope.specs.Resolve.{Source, outer_of, program_of}
 use Rattle.cc_scope.specs.Refusals.{refusals_of}
@@ -27,7 +26,6 @@ use Rattle.cc_scope.specs.Annotations.{Comment, said_at}
 use Rattle.cc_scope.specs.Functions as fn
 use Rattle.cc_scope.specs.Functions.{Function}
 use Rattle.cc_scope.specs.Externs.{Externs, class_kind, is_class_doc, interface_kind}
-use Rattle.cc_scope.specs.Written.{has}
 use Rattle.cc_scope.specs.Paths.{names_itself, may_be_variable}
 use Rattle.cc_scope.specs.Classes.{Annotated, ClassPlace, function_at, said_of, constructor_kind, is_constructor_doc, is_method, all_methods, unless_method, may_hold, path_set_to, is_once, is_class_path, class_places, methods_of, class_of, outside_class_of, classes_of}
 use Rattle.cc_scope.proofs.Globals.{at_in}
@@ -35,7 +33,7 @@ use Rattle.cc_scope.proofs.Numbers.{head_or}
 use Rattle.cc_scope.proofs.Made.{functions_once}
 use Rattle.cc_scope.proofs.Nameless.{nameless}
 use Rattle.cc_scope.proofs.Tidy.{place_in, Tidy}
-use Rattle.cc_scope.proofs.Owners.{Settled, all_parts, same_all, functions_are, all_tidy, all_settled, part_in, among_out, among_into, has_in, method_listed, path_equal, path_itself}
+use Rattle.cc_scope.proofs.Owners.{Settled, all_parts, same_all, functions_are, all_tidy, all_settled, part_in, among_out, among_into, has_in, method_listed, path_equal}
 use Rattle.cc_scope.proofs.Settings.{setting_function, setting_listed, listed_setting, function_settings, scopes_set}
 use Rattle.cc_scope.proofs.Held as held
 use Rattle.cc_scope.proofs.Held.{both, with_both, not_true}
@@ -186,7 +184,7 @@ module _ (S0 : Source) (cs : List Comment) (X : Externs) (docs : List SiteDoc) (
         let c = with_both (one_is s (settings h (mentions_of Q)) e) v in
         let k = kinds (t.says).kind t.kind in
         let z = place_from A (length Q.chunks) (fn.all_functions S0.trees) t.at t.function t.says h t.stands t.said k.0
-            (subst (λ n. path_set_to (tables_of Q).set n ≡ Some h) t.number (p.1 ∙ ap Some q)) c in
+        (subst (λ n. path_set_to (tables_of Q).set n ≡ Some h) t.number (p.1 ∙ ap Some q)) c in
         let y = place_in _ (class_places A) z in
         let x : ClassPlace = record { number = length Q.chunks + t.at; path = h; says = t.says; function = t.function } in
         record {
@@ -206,7 +204,7 @@ module _ (S0 : Source) (cs : List Comment) (X : Externs) (docs : List SiteDoc) (
 
     -- ---- each class has its place
 
-    placed : (k : ℕ) (x : ClassPlace) → slice_get (class_places A) k ≡ Some x → Placed A (length Q.chunks) (fn.all_functions S0.trees) x
+    pub placed : (k : ℕ) (x : ClassPlace) → slice_get (class_places A) k ≡ Some x → Placed A (length Q.chunks) (fn.all_functions S0.trees) x
     unfolding class_places
     placed k x e = placed_from A (length Q.chunks) (fn.all_functions S0.trees) x (at_in (class_places A) k x e)
 
@@ -246,7 +244,7 @@ module _ (S0 : Source) (cs : List Comment) (X : Externs) (docs : List SiteDoc) (
     tidy : Tidy (all_parts (tables_of P) P.scopes)
     tidy = all_tidy (tables_of P) P.scopes
 
-    methods_are : (x : ClassPlace) (q f : ℕ) → In {A = ℕ × ℕ} (q, f) (class_of A x).methods → In (sets_method x.path q f) (all_parts (tables_of Q) Q.scopes)
+    pub methods_are : (x : ClassPlace) (q f : ℕ) → In {A = ℕ × ℕ} (q, f) (class_of A x).methods → In (sets_method x.path q f) (all_parts (tables_of Q) Q.scopes)
     unfolding class_of methods_of
     methods_are x q f i = among_out (tables_of Q) x.path Q.scopes q f i
 
@@ -258,7 +256,7 @@ module _ (S0 : Source) (cs : List Comment) (X : Externs) (docs : List SiteDoc) (
     all_same : (ss : List Scope) → all_parts (tables_of P) ss ≡ all_parts (tables_of Q) ss
     all_same ss = same_all (tables_of P) (tables_of Q) (same.same_table_props S0 (classes_of A) docs global_doc flat) ss
 
-    parts_here : all_parts (tables_of P) P.scopes ≡ all_parts (tables_of Q) Q.scopes
+    pub parts_here : all_parts (tables_of P) P.scopes ≡ all_parts (tables_of Q) Q.scopes
     parts_here = all_same P.scopes ∙ ap (λ ss. all_parts (tables_of Q) ss) (same.same_scopes S0 (classes_of A) docs global_doc flat)
 
     a_method : (x : ClassPlace) (q f : ℕ) → In {A = ℕ × ℕ} (q, f) (class_of A x).methods → is_method Q f ≡ true

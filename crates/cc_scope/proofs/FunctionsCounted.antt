@@ -1,5 +1,5 @@
 -- The functions of the trees are as many as take a number.
-use Rattle.std.proofs.Common.{◌≡◌, refl, sym, ap, ◌∙◌, arith, ℕ, suc, ◌+◌, List, [], ◌∷◌, ◌++◌, length, Option, Some, None, length-append}
+use Rattle.std.proofs.Common.{◌≡◌, refl, ap, arith, suc, List, [], ◌∷◌, ◌++◌, length, Some, None, length-append}
 use Rattle.cc_ast.specs.declared.place.Place.{Place}
 use Rattle.cc_grammar.specs.RawTree.{RawKey, RawExpr, RawTarget, RawExprs, MaybeExpr, RawFields, RawDeclarators, RawInit, RawForTarget, RawStmt, RawStmts, RawCatch, RawFinally, RawCases}
 use Rattle.cc_grammar.specs.RawTree as raw

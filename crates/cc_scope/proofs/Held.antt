@@ -1,12 +1,11 @@
 -- The tests on paths tell what may become a variable.
-use Rattle.std.proofs.Common.{◌≡◌, refl, sym, ap, ◌∙◌, subst, arith, ◌⊎◌, inl, inr, ℕ, zero, suc, ◌+◌, Bool, true, false, not, ◌&&◌, ◌||◌, nat_eq, List, [], ◌∷◌, ◌++◌, Option, Some, None, IsTrue, IsFalse, append-nil, append_assoc}
+use Rattle.std.proofs.Common.{◌≡◌, refl, sym, ap, ◌∙◌, subst, arith, ℕ, Bool, true, false, not, ◌&&◌, ◌||◌, nat_eq, List, [], ◌∷◌, ◌++◌, Some, append-nil, append_assoc}
 use Rattle.std.specs.Prelude.{slice_get}
 use Rattle.std.specs.Option.{option_to_list}
 use Rattle.std.specs.List.{list_any}
 use Rattle.std.proofs.lemmas.Bool.Decides.{nat_tests}
 use Rattle.cc_ast.specs.Syntax.{Expr, fun, object, Fields, Program}
 use Rattle.cc_ast.specs.Syntax as p
-use Rattle.cc_ast.specs.declared.tables.PropInfo.{PropInfo}
 use Rattle.cc_meaning.specs.State.{Path}
 use Rattle.cc_meaning.specs.Monad.{pick}
 use Rattle.cc_meaning.specs.Store.{Global, extern, built_in, of_chunk, global_kind}
@@ -16,7 +15,6 @@ use Rattle.cc_meaning.specs.FlatPaths.{Use, called, constructed, tested, deleted
 use Rattle.cc_scope.specs.Paths as t
 use Rattle.cc_scope.specs.Paths.{is_construction, all_constructions, sets_up, one_further, called_on, all_stay, is_holding, goes_on, is_of_chunk, is_held, is_kept_prop, is_deletion, is_free, may_be_variable}
 use Rattle.cc_scope.proofs.Declared.{in_left, in_right}
-use Rattle.cc_scope.proofs.Names.{eq_self}
 use Rattle.cc_scope.proofs.Owners.{path_equal}
 use Rattle.cc_scope.proofs.Settings.{setting_function, value_function, declared_function}
 
@@ -121,7 +119,6 @@ pub record SamePaths (P Q : Program) : Type 0 where
 
 module _ (P Q : Program) (same : SamePaths P Q) (C : ℕ → Bool)
     (constructs : (h : Path) (s : Setting) (f : ℕ) → may_be_variable C Q h ≡ true → settings h (mentions_of Q) ≡ s ∷ [] → setting_function s ≡ Some f → C f ≡ true → IsConstructor P f) where
-
   pub free : (w : Path) (q : ℕ) → is_free Q w q ≡ true → IsFree P w q
   unfolding is_free is_kept_prop
   free w q e = let d = both {a = not (is_kept_prop (slice_get Q.props q))} e in record {

@@ -249,6 +249,22 @@ unfolding all_parts
 same_all T U h [] = refl
 same_all T U h (s ∷ ss) = rw (stmts_same T U h 0 s.body) (rw (same_all T U h ss) refl)
 
+pub part_out : (T : Tables) (ss : List Scope) (x : Part) → In x (all_parts T ss) → (k : ℕ) × (s : Scope) × (slice_get ss k ≡ Some s) × In x (stmts_parts T 0 s.body)
+unfolding all_parts
+part_out T [] x i = elim i [ ]
+part_out T (s ∷ ss) x i = elim (in_either (stmts_parts T 0 s.body) (all_parts T ss) i) [
+  | inl j ↦ (0, s, refl, j)
+  | inr j ↦ (let d = part_out T ss x j in (suc d.0, d.1, d.2, d.3))
+]
+
+pub parts_first : (T : Tables) (s : Scope) (ss : List Scope) (x : Part) → In x (stmts_parts T 0 s.body) → In x (all_parts T (s ∷ ss))
+unfolding all_parts
+parts_first T s ss x i = in_left (stmts_parts T 0 s.body) (all_parts T ss) i
+
+pub parts_later : (T : Tables) (s : Scope) (ss : List Scope) (x : Part) → In x (all_parts T ss) → In x (all_parts T (s ∷ ss))
+unfolding all_parts
+parts_later T s ss x i = in_right (stmts_parts T 0 s.body) (all_parts T ss) i
+
 -- ---- the lists of methods
 
 pub methods_out : (w : Path) (xs : List Part) (q f : ℕ) → In (q, f) (methods_in w xs) → In (sets_method w q f) xs

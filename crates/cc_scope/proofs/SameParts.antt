@@ -9,7 +9,7 @@ use Rattle.cc_meaning.specs.State.{Tables}
 use Rattle.cc_meaning.specs.Monad.{pick}
 use Rattle.cc_meaning.specs.Store.{name_of, prop_name}
 use Rattle.cc_meaning.specs.Shapes.{is_named, path_of}
-use Rattle.cc_meaning.specs.Parts.{Part, has_site, uses_prop, uses_doc, mentions, declares, makes, sets_method, method_by, method_on_prototype, method_to, method_in, key_parts, expr_parts, target_parts, exprs_parts, fields_parts, option_parts, vars_parts, init_parts, name_parts, stmt_parts, stmts_parts, maybe_parts, cases_parts}
+use Rattle.cc_meaning.specs.Parts.{method_by, method_on_prototype, method_to, method_in, expr_parts, target_parts, exprs_parts, fields_parts, option_parts, vars_parts, init_parts, name_parts, stmt_parts, stmts_parts, maybe_parts, cases_parts}
 
 module _ (T U : Tables) (h : T.props ≡ U.props) where
   on_prototype_same : (e : Expr) (q f : ℕ) → method_on_prototype T e q f ≡ method_on_prototype U e q f

@@ -1,16 +1,14 @@
 -- What stays of a program whatever classes, docs and flat paths are added.
-use Rattle.std.proofs.Common.{◌≡◌, refl, sym, ap, ◌∙◌, arith, ℕ, zero, suc, ◌+◌, ◌-◌, List, [], ◌∷◌, ◌++◌, length, map, Option, Some, None}
+use Rattle.std.proofs.Common.{◌≡◌, refl, sym, ap, ◌∙◌, ℕ, zero, suc, ◌-◌, List, [], ◌∷◌, ◌++◌, map}
 use Rattle.std.specs.Prelude.{slice_get}
-use Rattle.cc_ast.specs.declared.tables.GlobalInfo.{GlobalInfo}
 use Rattle.cc_ast.specs.declared.tables.FlatPath.{FlatPath}
 use Rattle.cc_ast.specs.declared.tables.Class.{Class}
 use Rattle.cc_ast.specs.declared.tables.SiteDoc.{SiteDoc}
 use Rattle.cc_ast.specs.Syntax.{Program}
 use Rattle.cc_meaning.specs.Names.{builtin_globals}
-use Rattle.cc_meaning.specs.State.{Path}
 use Rattle.cc_meaning.specs.Store.{without_chunk, global_kind, global_by, chunk_in}
-use Rattle.cc_meaning.specs.Shapes.{tables_of, body_of, sets_by_chunks}
-use Rattle.cc_meaning.specs.FlatPaths.{mentions_of, in_scopes}
+use Rattle.cc_meaning.specs.Shapes.{tables_of, body_of}
+use Rattle.cc_meaning.specs.FlatPaths.{mentions_of}
 use Rattle.cc_meaning.specs.WellMade.{parts_of}
 use Rattle.cc_grammar.specs.RawTree.{RawStmts}
 use Rattle.cc_scope.specs.Lists.{Name, distinct}

@@ -1,17 +1,14 @@
 -- What the mentions of a program say of functions that paths are set to: they are the table of those that
 -- statements of the chunks' own lists set; and each function there stands where functions do, once.
-use Rattle.std.proofs.Common.{◌≡◌, refl, sym, ap, ◌∙◌, subst, arith, ◌⊎◌, inl, inr, ℕ, suc, Bool, true, false, List, [], ◌∷◌, ◌++◌, Option, Some, None, is_some, append-nil, append_assoc}
+use Rattle.std.proofs.Common.{◌≡◌, refl, sym, ap, ◌∙◌, subst, inl, inr, ℕ, Bool, true, false, List, [], ◌∷◌, ◌++◌, Option, Some, None, is_some, append-nil, append_assoc}
 use Rattle.cc_ast.specs.Syntax.{Expr, Target, Exprs, Fields, Declarator, ForInit, ForTarget, Stmt, Stmts, MaybeStmts, Cases, Scope}
 use Rattle.cc_ast.specs.Syntax as p
-use Rattle.cc_ast.specs.declared.operator.BinOp.{BinOp}
-use Rattle.cc_ast.specs.declared.operator.UnOp.{UnOp}
-use Rattle.cc_ast.specs.declared.tree.Ref.{Ref}
 use Rattle.cc_ast.specs.declared.tree.Key.{Key}
 use Rattle.cc_ast.specs.declared.tables.ChunkInfo.{ChunkInfo}
-use Rattle.cc_meaning.specs.State.{Path, Tables}
+use Rattle.cc_meaning.specs.State.{Path}
 use Rattle.cc_meaning.specs.Monad.{pick}
 use Rattle.cc_meaning.specs.Shapes.{longer, path_of_ref, path_of, path_of_target, path_of_key, sets_by, sets_by_fields, sets_by_option, sets_by_vars, sets_by_value, sets_by_fun, sets_by_stmt, sets_by_stmts, sets_by_chunks}
-use Rattle.cc_meaning.specs.FlatPaths.{Use, called, constructed, tested, deleted, other, Setting, by_value, by_function, elsewhere, Mention, used, set, below, use_of, setting_of, operand_use, right_use, in_expr, in_target_of, in_exprs, in_fields, in_option, sets_at, sets_keys, in_initial, in_declarator, in_declarators, in_init, in_each, in_statement, function_setting, in_stmt, in_stmts, in_maybe, in_cases, in_scopes, settings, same_path}
+use Rattle.cc_meaning.specs.FlatPaths.{Use, called, constructed, other, Setting, by_value, by_function, elsewhere, Mention, used, set, below, use_of, setting_of, operand_use, right_use, in_expr, in_target_of, in_exprs, in_fields, in_option, sets_at, sets_keys, in_initial, in_declarator, in_declarators, in_init, in_each, in_statement, function_setting, in_stmt, in_stmts, in_maybe, in_cases, in_scopes, settings, same_path}
 use Rattle.cc_meaning.specs.Alike.{In, here, there}
 use Rattle.cc_scope.proofs.Declared.{in_right}
 use Rattle.cc_scope.proofs.Numbers.{head_or}

@@ -215,7 +215,7 @@ module _ (S : Source) (R : Readable S) (fitting : Grammatical S) (unrefused : re
     by true e = let k = R.one_each in absurd (grind (arith, nat_tests))
     by false e = refl
 
-  property : (f : ℕ) (x : Name) → In x (names (all_marks S.trees)) → IsPart (program_of S) f (uses_prop (prop_of (outer_of S) x))
+  pub property : (f : ℕ) (x : Name) → In x (names (all_marks S.trees)) → IsPart (program_of S) f (uses_prop (prop_of (outer_of S) x))
   unfolding program_of prop_of outer_of distinct or_zero
   property f x i = elim (news_have x [] (names (all_marks S.trees)) i) [
     | inl j ↦ elim j [ ]

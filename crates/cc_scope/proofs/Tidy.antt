@@ -1,6 +1,6 @@
 -- Each method among the parts of a tree is with its property and its function; and where each function
 -- stands once, it is the function of one method alone.
-use Rattle.std.proofs.Common.{◌≡◌, refl, sym, ap, ◌∙◌, subst, arith, ◌⊎◌, inl, inr, ℕ, zero, suc, ◌+◌, ◌<◌, Bool, true, false, List, [], ◌∷◌, ◌++◌, length, Option, Some, None}
+use Rattle.std.proofs.Common.{◌≡◌, refl, sym, subst, arith, ◌⊎◌, inl, inr, ℕ, suc, ◌+◌, Bool, true, false, List, [], ◌∷◌, ◌++◌, length, Option, Some, None}
 use Rattle.std.specs.Prelude.{slice_get}
 use Rattle.std.proofs.lemmas.Option.{slice_get_within}
 use Rattle.cc_ast.specs.Syntax.{Expr, Target, Exprs, Fields, Declarator, ForInit, ForTarget, Stmt, Stmts, MaybeStmts, Cases}
@@ -15,7 +15,7 @@ use Rattle.cc_meaning.specs.Parts.{Part, has_site, uses_prop, uses_doc, mentions
 use Rattle.cc_meaning.specs.WellMade.{functions_in, IsDistinct}
 use Rattle.cc_scope.proofs.Declared.{in_left, in_right, in_either}
 use Rattle.cc_scope.proofs.Globals.{after}
-use Rattle.cc_scope.proofs.Numbers.{first_part, head_or}
+use Rattle.cc_scope.proofs.Numbers.{first_part}
 use Rattle.cc_scope.proofs.Pieces.{functions_join}
 
 -- ---- lists in which nothing stands twice

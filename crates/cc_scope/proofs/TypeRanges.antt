@@ -1,12 +1,9 @@
 -- Types and docs speak of classes and docs that are there.
-use Rattle.std.proofs.Common.{◌≡◌, refl, sym, ap, ◌∙◌, subst, arith, ◌⊎◌, inl, inr, ℕ, zero, suc, ◌+◌, ◌-◌, ◌<◌, ◌≤◌, Bool, true, false, nat_eq, nat_lt, cond, List, [], ◌∷◌, ◌++◌, length, map, Option, Some, None, is_some, length-append}
+use Rattle.std.proofs.Common.{◌≡◌, refl, sym, ap, ◌∙◌, subst, arith, ◌⊎◌, inl, inr, ℕ, zero, suc, ◌+◌, ◌-◌, ◌<◌, Bool, true, false, nat_eq, nat_lt, cond, List, [], ◌∷◌, ◌++◌, length, map, Option, Some, None, length-append}
 use Rattle.std.specs.Prelude.{slice_get, fold}
-use Rattle.std.specs.Option.{option_and_then}
 use Rattle.std.specs.List.{list_any}
-use Rattle.std.proofs.lemmas.Bool.Decides.{nat_tests}
 use Rattle.cc_ast.specs.declared.place.Place.{Place}
 use Rattle.cc_ast.specs.declared.tables.TypeSet.{TypeSet}
-use Rattle.cc_ast.specs.declared.tables.Element.{Element}
 use Rattle.cc_ast.specs.declared.tables.SiteDoc.{SiteDoc}
 use Rattle.cc_jsdoc.specs.declared.doc.Doc.{Doc}
 use Rattle.cc_jsdoc.specs.declared.types.Simple.{Simple}
@@ -25,9 +22,7 @@ use Rattle.cc_scope.specs.Functions.{Function}
 use Rattle.cc_scope.specs.Types.{Meaning, a_class, outside_class, stands_for, nothing, Meanings, with_number, classes_together, element_of_all, same_elements, kinds_together, union_of, array_type, simple_type, alternative_type, type_by, is_circular, meaning_type, named_within, named_type, type_of, type_in}
 use Rattle.cc_scope.specs.Docs.{doc_said, doc_or_nothing, param_said, params_said, variable_docs, function_doc, is_documented, function_docs, docs_of, function_numbers, function_number}
 use Rattle.cc_scope.proofs.Declared.{in_left, in_right, in_either, length_map}
-use Rattle.cc_scope.proofs.Globals.{at_in}
 use Rattle.cc_scope.proofs.Numbers.{head_or, map_out}
-use Rattle.cc_scope.proofs.Tables.{split_at, mapped_at}
 
 some_or : ℕ → Option ℕ → ℕ
 some_or n None = n
@@ -100,10 +95,12 @@ unfolding union_of classes_in element_classes
 union_fits n ts h = by (list_any (λ t. t.unknown) ts) where
   by : (b : Bool) → Fits n (pick b (record { kinds = 0; classes = []; unknown = true; element = None }) (record { kinds = kinds_together ts; classes = classes_together ts; unknown = false; element = element_of_all ts }))
   by true = record { below = λ a i. elim i [ ] }
-  by false = record { below = λ a i. elim (in_either (classes_together ts) (element_classes (element_of_all ts)) i) [
-    | inl j ↦ (let d = together_from ts a j in (h d.0 d.1).below a (in_left d.0.classes (element_classes d.0.element) d.2))
-    | inr j ↦ (let d = element_from ts a j in (h d.0 d.1).below a (in_right d.0.classes (element_classes d.0.element) d.2))
-  ] }
+  by false = record {
+    below = λ a i. elim (in_either (classes_together ts) (element_classes (element_of_all ts)) i) [
+      | inl j ↦ (let d = together_from ts a j in (h d.0 d.1).below a (in_left d.0.classes (element_classes d.0.element) d.2))
+      | inr j ↦ (let d = element_from ts a j in (h d.0 d.1).below a (in_right d.0.classes (element_classes d.0.element) d.2))
+    ];
+  }
 
 plain_fits : (n k : ℕ) (b : Bool) → Fits n (record { kinds = k; classes = []; unknown = b; element = None })
 unfolding classes_in element_classes
