@@ -79,7 +79,7 @@ occurrences_behind v (u ∷ us) vs = let a = occurrences_behind v us vs in let b
 
 pub took_none : (g s : List ℕ) → Took g s g s []
 unfolding occurrences slots_of
-took_none g s = record { globals = λ k. omega arith; slots = λ k. omega arith; size = omega arith; }
+took_none g s = record { globals = λ k. omega arith; slots = λ k. omega arith; size = omega arith }
 
 pub took_both : (g s g1 s1 g2 s2 : List ℕ) (us vs : List Use) → Took g s g1 s1 us → Took g1 s1 g2 s2 vs → Took g s g2 s2 (us ++ vs)
 took_both g s g1 s1 g2 s2 us vs a b = record {
