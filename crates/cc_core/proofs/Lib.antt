@@ -1,9 +1,5 @@
 pub mod KeptLaws
 pub mod Machine
-pub mod Cursor
-pub mod SlotLemmas
-pub mod LaidLemmas
-pub mod ShopLemmas
 pub mod Draws
 pub mod OutLaws
-pub mod AloneLemmas
+pub mod OneWorker
