@@ -6,3 +6,4 @@ pub mod Makes
 pub mod Codes
 pub mod Outs
 pub mod Drawn
+pub mod SlotState

@@ -4,4 +4,5 @@
 pub mod claim;
 pub mod made;
 pub mod rules;
+mod slots;
 pub mod theorem;
