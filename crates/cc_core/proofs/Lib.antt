@@ -6,3 +6,5 @@ pub mod OneWorker
 pub mod Cursor
 pub mod Listed
 pub mod SlotLemmas
+pub mod Arranging
+pub mod CopyLaws

@@ -99,7 +99,7 @@ pub slots_of_found : (h : core.Slot → core.Slot) (o : Option ℕ) (xs : List S
     → o ≡ Some k → k < length ss → s ≡ slice_index_or ss k s → ((x : Scope) → slot_of x t ≡ h (slot_of x s)) → slots_of xs (slice_set ss k t) ≡ at_found h o (slots_of xs ss)
 slots_of_found h o xs ss k t s at lt is to = slots_of_changed h xs ss k t s lt is to ∙ ap (λ o. at_found h o (slots_of xs ss)) (sym at)
 
-slots_of_put_at : (y : Scope) (xs : List Scope) (ss : List Slot) (k : ℕ) (t s : Slot)
+pub slots_of_put_at : (y : Scope) (xs : List Scope) (ss : List Slot) (k : ℕ) (t s : Slot)
     → slice_get ss k ≡ Some s → k < length xs → ((x : Scope) → slot_of y t ≡ act.put_in y (slot_of x s)) → slots_of (slice_set xs k y) (slice_set ss k t) ≡ at_place (act.put_in y) k (slots_of xs ss)
 slots_of_put_at y xs [] k t s get in_range to = absurd (let e : None ≡ Some s = get in (cc))
 slots_of_put_at y [] (r ∷ ss) k t s get in_range to = absurd (omega (arith, in_range))

@@ -7,3 +7,5 @@ pub mod Codes
 pub mod Outs
 pub mod Drawn
 pub mod SlotState
+pub mod ShopState
+pub mod Copies

@@ -1,5 +1,5 @@
 // The slots of a shop.
-ghost use Rattle.std.specs.Prelude.{◌≡◌, ℕ, ◌+◌, ◌<◌, ◌≤◌, ◌^◌, List, All, Some, None, length, position, IfOk, slice_get, slice_set, not, true, false, leb};
+ghost use Rattle.std.specs.Prelude.{◌≡◌, ℕ, ◌+◌, ◌<◌, ◌≤◌, ◌^◌, List, All, Some, None, length, position, IfOk, slice_get, slice_set, not, Bool, true, false, leb};
 ghost use Rattle.cc_ast.specs.Syntax.{Scope as Tree};
 ghost use Rattle.cc_core.specs.State.{is_pending, is_claimed, is_done, is_done_at, pendings, undone, chosen, places};
 ghost use Rattle.cc_core.specs.Events.{at_found, at_place, claimed, one_more, put_in, given_back, entered};
@@ -98,6 +98,8 @@ fn claim_slot(at: &mut Slot)
     ensures listed { is_listed at.new ≡ is_listed at.old }
     ensures stamp { at.new.stamp ≡ at.old.stamp }
     ensures changed { is_changed_inside at.new ≡ is_changed_inside at.old }
+    ensures open { is_open_inside at.new ≡ is_open_inside at.old }
+    ensures taken { is_pending_inside at.new ≡ false }
 {
     at.mark = Mark::Claimed;
     at.out = 1;
@@ -120,6 +122,8 @@ fn put_slot(at: &mut Slot, changed: bool) -> bool
     ensures listed { is_listed at.new ≡ is_listed at.old }
     ensures stamp { at.new.stamp ≡ at.old.stamp }
     ensures done { is_open_inside at.new ≡ false }
+    ensures pending { is_pending_inside at.new ≡ false }
+    ensures claimed { is_claimed_inside at.new ≡ false }
     ensures changed { result ≡ true → is_changed_inside at.new ≡ changed }
     ensures unchanged { result ≡ false → is_changed_inside at.new ≡ is_changed_inside at.old }
 {
@@ -141,6 +145,7 @@ fn give_back_slot(at: &mut Slot) -> bool
     ensures stamp { at.new.stamp ≡ at.old.stamp }
     ensures changed { is_changed_inside at.new ≡ is_changed_inside at.old }
     ensures open { is_open_inside at.new ≡ is_open_inside at.old }
+    ensures claimed { is_claimed_inside at.new ≡ true → is_claimed_inside at.old ≡ true }
     ensures not_back { result ≡ false → is_pending_inside at.new ≡ true → is_pending_inside at.old ≡ true }
 {
     at.out = at.out.saturating_sub(1);
@@ -159,6 +164,7 @@ fn enter_slot(at: &mut Slot) -> bool
     ensures stamp { at.new.stamp ≡ at.old.stamp }
     ensures changed { is_changed_inside at.new ≡ is_changed_inside at.old }
     ensures open { is_open_inside at.new ≡ is_open_inside at.old }
+    ensures taken { is_pending_inside at.new ≡ false }
     ensures not_taken { result ≡ false → is_claimed_inside at.new ≡ true → is_claimed_inside at.old ≡ true }
 {
     if matches!(at.mark, Mark::Pending) {
@@ -324,4 +330,201 @@ pub fn all_slots(alloc: Global, count: usize) -> Result<Vec<u32>, AllocError>
         slots.push(i as u32)?;
     }
     Ok(slots)
+}
+
+fn least(a: usize, b: usize) -> usize
+    ensures { (result ≤ a) × (result ≤ b) }
+{
+    if a < b { a } else { b }
+}
+
+impl Slots {
+    /// So many slots, all of them pending, in the first phase.
+    pub fn begin(alloc: Global, count: usize) -> Result<Slots, AllocError>
+        requires { count < 2 ^ 32 }
+        ensures { IfOk result (λ s. s ≡ record { phase = 0; slots = due 0 (λ _. true) count }) }
+    {
+        let Ok(visited) = all_slots(alloc, count) else {
+            return Err(AllocError);
+        };
+        let Ok(mut items) = idle_slots(alloc, count, 0) else {
+            return Err(AllocError);
+        };
+        open_all(&mut items, 0, &visited);
+        Ok(Slots {
+            items,
+            phase: 0,
+            undone: count as u32,
+            visited,
+            from: 0,
+            held: 0,
+        })
+    }
+
+    /// Begins the next phase, which visits these slots. They are pending then, and the others done.
+    pub fn turn(&mut self, visited: Vec<u32>)
+        requires room { self.old.phase + 1 < 2 ^ 32 }
+        requires visited { (v : ℕ → Bool) × (visited.items ≡ chosen v 0 (length self.old.slots)) }
+        ensures { (v : ℕ → Bool) → visited.items ≡ chosen v 0 (length self.old.slots) → self.new ≡ record { phase = self.old.phase + 1; slots = due (self.old.phase + 1) v (length self.old.slots) } }
+    {
+        let phase = self.phase + 1;
+        open_all(&mut self.items, phase, &visited);
+        self.phase = phase;
+        self.undone = visited.len() as u32;
+        self.visited = visited;
+        self.from = 0;
+        self.held = 0;
+    }
+
+    pub fn phase(&self) -> u32
+        ensures { result ≡ self.now.phase }
+    {
+        self.phase
+    }
+
+    pub fn allocator(&self) -> Global {
+        *self.items.allocator()
+    }
+
+    pub fn len(&self) -> usize
+        ensures { result ≡ length self.now.slots }
+    {
+        self.items.len()
+    }
+
+    /// Claims the first pending slot.
+    pub fn claim(&mut self) -> Option<u32>
+        ensures phase { self.new.phase ≡ self.old.phase }
+        ensures changes { changes self.new.slots ≡ changes self.old.slots }
+        ensures slots { (xs : List Tree) → slots_of xs self.new.slots ≡ at_found claimed (position is_pending (slots_of xs self.old.slots)) (slots_of xs self.old.slots) }
+        ensures found { (xs : List Tree) → position is_pending (slots_of xs self.old.slots) ≡ result }
+    {
+        match first_pending(&self.items, self.phase, &self.visited, self.from) {
+            None => {
+                self.from = self.visited.len();
+                None
+            }
+            Some(place) => {
+                let slot = self.visited[place];
+                let at = &mut self.items[slot as usize];
+                renew(at, self.phase);
+                claim_slot(at);
+                self.from = place;
+                self.held = least(self.held, place);
+                Some(slot)
+            }
+        }
+    }
+
+    /// One more claim of the first slot that is claimed.
+    pub fn repeat(&mut self) -> Option<u32>
+        requires room { (k : ℕ) (s : _) → position is_claimed_inside self.old.slots ≡ Some k → slice_get self.old.slots k ≡ Some s → s.out + 1 < 2 ^ 32 }
+        ensures phase { self.new.phase ≡ self.old.phase }
+        ensures changes { changes self.new.slots ≡ changes self.old.slots }
+        ensures slots { (xs : List Tree) → slots_of xs self.new.slots ≡ at_found one_more (position is_claimed (slots_of xs self.old.slots)) (slots_of xs self.old.slots) }
+        ensures found { (xs : List Tree) → position is_claimed (slots_of xs self.old.slots) ≡ result }
+    {
+        match first_claimed(&self.items, self.phase, &self.visited, self.held) {
+            None => {
+                self.held = self.visited.len();
+                None
+            }
+            Some(place) => {
+                let slot = self.visited[place];
+                let at = &mut self.items[slot as usize];
+                renew(at, self.phase);
+                repeat_slot(at);
+                self.held = place;
+                Some(slot)
+            }
+        }
+    }
+
+    /// Marks a slot done, with its own scope or another, and says whether it was not.
+    pub fn put(&mut self, slot: u32, changed: bool) -> bool
+        requires { slot < length self.old.slots }
+        ensures phase { self.new.phase ≡ self.old.phase }
+        ensures put { result ≡ true → (xs : List Tree) (y : Tree) → slot < length xs → slots_of (slice_set xs slot y) self.new.slots ≡ at_place (put_in y) slot (slots_of xs self.old.slots) }
+        ensures same { result ≡ false → (xs : List Tree) (y : Tree) → slots_of xs self.new.slots ≡ at_place (put_in y) slot (slots_of xs self.old.slots) }
+        ensures done { (xs : List Tree) → is_done_at slot (slots_of xs self.old.slots) ≡ not result }
+        ensures changed { result ≡ true → changes self.new.slots ≡ slice_set (changes self.old.slots) slot changed }
+        ensures unchanged { result ≡ false → changes self.new.slots ≡ changes self.old.slots }
+    {
+        let at = &mut self.items[slot as usize];
+        renew(at, self.phase);
+        if put_slot(at, changed) {
+            self.undone -= 1;
+            return true;
+        }
+        false
+    }
+
+    /// One claim fewer; the slot is pending again if it is not done and no other claim is out.
+    pub fn give_back(&mut self, slot: u32)
+        requires { slot < length self.old.slots }
+        ensures phase { self.new.phase ≡ self.old.phase }
+        ensures changes { changes self.new.slots ≡ changes self.old.slots }
+        ensures slots { (xs : List Tree) → slots_of xs self.new.slots ≡ at_place given_back slot (slots_of xs self.old.slots) }
+    {
+        let at = &mut self.items[slot as usize];
+        renew(at, self.phase);
+        if give_back_slot(at) {
+            self.from = least(self.from, place_of(&self.visited, slot));
+        }
+    }
+
+    /// One claim more on a slot.
+    pub fn enter(&mut self, slot: u32)
+        requires slot { slot < length self.old.slots }
+        requires room { (s : _) → slice_get self.old.slots slot ≡ Some s → s.out + 1 < 2 ^ 32 }
+        ensures phase { self.new.phase ≡ self.old.phase }
+        ensures changes { changes self.new.slots ≡ changes self.old.slots }
+        ensures slots { (xs : List Tree) → slots_of xs self.new.slots ≡ at_place entered slot (slots_of xs self.old.slots) }
+    {
+        let at = &mut self.items[slot as usize];
+        renew(at, self.phase);
+        if enter_slot(at) {
+            self.held = least(self.held, place_of(&self.visited, slot));
+        }
+    }
+
+    /// Whether a slot is done.
+    pub fn is_done(&self, slot: u32) -> bool
+        requires { slot < length self.now.slots }
+        ensures { (xs : List Tree) → is_done_at slot (slots_of xs self.now.slots) ≡ result }
+    {
+        !is_unfinished(&self.items[slot as usize], self.phase)
+    }
+
+    /// How many slots are not done.
+    pub fn undone(&self) -> u32
+        ensures { (xs : List Tree) → result ≡ undone (slots_of xs self.now.slots) }
+    {
+        self.undone
+    }
+
+    /// The pending slots, in ascending order.
+    pub fn pending_slots(&self) -> Result<Vec<u32>, AllocError>
+        ensures { IfOk result (λ v. (xs : List Tree) → v.items ≡ pendings (slots_of xs self.now.slots)) }
+    {
+        pending_of(
+            *self.items.allocator(),
+            &self.items,
+            self.phase,
+            &self.visited,
+            self.from,
+        )
+    }
+
+    /// The slots for which another scope was made, in ascending order.
+    pub fn changed_slots(&self) -> Result<Vec<u32>, AllocError>
+        ensures { IfOk result (λ v. v.items ≡ places (λ b. b) 0 (changes self.now.slots)) }
+    {
+        changed_of(
+            *self.items.allocator(),
+            &self.items,
+            self.phase,
+            &self.visited,
+        )
+    }
 }
