@@ -252,7 +252,13 @@ fn place_of(visited: &[u32], slot: u32) -> usize
 
 /// The pending slots of the list, where those before `from` are known not to be.
 #[tactic(auto, using(crate::proofs::Listed::within_at, crate::proofs::Listed::picked_yes, crate::proofs::Listed::picked_not, crate::proofs::Listed::picked_none, crate::proofs::Listed::picked_all))]
-fn pending_of(alloc: Global, slots: &[Slot], phase: u32, visited: &[u32], from: usize) -> Result<Vec<u32>, AllocError>
+fn pending_of(
+    alloc: Global,
+    slots: &[Slot],
+    phase: u32,
+    visited: &[u32],
+    from: usize,
+) -> Result<Vec<u32>, AllocError>
     requires within { All (λ k. k < length slots.now) visited.now }
     requires before { NoneBefore (test_at is_pending_inside (all_seen phase slots.now)) from visited.now }
     ensures { IfOk result (λ v. v.items ≡ picked (test_at is_pending_inside (all_seen phase slots.now)) visited.now) }
@@ -269,7 +275,12 @@ fn pending_of(alloc: Global, slots: &[Slot], phase: u32, visited: &[u32], from: 
 
 /// The slots of the list for which another scope was made.
 #[tactic(auto, using(crate::proofs::Listed::within_at, crate::proofs::Listed::picked_yes, crate::proofs::Listed::picked_not, crate::proofs::Listed::picked_none, crate::proofs::Listed::picked_all))]
-fn changed_of(alloc: Global, slots: &[Slot], phase: u32, visited: &[u32]) -> Result<Vec<u32>, AllocError>
+fn changed_of(
+    alloc: Global,
+    slots: &[Slot],
+    phase: u32,
+    visited: &[u32],
+) -> Result<Vec<u32>, AllocError>
     requires within { All (λ k. k < length slots.now) visited.now }
     ensures { IfOk result (λ v. v.items ≡ picked (test_at is_changed_inside (all_seen phase slots.now)) visited.now) }
 {
