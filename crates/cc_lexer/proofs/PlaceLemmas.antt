@@ -8,6 +8,7 @@ use Rattle.std.proofs.Math.Seq.{take-append_seam}
 use Rattle.std.proofs.lemmas.Str.{encodes-chars, length-encode, encode_ascii, len_utf8_ascii, chars_past_char, IsUtf8-past_char, IsUtf8-take, IsCharBoundary-at_seam, IsCharBoundary-from_drop, chars-append}
 use Rattle.std.specs.Str.{chars, IsUtf8, IsCharBoundary}
 use Rattle.std.proofs.Common.{refl, sym, ◌∙◌, ap, subst, arith, length-append}
+use Rattle.cc_ast.specs.Limits.{most_bytes}
 use Rattle.cc_ast.specs.declared.place.Place.{Place}
 use Rattle.cc_text.specs.Characters.{is_line_end}
 use Rattle.cc_text.specs.Ends.{Ends}
@@ -65,7 +66,7 @@ passed_file here = refl
 passed_file (over {p = p} {c = c} {cs = cs} x) = passed_file x ∙ either_file (ends_line c cs) p _ _ refl refl
 
 -- a file has room for its text
-pub first_room : (file n : ℕ) (p : Place) → p ≡ first_place file → n ≤ 16777216 → HasRoom p n
+pub first_room : (file n : ℕ) (p : Place) → p ≡ first_place file → n ≤ most_bytes → HasRoom p n
 first_room file n p e h =
     let o = ap (λ q. q.offset) e in let l = ap (λ q. q.line) e in let k = ap (λ q. q.column) e in
     record { offset = omega (arith, o, h); line = omega (arith, l, h); column = omega (arith, k, h) }

@@ -4,6 +4,7 @@ ghost use Rattle.std.specs.Prelude.{◌≡◌, ◌≤◌, ◌∷◌, [], length,
 ghost use Rattle.std.specs.Option.{option_map};
 ghost use Rattle.std.specs.Str.{chars, IsUtf8};
 ghost use Rattle.std.specs.Str.Lossy.{utf8_valid_len};
+ghost use Rattle.cc_ast.specs.Limits.{most_bytes};
 ghost use Rattle.cc_lexer.specs.Lexes as lexes;
 ghost use Rattle.cc_lexer.specs.TokenLists as lists;
 
@@ -92,7 +93,7 @@ fn add_tokens<'a>(
     text: &'a str,
     file: u32,
 ) -> Result<Option<Stop>, AllocError>
-    requires few { length text.now ≤ 16777216 }
+    requires few { length text.now ≤ most_bytes }
     requires even { lists.IsEven parts.old }
     requires none { lists.tokens_of file parts.old ≡ [] }
     ensures even { IfOk result (λ _. lists.IsEven parts.new) }
@@ -116,7 +117,7 @@ fn add_tokens<'a>(
 }
 
 fn tokens_of<'a>(alloc: Global, text: &'a str, file: u32) -> Result<Tokens<'a>, AllocError>
-    requires { length text.now ≤ 16777216 }
+    requires { length text.now ≤ most_bytes }
     ensures { IfOk result (λ t. lexes.Lexed (chars text.now) file t.list.items t.stop) }
 {
     let mut parts = Parts::new(alloc);
@@ -130,7 +131,7 @@ fn tokens_of<'a>(alloc: Global, text: &'a str, file: u32) -> Result<Tokens<'a>, 
 
 /// The tokens of a source file, of which this is the number.
 pub fn tokens<'a>(alloc: Global, bytes: &'a [u8], file: u32) -> Result<Tokens<'a>, Refusal>
-    requires { length bytes.now ≤ 16777216 }
+    requires { length bytes.now ≤ most_bytes }
     ensures text { IfOk result (λ _. IsUtf8 bytes.now) }
     ensures lexed { IfOk result (λ t. lexes.Lexed (chars bytes.now) file t.list.items t.stop) }
     ensures not_utf8 { ¬ (IsUtf8 bytes.now) → result ≡ Err (Refusal.NotUtf8 file (utf8_valid_len bytes.now)) }

@@ -1,6 +1,6 @@
 // Lists of tokens.
 
-ghost use Rattle.std.specs.Prelude.{◌≡◌, ℕ, ◌++◌, ◌∷◌, [], length, OnOk};
+ghost use Rattle.std.specs.Prelude.{◌≡◌, ℕ, ◌<◌, ◌^◌, ◌++◌, ◌∷◌, [], length, OnOk};
 ghost use Rattle.std.specs.List.{slice_get};
 ghost use Rattle.std.specs.Option.{option_map};
 ghost use Rattle.cc_lexer.specs.Lexes.{token_at};
@@ -101,7 +101,8 @@ impl<'a> TokenList<'a> {
 
     /// How many they are.
     pub fn len(&self) -> usize
-        ensures { result ≡ length self.now.items }
+        ensures count { result ≡ length self.now.items }
+        ensures few { result < 2 ^ 63 }
     {
         self.parts.kinds.len()
     }
