@@ -2,6 +2,7 @@
 use Rattle.std.proofs.Common.{◌≡◌, ℕ, zero, suc, ◌+◌, ◌<◌, refl, sym, ap, subst, ◌∙◌, arith, length-drop, List, [], ◌∷◌, ◌++◌, Bool, true, false, Option, Some, None, length, drop}
 use Rattle.std.specs.Prelude.{is_some, is_none}
 use Rattle.std.specs.List.{slice_get}
+use Rattle.std.specs.Option.{option_map, unwrap_or}
 use Rattle.std.proofs.Math.Seq.{drop-nil}
 use Rattle.std.proofs.lemmas.List.{drop-drop}
 use Rattle.cc_ast.specs.declared.reading.Refusal.{Refusal}
@@ -12,7 +13,7 @@ use Rattle.cc_cursor.specs.declared.lexeme.Kind.{Kind}
 use Rattle.cc_cursor.specs.declared.lexeme.Kind.TheVariants as code
 use Rattle.cc_cursor.specs.declared.lexeme.Lexeme.{Lexeme}
 use Rattle.cc_grammar.specs.Reading.{look_token, rest_tokens}
-use Rattle.cc_cursor.specs.Shown.{behind, maybe, lexeme, BeginsReal, IsReal, kind}
+use Rattle.cc_cursor.specs.Shown.{behind, maybe, lexeme, BeginsReal, IsReal, Shows, kind}
 
 pub behind_all : (noted : Bool) (ts : List Token) (o : Option Lexeme) (s : Option Refusal) → maybe o ≡ stop_of s → behind noted ts o ≡ lexemes noted ts s
 behind_all noted [] o s e = e
@@ -59,6 +60,9 @@ pub shown_there : (noted : Bool) (ts : List Token) (i : ℕ) (t : Token) (s : Op
     → look_token (behind noted (drop i ts) s) ≡ lexeme r
 shown_there noted ts i t s r e h = ap (λ us. look_token (behind noted us s)) (at_token ts i t e) ∙ ap (λ us. look_token (us ++ behind (is_none (kind_of t.kind)) (drop (suc i) ts) s)) h
 
+pub shows : (r : Lexeme) (u : k.Lexeme) → u ≡ lexeme r → Shows r u
+shows r u e = record { kind = sym (ap (λ t. t.kind) e); place = sym (ap (λ t. t.place) e); after_line = sym (ap (λ t. t.after_line) e); noted = sym (ap (λ t. t.noted) e) }
+
 -- past the last
 pub none_there : (ts : List Token) (i : ℕ) → slice_get ts i ≡ None → drop i ts ≡ []
 none_there [] i e = drop-nil i
@@ -70,5 +74,24 @@ noted_by None noted t ts s e = refl
 noted_by (Some x) noted t ts s e = absurd (cc)
 
 -- over an annotation comment
-pub note_there : (noted : Bool) (ts : List Token) (i : ℕ) (t : Token) (s : Option Lexeme) → slice_get ts i ≡ Some t → is_some (kind_of t.kind) ≡ false → behind noted (drop i ts) s ≡ behind true (drop (suc i) ts) s
-note_there noted ts i t s e h = ap (λ us. behind noted us s) (at_token ts i t e) ∙ noted_by (kind_of t.kind) noted t (drop (suc i) ts) s h
+pub note_there : (noted more : Bool) (ts : List Token) (i : ℕ) (t : Token) (s : Option Lexeme) → slice_get ts i ≡ Some t → is_some (kind_of t.kind) ≡ false → more ≡ true → behind noted (drop i ts) s ≡ behind more (drop (i + 1) ts) s
+note_there noted more ts i t s e h m =
+    let next : suc i ≡ i + 1 = omega arith in
+    ap (λ us. behind noted us s) (at_token ts i t e) ∙ noted_by (kind_of t.kind) noted t (drop (suc i) ts) s h
+    ∙ ap (λ n. behind true (drop n ts) s) next ∙ ap (λ b. behind b (drop (i + 1) ts) s) (sym m)
+
+-- what the code's kinds tell
+pub kind_some : (o : Option Kind) (p : Option k.Kind) (b : Bool) → option_map kind o ≡ p → is_some o ≡ b → is_some p ≡ b
+kind_some None p b e h = ap is_some (sym e) ∙ h
+kind_some (Some x) p b e h = ap is_some (sym e) ∙ h
+
+-- nothing
+abbrev pub no_token : Lexeme
+no_token = record { kind = code.Stop None; place = record { file = 0; offset = 0; line = 0; column = 0 }; after_line = false; noted = false }
+
+look_stop : (s : Option Lexeme) → look_token (maybe s) ≡ lexeme (unwrap_or s no_token)
+look_stop None = refl
+look_stop (Some t) = refl
+
+pub shown_past : (noted : Bool) (ts : List Token) (i : ℕ) (s : Option Lexeme) → slice_get ts i ≡ None → look_token (behind noted (drop i ts) s) ≡ lexeme (unwrap_or s no_token)
+shown_past noted ts i s e = ap (λ us. look_token (behind noted us s)) (none_there ts i e) ∙ look_stop s

@@ -82,14 +82,15 @@ fn skip(tokens: &TokenList<'_>, from: usize) -> usize
     ensures real { shown.BeginsReal (drop result tokens.now.items) }
     ensures order { from ≤ result }
 {
-    let mut at = from;
-    while let Some(token) = tokens.get(at) {
+    for at in from..tokens.len() {
+        let Some(token) = (&*tokens).get(at) else {
+            return at;
+        };
         if kind_of(token.kind).is_some() {
-            break;
+            return at;
         }
-        at += 1;
     }
-    at
+    tokens.len()
 }
 
 impl<'a> Cursor<'a> {
