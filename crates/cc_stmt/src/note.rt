@@ -42,7 +42,7 @@ pub(crate) fn notes_of(alloc: Global, tokens: &TokenList<'_>) -> Result<Vec<Note
     let mut at = tokens.len();
     while at > 0 {
         at -= 1;
-        let Some(token) = tokens.get(at) else {
+        let Some(token) = (&*tokens).get(at) else {
             unreachable!();
         };
         match doc_text(alloc, token)? {
