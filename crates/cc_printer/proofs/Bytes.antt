@@ -28,7 +28,7 @@ joined [] ys h g = g
 joined (c ∷ xs) ys h g = let x = both (scalar c) (scalars xs) h in ap₂ (λ a b. a && b) x.0 (joined xs ys x.1 g)
 
 -- below the surrogates
-abbrev pub Low : List ℕ → Type 0
+abbrev Low : List ℕ → Type 0
 Low [] = Unit {0}
 Low (c ∷ cs) = (c < 128) × Low cs
 
@@ -65,7 +65,7 @@ low_same q c h e = grind (arith, nat_tests)
 low_plain : (c : ℕ) → (nat_lt c 32 || nat_lt 126 c) ≡ false → c < 128
 low_plain c e = grind (arith, nat_tests)
 
-pub low_unit : (q c : ℕ) → q < 128 → c < 65536 → Low (unit q c)
+low_unit : (q c : ℕ) → q < 128 → c < 65536 → Low (unit q c)
 low_unit q c h g = either Low (c == q || c == 92) (92 ∷ c ∷ []) _ (λ e. (omega arith, (low_same q c h e, tt))) (λ e.
     either Low (nat_lt 7 c && nat_lt c 14) (92 ∷ letter c ∷ []) _ (λ e. (omega arith, (low_letter c, tt))) (λ e.
     either Low (nat_lt c 32 || nat_lt 126 c) (92 ∷ 117 ∷ glyph (c / 4096) ∷ glyph (c / 256 % 16) ∷ glyph (c / 16 % 16) ∷ glyph (c % 16) ∷ []) (c ∷ [])

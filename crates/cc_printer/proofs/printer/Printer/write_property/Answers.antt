@@ -1,7 +1,0 @@
-use Rattle.std.proofs.Common.{refl, ap}
-use Rattle.cc_printer.specs.Printing.{identifier}
-use Rattle.cc_printer.proofs.Stepped.{token_steps_at}
-use Rattle.cc_printer.proofs.printer.Printer.write_property.Goals as goal
-
-pub returns : goal.returns
-returns c = token_steps_at _ _ _ _ _ (ap identifier c.property_units.ensures) c.in_ok-property.ensures refl c.requires
