@@ -1,9 +1,11 @@
-//! Printing: the tokens of a tree and the text of tokens, as definitions, and their laws. The
-//! functions here state the laws, and do nothing.
+//! Printing: the tokens of a tree and the text of tokens, as definitions, with their laws, and `spell`,
+//! which writes the text of a chunk. What is still to be written stands on a stack of its own, so no
+//! tree is walked by recursion. The functions of this file state the laws, and do nothing.
 #![tactic(auto)]
 
 mod bodies;
 mod characters;
+mod chunk;
 mod enter;
 mod expression;
 mod frames;
@@ -15,11 +17,12 @@ mod printer;
 mod quoting;
 mod sequences;
 mod signs;
-pub mod spell;
 mod statement;
 mod work;
 
 ghost use Rattle.cc_printer.specs.Laws.{DerivesAtLevel, TokensDerive, TextHasTokens, ReadsBack, NamesAreNames, SameTokens, TextIsUtf8, NoneLeftOut, ProgramsAreWritten, ProgramsReadBack};
+
+pub use chunk::spell;
 
 /// What is printed at a level is derived at that level, whatever follows.
 pub fn derives_at_level()

@@ -1,6 +1,6 @@
 use Rattle.std.proofs.Common.{sym}
 use Rattle.cc_printer.proofs.Encoded.{end_text}
-use Rattle.cc_printer.proofs.spell.written.Goals as goal
+use Rattle.cc_printer.proofs.chunk.written.Goals as goal
 
 pub returns : goal.returns
 returns c = sym (end_text c.args.printer.out)

@@ -4,7 +4,7 @@ use Rattle.cc_printer.specs.Pieces.{statements}
 use Rattle.cc_printer.specs.Printers.{env_of, text_of}
 use Rattle.cc_printer.specs.Works.{stmts_in, pieces}
 use Rattle.cc_printer.proofs.Spelled.{spelled}
-use Rattle.cc_printer.proofs.spell.spell.Goals as goal
+use Rattle.cc_printer.proofs.chunk.spell.Goals as goal
 
 pub returns : goal.returns
 returns c = let p = c.printer-printer.result in let b = term_stmts c.body_of.result.now in
