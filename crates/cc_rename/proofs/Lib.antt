@@ -6,5 +6,4 @@ pub mod Standing
 pub mod Given
 mod Walk
 mod WalkParts
-mod Printed
 mod Tallies

@@ -3,5 +3,4 @@ pub mod Uses
 pub mod Naming
 pub mod Steps
 pub mod Counting
-pub mod Printed
 pub mod Laws

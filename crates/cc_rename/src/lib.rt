@@ -2,7 +2,6 @@
 #![tactic(auto)]
 
 ghost use Rattle.cc_rename.specs.Laws.{IsNamed, NamesServe};
-ghost use Rattle.cc_rename.specs.Printed.{ArePrinted};
 
 mod expression;
 mod frames;
@@ -20,9 +19,4 @@ pub fn variables_are_named()
 /// Under its names a well made program can be written.
 pub fn names_serve_printing()
     ensures { NamesServe }
-{}
-
-/// A name is printed as often as the variable that it stands for occurs.
-pub fn occurrences_are_printed()
-    ensures { ArePrinted }
 {}
