@@ -7,4 +7,5 @@ pub mod Given
 mod Walk
 mod WalkParts
 mod Printed
+mod ScopeUses
 mod Tallies

@@ -1,6 +1,7 @@
 -- What steps of counting change.
-use Rattle.std.specs.Prelude.{◌≡◌, Bool, true, false, ℕ, zero, suc, ◌+◌, ◌-◌, ◌<◌, ◌≤◌, max, List, [], ◌∷◌, ◌++◌, nat_eq, cond, get_or, length, map, drop, Option, Some, None, SomeIff, IfSome, ◌^◌}
+use Rattle.std.specs.Prelude.{◌≡◌, Bool, true, false, ℕ, zero, suc, ◌+◌, ◌-◌, ◌<◌, ◌≤◌, max, List, [], ◌∷◌, ◌++◌, nat_eq, cond, get_or, length, map, drop, Option, Some, None, Result, ⊤, OnOk, SomeIff, IfSome, ◌^◌}
 use Rattle.std.proofs.Common.{refl, subst, sym, ap, ◌∙◌, arith, length-append, set}
+use Rattle.std.proofs.lemmas.Result.{on_ok_weaker}
 use Rattle.std.proofs.lemmas.Bool.Decides.{nat_tests}
 use Rattle.cc_printer.specs.RawOf.{Frames, places}
 use Rattle.cc_printer.specs.Naming.{inside_catches}
@@ -115,6 +116,9 @@ as_use g s g1 s1 v w e t = subst (λ v. Took g s g1 s1 (prints v ∷ [])) e t
 
 pub as_uses : (g s g1 s1 : List ℕ) (us vs : List Use) → us ≡ vs → Took g s g1 s1 us → Took g s g1 s1 vs
 as_uses g s g1 s1 us vs e t = subst (Took g s g1 s1) e t
+
+pub on_ok_uses : {E : Type 0} (r : Result ⊤ E) (ends g s g1 s1 : List ℕ) (us vs : Frames → List Use) → ((fs : Frames) → us fs ≡ vs fs) → OnOk r ((fs : Frames) → ends ≡ sums fs → Took g s g1 s1 (us fs)) → OnOk r ((fs : Frames) → ends ≡ sums fs → Took g s g1 s1 (vs fs))
+on_ok_uses r ends g s g1 s1 us vs e h = on_ok_weaker r (λ t fs q. as_uses g s g1 s1 (us fs) (vs fs) (e fs) (t fs q)) h
 
 pub means_global : (fs : Frames) (r : Ref) (n : ℕ) → r ≡ Ref.Global n → global n ≡ meant fs r
 unfolding meant

@@ -1,12 +1,14 @@
 -- How names are counted: what one step changes in the counts.
-use Rattle.std.specs.Prelude.{◌≡◌, ℕ, suc, ◌+◌, max, List, [], ◌∷◌, ◌++◌, nat_eq, cond, get_or, length, slice_get}
+use Rattle.std.specs.Prelude.{◌≡◌, ℕ, zero, suc, ◌+◌, max, List, [], ◌∷◌, ◌++◌, nat_eq, cond, get_or, length, slice_get}
 use Rattle.std.specs.List.{flat_map}
 use Rattle.cc_ast.specs.Syntax as S
 use Rattle.cc_printer.specs.RawOf.{Frames, places}
 use Rattle.cc_printer.specs.Naming.{inside_catches}
 use Rattle.cc_rename.specs.declared.met.Met.{Met}
 use Rattle.cc_rename.specs.declared.met.Met.TheVariants.{Variable, Function, Clause}
-use Rattle.cc_rename.specs.Uses.{Use, prints, global, slot, meant, Insides, function_uses, occurrences, slots_of}
+use Rattle.cc_meaning.specs.Shapes.{body_of}
+use Rattle.cc_rename.specs.Steps.{met_stmts}
+use Rattle.cc_rename.specs.Uses.{Use, prints, spans, global, slot, meant, Insides, function_uses, occurrences, slots_of}
 
 -- room for so many counts; those that are new are 0
 pub record Reaches (old new : List ℕ) (n : ℕ) : Type 0 where
@@ -39,3 +41,9 @@ met_uses P I fs (Clause c) = prints (slot (places (inside_catches c fs))) ∷ []
 unfoldable pub all_uses : S.Program → Insides → Frames → List Met → List Use
 unfolding met_uses
 all_uses P I fs ms = flat_map (met_uses P I fs) ms
+
+-- what is printed of a scope, over what is met in it
+unfoldable pub met_scope : S.Program → ℕ → Insides
+unfolding all_uses met_stmts
+met_scope P zero f fs = []
+met_scope P (suc n) f fs = spans (places fs) ∷ all_uses P (met_scope P n) fs (met_stmts 0 (body_of P f))

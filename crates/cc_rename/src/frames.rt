@@ -1,10 +1,10 @@
 // The frames around a scope: how many places they have together, from the outermost one on.
-ghost use Rattle.std.specs.Prelude.{◌≡◌, ◌+◌, ◌∷◌, drop, OnOk, IfSome, suc};
+ghost use Rattle.std.specs.Prelude.{◌≡◌, ◌+◌, ◌∷◌, drop, OnOk, IfOk, IfSome, suc};
 ghost use Rattle.cc_printer.specs.RawOf.{Frames, places, outside};
 ghost use Rattle.cc_printer.specs.Naming.{inside_catches};
 ghost use Rattle.cc_rename.specs.Counting.{sums};
 
-use std::alloc::AllocError;
+use std::alloc::{AllocError, Global};
 
 /// How many places the frames have, the innermost ones left out.
 pub(crate) fn places_behind(ends: &[usize], left_out: usize) -> usize
@@ -65,4 +65,15 @@ pub(crate) fn enter_own(ends: &mut Vec<usize>, own: bool) -> Result<(), AllocErr
         enter(ends, 1)?;
     }
     Ok(())
+}
+
+/// The same frames once more.
+pub(crate) fn copied(alloc: Global, ends: &[usize]) -> Result<Vec<usize>, AllocError>
+    ensures { IfOk result (λ v. v.items ≡ ends.now) }
+{
+    let mut copy = Vec::new(alloc);
+    for end in ends {
+        copy.push(*end)?;
+    }
+    Ok(copy)
 }

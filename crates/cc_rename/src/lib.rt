@@ -9,6 +9,7 @@ mod frames;
 mod mention;
 mod met;
 mod parts;
+mod scope;
 mod statement;
 mod tally;
 
