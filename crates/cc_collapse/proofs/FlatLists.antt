@@ -88,3 +88,52 @@ module _ (F : Facts) (S : Tables) (P : Plan S) (setting : (holder : ℕ) → ℕ
     list_hoists (root_o r f k) = St.hoist_more KF X (at None 0) (St.hoist_other KF X (at None 0) _ _ refl refl) (list_hoists k)
     list_hoists (inner_var_o n f a k) = St.hoist_more KF X (at None 0) (St.hoist_other KF X (at None 0) _ _ refl refl) (list_hoists k)
     list_hoists (inner_o n f a k) = St.hoist_more KF X (at None 0) (St.hoist_other KF X (at None 0) _ _ refl refl) (list_hoists k)
+
+  -- ---- the lists run
+
+  module _ (G : Globals F S P) (exact : IsExact (T F S P)) (D End : ℕ → Type 0) (more : (h : ℕ) → D h → End h) (free : (h : ℕ) → setting h ≡ c → D h → ⊥) (own : (h : ℕ) → setting h ≡ c → End h)
+      (P0 Q0 : Program) (d d' : ℕ) (all : (u : W F S P) → AllBodiesT KF P0 Q0 u) where
+    -- those that were declared before the chunk, and those of its list so far
+    abbrev Upto : List ℕ → ℕ → Type 0
+    Upto ds h = D h ⊎ (In h ds × (setting h ≡ c))
+
+    abbrev Own : List ℕ → Stmts → Stmts → Type 0
+    Own ds ss ss' = OwnT F S P G exact c End P0 Q0 d d' all (Upto ds) ss ss'
+
+    ends : {ds : List ℕ} (h : ℕ) → Upto ds h → End h
+    ends h (inl x) = more h x
+    ends h (inr x) = own h x.1
+
+    with_one : {ds : List ℕ} {h : ℕ} → setting h ≡ c → (i : ℕ) → With F S P G exact c End (Upto ds) h i → Upto (h ∷ ds) i
+    with_one e i (inl (inl x)) = inl x
+    with_one e i (inl (inr x)) = inr (there x.0, x.1)
+    with_one {ds = ds} {h = h} e i (inr q) = inr (subst (λ z. In z (h ∷ ds)) (sym q) here, subst (λ z. setting z ≡ c) (sym q) e)
+
+    not_upto : {ds : List ℕ} {h : ℕ} → Fresh ds h → Upto ds h → ⊥
+    not_upto {h = h} f (inl x) = free h f.here_set x
+    not_upto f (inr x) = f.not_yet x.0
+
+    one_ends : {ds : List ℕ} {h : ℕ} → setting h ≡ c → (i : ℕ) → With F S P G exact c End (Upto ds) h i → End i
+    one_ends e i x = ends i (with_one e i x)
+
+    -- after a declaration
+    goes_on : {ds : List ℕ} {h : ℕ} {s s' : Stmt} {ss ss' : Stmts} → setting h ≡ c → StepT F S P G exact c End P0 Q0 d d' all (Upto ds) (With F S P G exact c End (Upto ds) h) s s' → Own (h ∷ ds) ss ss' → Own ds (more_stmts s ss) (more_stmts s' ss')
+    goes_on e h k = own_more F S P G exact c End P0 Q0 d d' all (one_ends e) h (record { by = λ w le le' q. k.by w le le' (known_more F S P G exact c End (with_one e) q) })
+
+    stays_step : {ds : List ℕ} {s s' : Stmt} → Stays s s' → StepT F S P G exact c End P0 Q0 d d' all (Upto ds) (Upto ds) s s'
+    stays_step h = step_same F S P G exact c End P0 Q0 d d' all ends h.1 (λ w le le'. Fk.stmt KF (below_at F S P G exact c End P0 Q0 d d' all w le le') (exchange F S P) (flat_rules F S P G (below_at F S P G exact c End P0 Q0 d d' all w le le')) [] h.0)
+
+    list_runs : {ds : List ℕ} {ss ss' : Stmts} → OwnSs ds ss ss' → Own ds ss ss'
+    list_runs none_o = own_none F S P G exact c End P0 Q0 d d' all ends
+    list_runs (same_o h k) = own_more F S P G exact c End P0 Q0 d d' all ends (stays_step h) (list_runs k)
+    list_runs (declared_o {i = i} {j = j} {x = x} {r = r} {e = e} h k) = own_more F S P G exact c End P0 Q0 d d' all ends (step_declared F S P G exact c End P0 Q0 d d' all i j x r e (stays_step h)) (list_runs k)
+    list_runs (bare_o {i = i} {j = j} {r = r} k) = own_bare F S P G exact c End P0 Q0 d d' all i j r (list_runs k)
+    list_runs (split_o {i = i} {x = x} {xs = xs} k) = own_split F S P G exact c End P0 Q0 d d' all i x xs (list_runs k)
+    list_runs (split_right_o {i = i} {x = x} {xs = xs} k) = own_split_right F S P G exact c End P0 Q0 d d' all i x xs (list_runs k)
+    list_runs (root_var_o {h = h} {i = i} {i' = i'} {j = j} {j' = j'} {l = l} {l' = l'} r f k) = goes_on f.here_set (step_root_var F S P G exact c End P0 Q0 d d' all h r (not_upto f) f.near (one_ends f.here_set) i i' j j' l l') (list_runs k)
+    list_runs (root_o {h = h} {i = i} {i' = i'} {j = j} {j' = j'} {x = x} {x' = x'} {l = l} {l' = l'} r f k) = goes_on f.here_set (step_root F S P G exact c End P0 Q0 d d' all h r (not_upto f) f.near (one_ends f.here_set) i i' j j' x x' l l') (list_runs k)
+    list_runs (inner_var_o {q = q} {p = p} {h = h} {i = i} {i' = i'} {j = j} {j' = j'} {x = x} {l = l} {l' = l'} n f a k) = goes_on f.here_set (step_inner_var F S P G exact c End P0 Q0 d d' all q p h n (not_upto f) f.near (one_ends f.here_set) a i i' j j' x l l') (list_runs k)
+    list_runs (inner_o {q = q} {p = p} {h = h} {i = i} {i' = i'} {j = j} {j' = j'} {x = x} {x' = x'} {l = l} {l' = l'} n f a k) = goes_on f.here_set (step_inner F S P G exact c End P0 Q0 d d' all q p h n (not_upto f) f.near (one_ends f.here_set) a i i' j j' x x' l l') (list_runs k)
+
+    pub chunk_runs : {ss ss' : Stmts} → OwnSs [] ss ss' → OwnT F S P G exact c End P0 Q0 d d' all D ss ss'
+    chunk_runs h = let k = list_runs h in record { by = λ w le le' q. k.by w le le' (known_more F S P G exact c End (λ i x. inl x) q) }
