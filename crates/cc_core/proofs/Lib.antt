@@ -8,3 +8,5 @@ pub mod Listed
 pub mod SlotLemmas
 pub mod Arranging
 pub mod CopyLaws
+pub mod ShopLemmas
+pub mod AloneLemmas

@@ -49,7 +49,7 @@ module _ {P : Type 0} (W : Work P) (law : Lawful W) where
         | false ↦ λ is. subst (λ (b : Bool). Same base (with_heads base (mixed (rewrites W step base) (λ _. true) base.scopes) (cond b (heads_of base) (W.heads (W.plan step base) base)))) is (law.whole step base fits is)
       ] refl
 
-  length_phase : (step : ℕ) (base : Program) → length (phase W step base).scopes ≡ length base.scopes
+  pub length_phase : (step : ℕ) (base : Program) → length (phase W step base).scopes ≡ length base.scopes
   unfolding phase
   length_phase step base = length_mixed (rewrites W step base) (λ _. true) base.scopes
 

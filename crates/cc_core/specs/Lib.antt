@@ -9,3 +9,5 @@ pub mod Drawn
 pub mod SlotState
 pub mod ShopState
 pub mod Copies
+pub mod Answer
+pub mod Alone

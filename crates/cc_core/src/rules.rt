@@ -14,7 +14,7 @@ pub trait Rules: Send + Sync + Drop {
     type Plan: Send + Sync + Drop;
 
     /// What is kept of the phases that are closed.
-    type Past: Send + Drop;
+    type Past: Send + Sync + Drop;
 
     /// What the phases mean.
     ghost work: { Self → Work Self.Plan };
