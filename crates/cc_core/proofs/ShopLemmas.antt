@@ -3,7 +3,7 @@ use Rattle.std.proofs.Common.{◌≡◌, ℕ, zero, suc, ◌+◌, ◌<◌, List,
 use Rattle.cc_ast.specs.Syntax.{Program, Scope, Heads}
 use Rattle.cc_core.specs.Work.{Work, Lawful, with_scopes, with_heads, heads_of, heads_after, rewrites, phase, step_after, mixed, after_phases, history, visited}
 use Rattle.cc_core.specs.State as core
-use Rattle.cc_core.specs.State.{undone, started, all_fresh, laid, fresh, Shown, Done, State, is_pending, is_claimed, is_done, is_done_at, with_slots, scope_in, in_place, Kept, reading, Sound, chosen, places}
+use Rattle.cc_core.specs.State.{undone, started, all_fresh, laid, fresh, Shown, Done, State, is_pending, is_claimed, is_done, is_done_at, with_slots, scope_in, in_place, reading, Sound, chosen, places}
 use Rattle.cc_core.specs.Events.{Closes, event, after_close, entered, claimed, one_more, put_in, given_back, at_place, at_found, after_put, IsRewrite, follows, is_due}
 use Rattle.cc_core.specs.Makes.{made_of, made_of_some, made_at, TellsChange, IsMade}
 use Rattle.cc_core.specs.Changed.{differing}
@@ -11,7 +11,7 @@ use Rattle.cc_core.specs.Copies.{copies, Inside, written}
 use Rattle.cc_core.specs.declared.made.Made.{Made}
 use Rattle.cc_core.specs.declared.made.Made.TheVariants.{Same, Other}
 use Rattle.cc_core.specs.declared.slots.Slot.{Slot}
-use Rattle.cc_core.specs.declared.slots.Mark.TheVariants.{Pending, Claimed, Kept as KeptHere, Changed, Aside}
+use Rattle.cc_core.specs.declared.slots.Mark.TheVariants.{Pending, Claimed, Kept, Changed, Aside}
 use Rattle.cc_core.specs.declared.programs.Change.{Change}
 use Rattle.cc_core.specs.SlotState.{mark_of, slot_of, slots_of, is_changed_inside, changes, due, open_at, idle}
 use Rattle.cc_core.specs.ShopState.{state_of, DiffersIf, Differ, Stands}
@@ -20,7 +20,7 @@ use Rattle.cc_core.proofs.SlotLemmas.{length_slots_of}
 use Rattle.cc_core.proofs.CopyLaws.{length_differ, differ_set, differ_get, places_differ, written_differ, inside_differ, same_of_none, none_of_same, below_differ}
 use Rattle.cc_core.proofs.Machine.{length_phase, sound_started, sound_close, sound_claim, sound_repeat, put_sound, given_back_sound, sound_enter}
 
-pub kept_length : (f : Rewrites) (xs : List Scope) (ss : List core.Slot) → Kept f xs ss → length ss ≡ length xs
+pub kept_length : (f : Rewrites) (xs : List Scope) (ss : List core.Slot) → core.Kept f xs ss → length ss ≡ length xs
 kept_length f [] [] kept = refl
 kept_length f [] (s ∷ ss) kept = absurd kept
 kept_length f (x ∷ xs) [] kept = absurd kept
@@ -28,7 +28,7 @@ kept_length f (x ∷ xs) (s ∷ ss) kept = ap suc (kept_length (λ k. f (suc k))
 
 placed_here : (x y : Scope) (s : Slot) → DiffersIf (is_changed_inside s) x y → scope_in x (mark_of y s.mark) ≡ y
 placed_here x y s =
-    elim (s.mark) as (λ m. DiffersIf (is_changed_inside (record { stamp = s.stamp; mark = m; out = s.out })) x y → scope_in x (mark_of y m) ≡ y) [ Pending ↦ λ d. sym d | Claimed ↦ λ d. sym d | KeptHere ↦ λ d. refl | Changed ↦ λ d. refl | Aside ↦ λ d. refl ]
+    elim (s.mark) as (λ m. DiffersIf (is_changed_inside (record { stamp = s.stamp; mark = m; out = s.out })) x y → scope_in x (mark_of y m) ≡ y) [ Pending ↦ λ d. sym d | Claimed ↦ λ d. sym d | Kept ↦ λ d. refl | Changed ↦ λ d. refl | Aside ↦ λ d. refl ]
 
 -- the base with the done scopes is what is made
 pub in_place_differ : (xs ys : List Scope) (ss : List Slot) → Differ xs ys (changes ss) → in_place xs (slots_of ys ss) ≡ ys
@@ -75,7 +75,7 @@ set_same (y ∷ xs) (suc k) x get = ap (λ zs. y ∷ zs) (set_same xs k x get)
 
 open_here : (x : Scope) (s : Slot) → is_done (slot_of x s) ≡ false → is_changed_inside s ≡ false
 open_here x s =
-    elim (s.mark) as (λ m. is_done (record { mark = mark_of x m; out = s.out }) ≡ false → is_changed_inside (record { stamp = s.stamp; mark = m; out = s.out }) ≡ false) [ Pending ↦ λ e. refl | Claimed ↦ λ e. refl | KeptHere ↦ λ e. refl | Changed ↦ λ e. absurd (cc) | Aside ↦ λ e. refl ]
+    elim (s.mark) as (λ m. is_done (record { mark = mark_of x m; out = s.out }) ≡ false → is_changed_inside (record { stamp = s.stamp; mark = m; out = s.out }) ≡ false) [ Pending ↦ λ e. refl | Claimed ↦ λ e. refl | Kept ↦ λ e. refl | Changed ↦ λ e. absurd (cc) | Aside ↦ λ e. refl ]
 
 -- a slot that is not done is not changed
 pub open_flag : (xs : List Scope) (ss : List Slot) (k : ℕ) → length ss ≡ length xs → k < length ss → is_done_at k (slots_of xs ss) ≡ false → slice_get (changes ss) k ≡ Some false
