@@ -2,6 +2,8 @@
 //! go into one table. The functions here state laws of it, and do nothing.
 #![tactic(auto)]
 
+pub(crate) mod bindings;
+
 ghost use Rattle.cc_scope.specs.Promises.{ReadsBack, TablesAreMade, AreCounted, IsExact, NoLoop, IsAnswered, IsWellMade, IsLimited, LastCounts, LastDeclarationCounts, AnnotatedAreDeclared, IsOfReading};
 
 /// What is written with names and resolved again is alike to what was written.
