@@ -1,10 +1,10 @@
 // Slots of the program's own objects (ECMA-262 5.1, 8.12 and 15.4.5).
 
-ghost use Rattle.std.specs.Prelude.{◌≡◌, IfOk, List, OnOk};
+ghost use Rattle.std.specs.Prelude.{◌≡◌, IfOk, List, OnOk, false};
 ghost use Rattle.cc_ast.specs.declared.tables.TypeSet.{TypeSet};
 ghost use Rattle.cc_meaning.specs.Acts as Acts;
 ghost use Rattle.cc_meaning.specs.Shapes.{tables_of};
-ghost use Rattle.cc_meaning.specs.State.{Obj, Reply};
+ghost use Rattle.cc_meaning.specs.State.{Obj, Reply, State as Seen};
 ghost use Rattle.cc_meaning.specs.Store as Store;
 ghost use Rattle.cc_value.specs.Bridge.{value_of};
 ghost use Rattle.cc_heap.specs.Bridge.{held_of};
@@ -162,4 +162,40 @@ pub fn write_slot(
     put(setting.program, &mut state.heap, object, key, made, value)?;
     receive_reached(setting.program, &mut state.heap, object, key, &received)?;
     Ok(())
+}
+
+// A name as the key that a text is which no literal is.
+fn text_key(alloc: Global, name: &Units) -> Result<Access, AllocError>
+    ensures { IfOk result (λ key. access_of key ≡ Store.runtime name.now false) }
+{
+    let text = name.copy_of(alloc)?;
+    Ok(Access::Runtime { text, whole: false })
+}
+
+#[tactic(auto, unfolding(cc_meaning::specs::Acts::is_there))]
+fn is_there(heap: &Heap, on: &Value, name: &Units) -> bool
+    ensures { (s : Seen) → s.objs ≡ heap.now.objs → result ≡ Acts.is_there s (value_of on.now) name.now }
+{
+    match on {
+        Value::Object(object) => heap.has_name(*object, name),
+        _ => false,
+    }
+}
+
+/// Whether the chain of a value has a name (ECMA-262 5.1, 11.8.7).
+pub fn probe(
+    setting: &Setting,
+    state: &State,
+    spot: Spot,
+    on: &Value,
+    name: &Units,
+) -> Result<bool, Stop>
+    ensures { (rs : List Reply) → let s = state_of setting.now.program.now rs state.now in Comes (λ b. b) result s (Acts.probe (mode_of setting.now.plain) (spot_of spot) (value_of on.now) name.now s) }
+{
+    let key = text_key(state.heap.allocator(), name)?;
+    let rule = probe_rule(setting.program, &state.heap, on, &key);
+    if let Err(stop) = settle(setting.plain, spot, rule) {
+        return Err(stop);
+    }
+    Ok(is_there(&state.heap, on, name))
 }

@@ -1,8 +1,7 @@
 // The machine: where it stands, what waits, and the state of the run.
 
-ghost use Rattle.std.specs.Prelude.{◌≡◌, ◌∷◌, List, OnOk};
-ghost use Rattle.cc_meaning.specs.State.{Reply as Told};
-ghost use Rattle.cc_machine.specs.Frames.{value_frame_of};
+ghost use Rattle.std.specs.Prelude.{◌≡◌, ◌∷◌, [], IfNone, IfSome, OnOk};
+ghost use Rattle.cc_machine.specs.Frames.{frame_of, value_frame_of};
 ghost use Rattle.cc_machine.specs.Machine as Pure;
 ghost use Rattle.cc_machine.specs.Shown.{machine_of};
 
@@ -34,5 +33,13 @@ impl<'a> Machine<'a> {
         let frame = Boxed::new(self.state.heap.allocator(), frame)?;
         self.stack.push(Frame::Value(frame))?;
         Ok(())
+    }
+
+    /// Takes the newest frame, where one waits.
+    pub(crate) fn pop(&mut self) -> Option<Frame<'a>>
+        ensures some { (f : Pure.Focus) → IfSome result (λ k. machine_of f self.old ≡ record (machine_of f self.new) { stack = frame_of k ∷ (machine_of f self.new).stack }) }
+        ensures none { (f : Pure.Focus) → IfNone result (machine_of f self.old ≡ record (machine_of f self.new) { stack = [] }) }
+    {
+        self.stack.pop()
     }
 }
