@@ -7,6 +7,7 @@
 #![tactic(auto)]
 
 pub mod copy;
+pub mod limits;
 pub mod operator;
 pub mod place;
 pub mod program;

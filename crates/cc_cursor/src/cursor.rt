@@ -10,11 +10,12 @@ ghost use Rattle.cc_cursor.specs.Reads as spec;
 ghost use Rattle.cc_cursor.specs.Reads.{Reads, same};
 
 use crate::error::{Cause, Fault, ReadError};
-use crate::lexeme::{Kind, Lexeme, is_end, is_mark, is_word, lexeme_of, offends};
+use crate::lexeme::{Kind, Lexeme, is_end, is_mark, is_word, kind_of, lexeme_of, offends};
 use crate::refused::{Due, fault};
 use cc_ast::place::Place;
 use cc_ast::reading::{Construct, Refusal};
-use cc_lexer::token::{Mark, Token, TokenKind, Tokens};
+use cc_lexer::list::TokenList;
+use cc_lexer::token::{Mark, Tokens};
 use cc_lexer::word::Word;
 use std::marker::Model;
 
@@ -22,7 +23,7 @@ use std::marker::Model;
 /// before it, and behind them the place where none begins.
 #[derive(Drop)]
 pub struct Cursor<'a> {
-    tokens: &'a [Token<'a>],
+    tokens: &'a TokenList<'a>,
     at: usize,
     noted: bool,
     stop: Option<Lexeme<'a>>,
@@ -36,9 +37,9 @@ impl<'a> Model for Cursor<'a> {
 
     ghost use Rattle.cc_cursor.specs.Shown.{behind, BeginsReal};
 
-    ghost view = { λ c. behind c.noted (drop c.at c.tokens.now) c.stop };
+    ghost view = { λ c. behind c.noted (drop c.at c.tokens.now.items) c.stop };
 
-    ghost invariant = { λ c. BeginsReal (drop c.at c.tokens.now) };
+    ghost invariant = { λ c. BeginsReal (drop c.at c.tokens.now.items) };
 }
 
 const NOTHING: Lexeme<'static> = Lexeme {
@@ -75,16 +76,18 @@ fn stop_of<'a>(stop: &Option<Refusal>) -> Option<Lexeme<'a>>
 }
 
 // The index of the first token from this one on that is no comment.
-fn skip(tokens: &[Token<'_>], from: usize) -> usize
-    requires { from ≤ length tokens.now }
-    ensures behind { (stop : Option coded.Lexeme) → shown.behind false (drop from tokens.now) stop ≡ shown.behind (nat_lt from result) (drop result tokens.now) stop }
-    ensures real { shown.BeginsReal (drop result tokens.now) }
+fn skip(tokens: &TokenList<'_>, from: usize) -> usize
+    requires { from ≤ length tokens.now.items }
+    ensures behind { (stop : Option coded.Lexeme) → shown.behind false (drop from tokens.now.items) stop ≡ shown.behind (nat_lt from result) (drop result tokens.now.items) stop }
+    ensures real { shown.BeginsReal (drop result tokens.now.items) }
     ensures order { from ≤ result }
 {
     for at in from..tokens.len() {
-        match tokens[at].kind {
-            TokenKind::Doc(_) => {}
-            _ => return at,
+        let Some(token) = (&*tokens).get(at) else {
+            return at;
+        };
+        if kind_of(token.kind).is_some() {
+            return at;
         }
     }
     tokens.len()
@@ -95,10 +98,9 @@ impl<'a> Cursor<'a> {
     pub fn new(tokens: &'a Tokens<'a>) -> Cursor<'a>
         ensures { result ≡ symbols.lexemes false tokens.now.list.items tokens.now.stop }
     {
-        let list = tokens.list.as_slice();
-        let at = skip(list, 0);
+        let at = skip(&tokens.list, 0);
         Cursor {
-            tokens: list,
+            tokens: &tokens.list,
             at,
             noted: at > 0,
             stop: stop_of(&tokens.stop),

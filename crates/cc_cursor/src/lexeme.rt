@@ -4,13 +4,15 @@ ghost use Rattle.std.specs.Prelude.{◌≡◌, ◌∷◌, [], true, is_some};
 ghost use Rattle.std.specs.Option.{option_map};
 ghost use Rattle.cc_grammar.specs.Fronts as fronts;
 ghost use Rattle.cc_grammar.specs.Symbols as symbols;
+ghost use Rattle.cc_lexer.specs.TokenLists.{seen};
 ghost use Rattle.cc_cursor.specs.Shown as shown;
 
 use cc_ast::place::Place;
 use cc_ast::reading::Construct;
 use cc_ast::units::Units;
+use cc_lexer::list::Seen;
 use cc_lexer::piece::Piece;
-use cc_lexer::token::{Mark, Token, TokenKind};
+use cc_lexer::token::{Mark, TokenKind};
 use cc_lexer::word::Word;
 
 /// What a token is. Nothing begins at `Stop`, where perhaps a construct is refused.
@@ -51,11 +53,11 @@ pub fn kind_of<'a>(token: &'a TokenKind<'a>) -> Option<Kind<'a>>
 }
 
 /// A token that is no comment, noted or not.
-pub(crate) fn lexeme_of<'a>(token: &'a Token<'a>, noted: bool) -> Lexeme<'a>
-    requires { is_some (symbols.kind_of token.now.kind) ≡ true }
-    ensures { symbols.lexeme (symbols.kind_of token.now.kind) noted token.now ≡ shown.lexeme result ∷ [] }
+pub(crate) fn lexeme_of<'a>(token: Seen<'a>, noted: bool) -> Lexeme<'a>
+    requires { is_some (symbols.kind_of token.kind.now) ≡ true }
+    ensures { symbols.lexeme (symbols.kind_of token.entry.kind.now) noted (seen token.entry) ≡ shown.lexeme result ∷ [] }
 {
-    match kind_of(&token.kind) {
+    match kind_of(token.kind) {
         Some(kind) => Lexeme {
             kind,
             place: token.place,

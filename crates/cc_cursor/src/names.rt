@@ -1,6 +1,6 @@
 // Variables and parameters.
 
-ghost use Rattle.std.specs.Prelude.{◌≡◌, []};
+ghost use Rattle.std.specs.Prelude.{◌≡◌};
 ghost use Rattle.std.specs.Option.{option_copied, option_map};
 ghost use Rattle.cc_grammar.specs.Reading as reading;
 ghost use Rattle.cc_raw.specs.Bridge.{named};
@@ -46,15 +46,19 @@ pub fn variable(alloc: Global, cursor: &mut Cursor<'_>) -> Result<Named, ReadErr
     })
 }
 
-fn params(alloc: Global, cursor: &mut Cursor<'_>, turns: usize) -> Result<Items<Named>, ReadError>
-    ensures { Reads shown.names (spec.params turns [] cursor.old) result cursor.new }
+// Adds the parameters that come next to those found, up to the parenthesis that closes them.
+fn add_params(
+    alloc: Global,
+    cursor: &mut Cursor<'_>,
+    turns: usize,
+    found: &mut Items<Named>,
+) -> Result<(), ReadError>
+    ensures { Reads (λ _. shown.names found.new) (spec.params turns (shown.names found.old) cursor.old) result cursor.new }
 {
-    let mut found = Items::new(alloc);
     for _turn in 0..turns {
         found.push(variable(alloc, cursor)?)?;
         if !cursor.sees(Mark::Comma) {
-            cursor.expect(Mark::CloseParen)?;
-            return Ok(found);
+            return cursor.expect(Mark::CloseParen);
         }
         cursor.take();
     }
@@ -74,7 +78,9 @@ pub fn params_of(
         cursor.take();
         return Ok(Items::new(alloc));
     }
-    params(alloc, cursor, turns)
+    let mut found = Items::new(alloc);
+    add_params(alloc, cursor, turns, &mut found)?;
+    Ok(found)
 }
 
 /// The name of a function expression, where it has one.

@@ -6,8 +6,10 @@ pub mod WordLemmas
 pub mod ItemLemmas
 pub mod PlaceLemmas
 pub mod LexLemmas
+pub mod ListLemmas
 pub mod OnceLemmas
 pub mod MarkLemmas
 pub mod PieceLemmas
 pub mod QuickLemmas
+pub mod SpanLemmas
 pub mod CoverLemmas

@@ -1,5 +1,5 @@
 -- Places over a text.
-use Rattle.std.specs.Prelude.{◌≡◌, ℕ, zero, suc, ◌+◌, ◌-◌, ◌≤◌, ◌<◌, List, [], ◌∷◌, ◌++◌, Bool, true, false, not, ◌&&◌, nat_lt, length, take, drop, encode_utf8, encode_utf8_all}
+use Rattle.std.specs.Prelude.{◌≡◌, ℕ, zero, suc, ◌+◌, ◌-◌, ◌≤◌, ◌<◌, List, [], ◌∷◌, ◌++◌, Bool, true, false, not, ◌&&◌, nat_lt, if◌then◌else◌, length, take, drop, encode_utf8, encode_utf8_all}
 use Rattle.std.specs.Char.{len_utf8}
 use Rattle.std.specs.List.{list_all}
 use Rattle.std.proofs.lemmas.Bool.{ltb-true, not-true}
@@ -8,11 +8,12 @@ use Rattle.std.proofs.Math.Seq.{take-append_seam}
 use Rattle.std.proofs.lemmas.Str.{encodes-chars, length-encode, encode_ascii, len_utf8_ascii, chars_past_char, IsUtf8-past_char, IsUtf8-take, IsCharBoundary-at_seam, IsCharBoundary-from_drop, chars-append}
 use Rattle.std.specs.Str.{chars, IsUtf8, IsCharBoundary}
 use Rattle.std.proofs.Common.{refl, sym, ◌∙◌, ap, subst, arith, length-append}
+use Rattle.cc_ast.specs.Limits.{most_bytes}
 use Rattle.cc_ast.specs.declared.place.Place.{Place}
 use Rattle.cc_text.specs.Characters.{is_line_end}
 use Rattle.cc_text.specs.Ends.{Ends}
 use Rattle.cc_text.proofs.EscapeLemmas.{bytes_end, shorter}
-use Rattle.cc_lexer.specs.Lexes.{Passed, here, over, beyond, HasRoom}
+use Rattle.cc_lexer.specs.Lexes.{Passed, here, over, beyond, ends_line, first_place, HasRoom}
 
 -- over one more character
 pub passed_more : {p q : Place} {c : ℕ} {cs ds : List ℕ} → Passed p cs q (c ∷ ds) → Passed p cs (beyond q c ds) ds
@@ -55,6 +56,21 @@ passed_once here (over x) e = let k = longer_passed x in let n = ap length e in 
 passed_once (over x) here e = let k = longer_passed x in let n = ap length e in absurd (omega arith)
 passed_once (over x) (over y) e = passed_once x y e
 
+either_file : (b : Bool) (p q r : Place) → q.file ≡ p.file → r.file ≡ p.file → (if◌then◌else◌ {A = Place} b q r).file ≡ p.file
+either_file true p q r e h = e
+either_file false p q r e h = h
+
+-- a place goes on in its file
+pub passed_file : {p q : Place} {cs rest : List ℕ} → Passed p cs q rest → q.file ≡ p.file
+passed_file here = refl
+passed_file (over {p = p} {c = c} {cs = cs} x) = passed_file x ∙ either_file (ends_line c cs) p _ _ refl refl
+
+-- a file has room for its text
+pub first_room : (file n : ℕ) (p : Place) → p ≡ first_place file → n ≤ most_bytes → HasRoom p n
+first_room file n p e h =
+    let o = ap (λ q. q.offset) e in let l = ap (λ q. q.line) e in let k = ap (λ q. q.column) e in
+    record { offset = omega (arith, o, h); line = omega (arith, l, h); column = omega (arith, k, h) }
+
 -- ---- over ASCII characters that end no line
 
 abbrev pub is_plain : ℕ → Bool
@@ -72,14 +88,20 @@ pub record Front (n : ℕ) (bs : List ℕ) : Type 0 where
 front_more : (n b : ℕ) (bs : List ℕ) → chars (b ∷ bs) ≡ b ∷ chars bs → Front n bs → Front (suc n) (b ∷ bs)
 front_more n b bs e f = record { text = f.text; parts = e ∙ ap (λ cs. b ∷ cs) f.parts }
 
+-- those of a class of ASCII characters
+pub ascii_front : (p : ℕ → Bool) → ((b : ℕ) → p b ≡ true → b < 128) → (n : ℕ) (bs : List ℕ) → IsUtf8 bs → n ≤ length bs → list_all p (take n bs) ≡ true → Front n bs
+ascii_front p low zero bs u h e = record { text = u; parts = refl }
+ascii_front p low (suc n) [] u h e = absurd (omega arith)
+ascii_front p low (suc n) (b ∷ bs) u h e =
+    let q = both (p b) (list_all p (take n bs)) e in
+    let one : b ∷ bs ≡ encode_utf8 b ++ bs = ap (λ x. x ++ bs) (sym (encode_ascii b (low b q.0))) in
+    front_more n b bs (chars_past_char (b ∷ bs) bs b u one) (ascii_front p low n bs (IsUtf8-past_char (b ∷ bs) bs b u one) (omega arith) q.1)
+
+plain_low : (b : ℕ) → is_plain b ≡ true → b < 128
+plain_low b e = ltb-true b 128 (both (nat_lt b 128) (not (is_line_end b)) e).0
+
 pub plain_front : (n : ℕ) (bs : List ℕ) → IsUtf8 bs → n ≤ length bs → list_all is_plain (take n bs) ≡ true → Front n bs
-plain_front zero bs u h e = record { text = u; parts = refl }
-plain_front (suc n) [] u h e = absurd (omega arith)
-plain_front (suc n) (b ∷ bs) u h e =
-    let p = both (is_plain b) (list_all is_plain (take n bs)) e in
-    let q = both (nat_lt b 128) (not (is_line_end b)) p.0 in
-    let one : b ∷ bs ≡ encode_utf8 b ++ bs = ap (λ x. x ++ bs) (sym (encode_ascii b (ltb-true b 128 q.0))) in
-    front_more n b bs (chars_past_char (b ∷ bs) bs b u one) (plain_front n bs (IsUtf8-past_char (b ∷ bs) bs b u one) (omega arith) p.1)
+plain_front = ascii_front is_plain plain_low
 
 abbrev place_of : ℕ → ℕ → ℕ → ℕ → Place
 place_of a b c d = record { file = a; offset = b; line = c; column = d }

@@ -10,9 +10,9 @@ use Rattle.cc_text.specs.Characters.{is_digit, is_line_end}
 use Rattle.cc_lexer.specs.declared.item.Item as coded
 use Rattle.cc_lexer.specs.declared.token.Mark.{Mark}
 use Rattle.cc_lexer.specs.declared.token.Mark.TheVariants as m
-use Rattle.cc_lexer.specs.Characters.{is_white, is_start, is_part, is_quote, run, behind}
+use Rattle.cc_lexer.specs.Characters.{is_white, is_start, is_part, is_ascii_part, is_quote, run, behind}
 use Rattle.cc_lexer.specs.Marks.{spelling, single}
-use Rattle.cc_lexer.specs.Items.{token, word_or_name, longest, token_item, item, IsItem, BeginsWith}
+use Rattle.cc_lexer.specs.Items.{blank, token, Begins, other, word_or_name, longest, token_item, item, IsItem, BeginsWith}
 use Rattle.cc_lexer.proofs.ItemLemmas.{begins_other}
 use Rattle.cc_lexer.proofs.MarkLemmas.{single_spells}
 
@@ -50,17 +50,14 @@ equal_below p q n c e h = equal (p c) (q c) (below_each (λ d. same (p d) (q d))
 abbrev pub is_letter : ℕ → Bool
 is_letter c = is_in_range 97 122 c || is_in_range 65 90 c || c == 95 || c == 36
 
-abbrev pub is_letter_or_digit : ℕ → Bool
-is_letter_or_digit c = is_in_range 97 122 c || is_in_range 65 90 c || is_in_range 48 57 c || c == 95 || c == 36
-
 pub letter_start : (c : ℕ) → c < 128 → is_letter c ≡ is_start c
 letter_start c h =
     equal_below is_letter (λ d. d == 36 || d == 95 || is_ascii_alphabetic d) 128 c refl h
     ∙ ap (λ b. c == 36 || c == 95 || b) (sym (is_xid_start-ascii c h))
 
-pub part_ascii : (c : ℕ) → c < 128 → is_letter_or_digit c ≡ is_part c
+pub part_ascii : (c : ℕ) → c < 128 → is_ascii_part c ≡ is_part c
 part_ascii c h =
-    equal_below is_letter_or_digit (λ d. d == 36 || d == 95 || d == 0x200C || d == 0x200D || (is_ascii_alphanumeric d || (d == 95))) 128 c refl h
+    equal_below is_ascii_part (λ d. d == 36 || d == 95 || d == 0x200C || d == 0x200D || (is_ascii_alphanumeric d || (d == 95))) 128 c refl h
     ∙ ap (λ b. c == 36 || c == 95 || c == 0x200C || c == 0x200D || b) (sym (is_xid_continue-ascii c h))
 
 letter_ascii : (c : ℕ) → is_letter c ≡ true → c < 128
@@ -98,6 +95,11 @@ letter_other c e = is_other c (implied (is_letter c) (others c) (below_each (λ 
 
 other_item : (c : ℕ) (cs : List ℕ) → IsOther c → item c cs ≡ token_item c cs
 other_item c cs o = rw (o.white, o.line_end, o.slash) refl
+
+-- ---- a space
+
+pub begins_space : (c : ℕ) (cs text : List ℕ) → text ≡ c ∷ cs → c ≡ 32 → Begins text (blank false cs)
+begins_space c cs text e h = subst (λ t. Begins t (blank false cs)) (sym (e ∙ ap (λ x. x ∷ cs) h)) (other refl)
 
 -- ---- a word or a name
 

@@ -1,6 +1,7 @@
 -- The tokens of a text (ECMA-262 5.1, 7).
 use Rattle.std.specs.Prelude.{ℕ, ◌+◌, ◌≤◌, List, [], ◌∷◌, Bool, false, not, ◌||◌, ◌&&◌, ◌==◌, if◌then◌else◌, Option, Some, None}
 use Rattle.std.specs.Char.{len_utf8}
+use Rattle.cc_ast.specs.Limits.{most_bytes}
 use Rattle.cc_ast.specs.declared.place.Place.{Place}
 use Rattle.cc_ast.specs.declared.reading.Refusal.{Refusal}
 use Rattle.cc_ast.specs.declared.reading.Refusal.TheVariants as refusal
@@ -56,6 +57,6 @@ Lexed text file ts s = Lexes false (first_place file) text ts s
 
 -- so many bytes that follow the place keep its numbers within those of a file
 pub record HasRoom (p : Place) (bytes : ℕ) : Type 0 where
-  pub offset : p.offset + bytes ≤ 16777216
-  pub line : p.line + bytes ≤ 16777217
-  pub column : p.column + bytes ≤ 16777217
+  pub offset : p.offset + bytes ≤ most_bytes
+  pub line : p.line + bytes ≤ most_bytes + 1
+  pub column : p.column + bytes ≤ most_bytes + 1

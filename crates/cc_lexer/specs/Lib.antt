@@ -6,5 +6,6 @@ pub mod Numbers
 pub mod Comments
 pub mod Items
 pub mod Lexes
+pub mod TokenLists
 pub mod Covers
 pub mod Laws

@@ -83,7 +83,7 @@ fn begin_any<'a>(
     }
 }
 
-/// The same, where most texts begin with a letter or a mark that begins no number and no comment.
+/// The same, where most texts begin with a letter, a space, or a mark that begins no number and no comment.
 pub(crate) fn begin<'a>(
     alloc: Global,
     c: char,
@@ -95,6 +95,9 @@ pub(crate) fn begin<'a>(
 {
     if is_letter(c) {
         return Ok(word(text));
+    }
+    if c == ' ' {
+        return Ok(Item::Blank(false, rest));
     }
     if c == '.' || c == '/' {
         return begin_any(alloc, c, rest, text);

@@ -28,9 +28,16 @@ pub(crate) fn is_letter(c: char) -> bool
 
 // Whether an ASCII character goes on with a name.
 fn is_letter_or_digit(c: char) -> bool
-    ensures { result ≡ (is_in_range 97 122 c || is_in_range 65 90 c || is_in_range 48 57 c || c == 95 || c == 36) }
+    ensures { result ≡ class.is_ascii_part c }
 {
     matches!(c, 'a'..='z' | 'A'..='Z' | '0'..='9' | '_' | '$')
+}
+
+/// Whether a byte is an ASCII character that goes on with a name.
+pub(crate) fn is_ascii_part(byte: u8) -> bool
+    ensures { result ≡ class.is_ascii_part byte }
+{
+    matches!(byte, b'a'..=b'z' | b'A'..=b'Z' | b'0'..=b'9' | b'_' | b'$')
 }
 
 fn is_far_start(c: char) -> bool

@@ -9,6 +9,7 @@ mod comment;
 mod item;
 pub mod laws;
 mod lexing;
+pub mod list;
 mod mark;
 mod name;
 mod number;

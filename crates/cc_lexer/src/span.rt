@@ -1,13 +1,14 @@
 // Parts of a text.
 
-ghost use Rattle.std.specs.Prelude.{◌≡◌, ◌++◌, ◌≤◌, not};
+ghost use Rattle.std.specs.Prelude.{◌≡◌, ◌++◌, ◌≤◌, length, take, true, not};
+ghost use Rattle.std.specs.List.{list_all};
 ghost use Rattle.std.specs.Str.{chars, IsUtf8};
 ghost use Rattle.cc_text.specs.Characters.{first_is, is_digit, is_line_end};
 ghost use Rattle.cc_text.specs.Whole.{is_digit_in};
 ghost use Rattle.cc_text.specs.Ends.{Ends};
 ghost use Rattle.cc_lexer.specs.Characters as class;
 
-use crate::classes::is_part;
+use crate::classes::{is_ascii_part, is_part};
 use cc_text::{is_line_end, split_first};
 
 // The text before an end of it.
@@ -18,11 +19,25 @@ pub(crate) fn front<'a>(text: &'a str, rest: &str) -> &'a str
     &text[..text.len() - rest.len()]
 }
 
-// What is behind the name characters at the front.
+// How many bytes at the front are ASCII characters of a name.
+fn ascii_name(text: &str) -> usize
+    ensures within { result ≤ length text.now }
+    ensures parts { list_all class.is_ascii_part (take result text.now) ≡ true }
+{
+    let bytes = text.as_bytes();
+    for at in 0..bytes.len() {
+        if !is_ascii_part(bytes[at]) {
+            return at;
+        }
+    }
+    bytes.len()
+}
+
+// What is behind the name characters at the front, most of which are ASCII.
 pub(crate) fn behind_name(text: &str) -> &str
     ensures { chars result.now ≡ class.behind class.is_part (chars text.now) }
 {
-    let mut rest = text;
+    let mut rest = &text[ascii_name(text)..];
     while let Some((c, behind)) = split_first(rest) {
         if !is_part(c) {
             break;

@@ -1,5 +1,6 @@
 // Tokens.
 
+use crate::list::TokenList;
 use crate::piece::Piece;
 use crate::word::Word;
 use cc_ast::place::Place;
@@ -73,8 +74,9 @@ pub enum TokenKind<'a> {
     End,
 }
 
-/// A token with the place of its first character. `after_line` tells whether a line end, or a
-/// comment that contains one, stands between it and the token before it that is no comment.
+/// A token as contracts see it, with the place of its first character. `after_line` tells whether a
+/// line end, or a comment that contains one, stands between it and the token before it that is no
+/// comment.
 #[derive(Drop)]
 pub struct Token<'a> {
     pub kind: TokenKind<'a>,
@@ -86,7 +88,7 @@ pub struct Token<'a> {
 /// `End` is the last token exactly where nothing is refused.
 #[derive(Drop)]
 pub struct Tokens<'a> {
-    pub list: Vec<Token<'a>>,
+    pub list: TokenList<'a>,
     pub stop: Option<Refusal>,
 }
 

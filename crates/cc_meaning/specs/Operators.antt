@@ -4,6 +4,7 @@ use Rattle.std.specs.Prelude.{ℕ, zero, suc, ◌-◌, ◌*◌, ◌/◌, ◌%◌
 use Rattle.std.specs.Bool.{beq}
 use Rattle.std.specs.Int.{w32, cast_signed, int_shr, int_rem_euclid, is_negative}
 use Rattle.std.specs.Fmt.{digits, signed_decimal}
+use Rattle.cc_ast.specs.Limits as limits
 use Rattle.cc_ast.specs.Syntax.{Prim, undefined, null, truth, whole, text}
 use Rattle.cc_ast.specs.declared.operator.BinOp.{BinOp}
 use Rattle.cc_ast.specs.declared.operator.BinOp.TheVariants.{Add, Sub, Mul, Div, Rem, BitAnd, BitXor, BitOr, Shl, Shr, UShr, Less, Greater, LessEq, GreaterEq, Equal, NotEqual, Strict, NotStrict}
@@ -58,7 +59,7 @@ prim_text (text t) = t
 
 -- the greatest whole number that stays apart from its neighbours (8.5): 2^53-1
 abbrev pub greatest_whole : ℕ
-greatest_whole = 9007199254740991
+greatest_whole = limits.greatest_whole
 
 abbrev pub is_exact : ℤ → Bool
 is_exact z = nat_le (unsigned_abs z) greatest_whole

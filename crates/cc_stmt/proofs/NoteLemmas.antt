@@ -1,6 +1,7 @@
 -- Annotation comments from the last to the first, and texts in texts.
-use Rattle.std.proofs.Common.{◌≡◌, refl, sym, ap, ◌∙◌, ℕ, zero, suc, ◌-◌, ◌<◌, ◌≤◌, false, List, [], ◌∷◌, ◌++◌, length, take, drop, length-drop, append_assoc, reverse, slice_index_or, arith}
+use Rattle.std.proofs.Common.{◌≡◌, refl, sym, ap, ◌∙◌, ℕ, zero, suc, ◌-◌, ◌<◌, ◌≤◌, false, List, [], ◌∷◌, ◌++◌, length, take, drop, length-drop, append_assoc, reverse, Some, arith}
 use Rattle.std.specs.Prelude.{◌==◌}
+use Rattle.std.specs.List.{slice_get}
 use Rattle.std.proofs.lemmas.Bool.Decides.{nat_tests}
 use Rattle.std.proofs.lemmas.List.{append-nil, reverse-append}
 use Rattle.cc_ast.specs.declared.place.Place.{Place}
@@ -70,13 +71,13 @@ contains_none w (u ∷ us) none = absurd (omega arith)
 
 -- ---- the front of a list, with one item more
 
-one_more_at : (xs : List Token) (i : ℕ) (d : Token) → i < length xs → take (suc i) xs ≡ take i xs ++ slice_index_or xs i d ∷ []
-one_more_at [] i d h = absurd (omega arith)
-one_more_at (x ∷ xs) zero d h = refl
-one_more_at (x ∷ xs) (suc i) d h = ap (λ l. x ∷ l) (one_more_at xs i d (omega arith))
+one_more_at : (xs : List Token) (i : ℕ) (t : Token) → slice_get xs i ≡ Some t → take (suc i) xs ≡ take i xs ++ t ∷ []
+one_more_at [] i t e = absurd (cc)
+one_more_at (x ∷ xs) zero t e = let same : x ≡ t = cc in ap (λ y. y ∷ []) same
+one_more_at (x ∷ xs) (suc i) t e = ap (λ l. x ∷ l) (one_more_at xs i t e)
 
-pub one_more : (xs : List Token) (n : ℕ) (t : Token) → 0 < n → n ≤ length xs → t ≡ slice_index_or xs (n - 1) t → take n xs ≡ take (n - 1) xs ++ t ∷ []
-one_more xs zero t p h e = absurd (omega arith)
-one_more xs (suc n) t p h e =
+pub one_more : (xs : List Token) (n : ℕ) (t : Token) → 0 < n → slice_get xs (n - 1) ≡ Some t → take n xs ≡ take (n - 1) xs ++ t ∷ []
+one_more xs zero t p e = absurd (omega arith)
+one_more xs (suc n) t p e =
     let d : suc n - 1 ≡ n = omega arith in
-    one_more_at xs n t (omega arith) ∙ ap (λ k. take k xs ++ slice_index_or xs k t ∷ []) (sym d) ∙ ap (λ x. take (suc n - 1) xs ++ x ∷ []) (sym e)
+    one_more_at xs n t (ap (slice_get xs) (sym d) ∙ e) ∙ ap (λ k. take k xs ++ t ∷ []) (sym d)

@@ -20,7 +20,7 @@ pub fn read_file(alloc: Global, tokens: &Tokens<'_>, file: u32) -> Result<Tree, 
     ensures refused { IfErr result (λ e. IsRefused (lists.tokens tokens.now) e) }
 {
     let body = read_list(alloc, tokens)?;
-    let Ok(docs) = notes_of(alloc, tokens.list.as_slice()) else {
+    let Ok(docs) = notes_of(alloc, &tokens.list) else {
         return Err(Refusal::Memory);
     };
     let Ok(licences) = licences_of(alloc, docs.as_slice()) else {

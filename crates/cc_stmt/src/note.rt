@@ -10,7 +10,8 @@ use crate::tree::Note;
 use cc_ast::copy::CopyOf;
 use cc_ast::place::Place;
 use cc_ast::units::Units;
-use cc_lexer::token::{Token, TokenKind};
+use cc_lexer::list::{Seen, TokenList};
+use cc_lexer::token::TokenKind;
 use std::alloc::{AllocError, Global};
 
 // Where no token follows, which no text has.
@@ -22,26 +23,28 @@ const NOWHERE: Place = Place {
 };
 
 // The text of an annotation comment, where the token is one.
-fn doc_text(alloc: Global, token: &Token<'_>) -> Result<Option<Units>, AllocError>
-    ensures doc { IfOk result (λ found. (text : Units) → found ≡ Some text → token.now.kind ≡ kind.Doc text) }
-    ensures other { IfOk result (λ found. found ≡ None → (text : Units) → token.now.kind ≡ kind.Doc text → ⊥) }
+fn doc_text(alloc: Global, token: Seen<'_>) -> Result<Option<Units>, AllocError>
+    ensures doc { IfOk result (λ found. (text : Units) → found ≡ Some text → token.entry.kind.now ≡ kind.Doc text) }
+    ensures other { IfOk result (λ found. found ≡ None → (text : Units) → token.entry.kind.now ≡ kind.Doc text → ⊥) }
 {
-    match &token.kind {
+    match token.kind {
         TokenKind::Doc(text) => Ok(Some(text.units(alloc)?)),
         _ => Ok(None),
     }
 }
 
 /// The annotation comments, in order.
-pub(crate) fn notes_of(alloc: Global, tokens: &[Token<'_>]) -> Result<Vec<Note>, AllocError>
-    ensures { IfOk result (λ notes. notes.items ≡ spec.notes nowhere tokens.now) }
+pub(crate) fn notes_of(alloc: Global, tokens: &TokenList<'_>) -> Result<Vec<Note>, AllocError>
+    ensures { IfOk result (λ notes. notes.items ≡ spec.notes nowhere tokens.now.items) }
 {
     let mut found = Vec::new(alloc);
     let mut next = NOWHERE;
     let mut at = tokens.len();
     while at > 0 {
         at -= 1;
-        let token = &tokens[at];
+        let Some(token) = (&*tokens).get(at) else {
+            unreachable!();
+        };
         match doc_text(alloc, token)? {
             Some(text) => found.push(Note {
                 place: token.place,

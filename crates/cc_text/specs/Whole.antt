@@ -1,7 +1,8 @@
 -- Whole literals (ECMA-262 5.1, 7.8.3: decimal integer and hexadecimal literals).
-use Rattle.std.specs.Prelude.{ℕ, ◌+◌, ◌*◌, ◌^◌, List, [], ◌∷◌, Bool, ◌||◌, ◌&&◌, ◌==◌, nat_lt, if◌then◌else◌, Option, Some, None}
+use Rattle.std.specs.Prelude.{ℕ, ◌+◌, ◌*◌, List, [], ◌∷◌, Bool, ◌||◌, ◌&&◌, ◌==◌, nat_lt, if◌then◌else◌, Option, Some, None}
 use Rattle.std.specs.Char.{digit_value}
 use Rattle.std.specs.List.{list_all}
+use Rattle.cc_ast.specs.Limits.{is_whole}
 
 -- the number that the digits of a base write, behind those that wrote v
 abbrev pub value_in : ℕ → ℕ → List ℕ → ℕ
@@ -13,7 +14,7 @@ is_digit_in base c = nat_lt (digit_value c) base
 
 -- that number, where all are digits and it is at most 2^53-1
 abbrev pub numeral : ℕ → ℕ → List ℕ → Option ℕ
-numeral base v cs = if list_all (is_digit_in base) cs && nat_lt (value_in base v cs) (2 ^ 53)
+numeral base v cs = if list_all (is_digit_in base) cs && is_whole (value_in base v cs)
     then Some (value_in base v cs) else None
 
 abbrev pub hexadecimal : List ℕ → Option ℕ

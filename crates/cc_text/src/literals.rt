@@ -6,9 +6,7 @@ ghost use Rattle.std.specs.Str.{chars};
 ghost use Rattle.cc_text.specs.Whole as literal;
 
 use crate::front::split_first;
-
-// The greatest whole number of the language.
-const MAX: u64 = 9_007_199_254_740_991;
+use cc_ast::limits::GREATEST_WHOLE;
 
 /// The number that digits of a base write, and `None` where it is above 2^53-1 or one is no digit.
 pub fn numeral(digits: &str, base: u32) -> Option<i64>
@@ -21,7 +19,7 @@ pub fn numeral(digits: &str, base: u32) -> Option<i64>
     while let Some((c, behind)) = split_first(rest) {
         let digit = c.to_digit(base)?;
         value = value * u64::from(base) + u64::from(digit);
-        if value > MAX {
+        if value > GREATEST_WHOLE {
             return None;
         }
         rest = behind;

@@ -3,8 +3,9 @@
 use crate::page::Page;
 use crate::refusal::{push_spot, push_stop};
 use cc_ast::units::Units;
+use cc_lexer::list::Seen;
 use cc_lexer::piece::Piece;
-use cc_lexer::token::{Mark, Token, TokenKind, Tokens};
+use cc_lexer::token::{Mark, TokenKind, Tokens};
 use cc_lexer::word::{Word, spelling};
 use std::alloc::Global;
 
@@ -54,12 +55,12 @@ fn push_kind(alloc: Global, page: &mut Page, kind: &TokenKind<'_>) {
     }
 }
 
-fn push_token(alloc: Global, page: &mut Page, token: &Token<'_>) {
+fn push_token(alloc: Global, page: &mut Page, token: Seen<'_>) {
     page.row();
     if token.after_line {
         page.put("/ ");
     }
-    push_kind(alloc, page, &token.kind);
+    push_kind(alloc, page, token.kind);
     page.put(" ");
     push_spot(page, token.place);
 }
@@ -67,8 +68,10 @@ fn push_token(alloc: Global, page: &mut Page, token: &Token<'_>) {
 /// Each token on a row, with line, column and offset, a `/` before those that stand behind a line
 /// end, and what is refused.
 pub(crate) fn push_tokens(alloc: Global, page: &mut Page, tokens: &Tokens<'_>) {
-    for token in tokens.list.iter() {
-        push_token(alloc, page, token);
+    for at in 0..tokens.list.len() {
+        if let Some(token) = (&*tokens).list.get(at) {
+            push_token(alloc, page, token);
+        }
     }
     if let Some(refusal) = &tokens.stop {
         page.row();

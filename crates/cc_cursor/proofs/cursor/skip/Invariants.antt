@@ -4,4 +4,4 @@ use Rattle.cc_cursor.specs.Shown.{behind}
 use Rattle.cc_cursor.proofs.cursor.skip.Given as goal
 
 abbrev pub invariant-loop-at : goal.invariant-loop-at
-invariant-loop-at l = (stop : Option coded.Lexeme) → behind false (drop l.from l.tokens) stop ≡ behind (nat_lt l.from l.at) (drop l.at l.tokens) stop
+invariant-loop-at l = (stop : Option coded.Lexeme) → behind false (drop l.from l.tokens.items) stop ≡ behind (nat_lt l.from l.at) (drop l.at l.tokens.items) stop

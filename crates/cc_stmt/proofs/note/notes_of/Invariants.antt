@@ -4,7 +4,7 @@ use Rattle.cc_stmt.specs.Notes as spec
 use Rattle.cc_stmt.proofs.note.notes_of.Given as goal
 
 abbrev pub invariant-loop-at : goal.invariant-loop-at
-invariant-loop-at l = (l.at ≤ length l.tokens) × (spec.notes nowhere l.tokens ≡ spec.notes l.next (take l.at l.tokens) ++ reverse l.found.items)
+invariant-loop-at l = (l.at ≤ length l.tokens.items) × (spec.notes nowhere l.tokens.items ≡ spec.notes l.next (take l.at l.tokens.items) ++ reverse l.found.items)
 
 abbrev pub decreases-loop-at : goal.decreases-loop-at
 decreases-loop-at l = l.at

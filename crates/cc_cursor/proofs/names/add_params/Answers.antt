@@ -5,17 +5,11 @@ use Rattle.cc_grammar.specs.Reading.{params}
 use Rattle.cc_cursor.specs.Shown as shown
 use Rattle.cc_cursor.specs.Reads as spec
 use Rattle.cc_cursor.proofs.Turns.{one_more, no_more}
-use Rattle.cc_cursor.proofs.names.params.Goals as goal
+use Rattle.cc_cursor.proofs.names.add_params.Goals as goal
 
 pub returns-in_err-variable : goal.returns-in_err-variable
 unfolding params
 returns-in_err-variable c =
-    let e = one_more (λ n. spec.params n (shown.names c.loop-turn.found) c.loop-turn.cursor) c.args.turns c.loop-turn._turn c.loop-turn-test.true c.loop-turn.invariant in
-    first_of (search rules, grind (arith, common_steps))
-
-pub returns-in_err-expect : goal.returns-in_err-expect
-unfolding params
-returns-in_err-expect c =
     let e = one_more (λ n. spec.params n (shown.names c.loop-turn.found) c.loop-turn.cursor) c.args.turns c.loop-turn._turn c.loop-turn-test.true c.loop-turn.invariant in
     first_of (search rules, grind (arith, common_steps))
 
