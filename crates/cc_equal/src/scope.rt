@@ -13,7 +13,8 @@ fn same_body(a: &Items<Stmt>, b: &Items<Stmt>) -> bool
     same_stmts(a, b)
 }
 
-fn same_scope(a: &Scope, b: &Scope) -> bool
+/// Whether two scopes are the same.
+pub fn same_scope(a: &Scope, b: &Scope) -> bool
     ensures { IsTrue result ↔ (a.now ≡ b.now) }
 {
     a.params == b.params

@@ -1,7 +1,6 @@
-use Rattle.std.proofs.Common.{◌≡◌, ◌≤◌, length, take}
-use Rattle.cc_core.specs.State.{places}
-use Rattle.cc_core.specs.SlotState.{is_pending_inside}
+use Rattle.std.proofs.Common.{◌≡◌, take}
+use Rattle.cc_core.specs.SlotState.{picked, all_seen, test_at, is_pending_inside}
 use Rattle.cc_core.proofs.slots.pending_of.Given as goal
 
 abbrev pub invariant-loop-i : goal.invariant-loop-i
-invariant-loop-i l = (l.i ≤ length l.fn.slots) × (l.found.items ≡ places is_pending_inside 0 (take l.i l.fn.slots))
+invariant-loop-i l = l.found.items ≡ picked (test_at is_pending_inside (all_seen l.fn.phase l.fn.slots)) (take l.i l.fn.visited)
