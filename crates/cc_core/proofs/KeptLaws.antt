@@ -1,9 +1,9 @@
 -- What each change of the slots keeps.
-use Rattle.std.proofs.Common.{◌≡◌, ℕ, zero, suc, ◌+◌, ◌-◌, ◌<◌, ◌==◌, List, [], ◌∷◌, length, Bool, true, false, Option, Some, cond, slice_get, refl, sym, ap, arith}
+use Rattle.std.proofs.Common.{◌≡◌, ℕ, zero, suc, ◌+◌, ◌-◌, ◌<◌, ◌==◌, List, [], ◌∷◌, length, Bool, true, false, Option, Some, cond, slice_get, refl, sym, ap, ◌∙◌, arith}
 use Rattle.std.proofs.lemmas.Bool.{eqb-true, eqb-false}
 use Rattle.cc_ast.specs.Syntax.{Scope}
 use Rattle.cc_core.specs.Work.{mixed, or_same}
-use Rattle.cc_core.specs.State.{Mark, Pending, Claimed, Done, Slot, fresh, is_pending, is_done, all_fresh, laid, undone, scope_in, in_place, KeptMark, Kept}
+use Rattle.cc_core.specs.State.{Mark, Pending, Claimed, Done, Slot, fresh, is_pending, is_done, all_fresh, laid, undone, places, with_if, chosen, scope_in, in_place, KeptMark, Kept}
 use Rattle.cc_core.specs.Events.{claimed, one_more, entered, put_in, mark_put, mark_back, given_back, at_place}
 
 abbrev pub Rewrites : Type 0
@@ -53,21 +53,20 @@ pub in_place_laid : (v : ℕ → Bool) (xs : List Scope) → in_place xs (laid v
 in_place_laid v [] = refl
 in_place_laid v (x ∷ xs) = let a = scope_in_laid x (v 0) in let b = in_place_laid (λ k. v (suc k)) xs in cc
 
--- the pending slots are the visited ones
-pub pending_at : List Slot → ℕ → Bool
-pending_at [] k = false
-pending_at (s ∷ ss) zero = is_pending s
-pending_at (s ∷ ss) (suc k) = pending_at ss k
-
 pending_laid_here : (x : Scope) (b : Bool) → is_pending (cond b fresh (record { mark = Done x; out = 0 })) ≡ b
 pending_laid_here x true = refl
 pending_laid_here x false = refl
 
-pub pending_laid : (v : ℕ → Bool) (xs : List Scope) (k : ℕ) → k < length xs → pending_at (laid v xs) k ≡ v k
-unfolding pending_at
-pending_laid v [] k lt = absurd (omega (arith, lt))
-pending_laid v (x ∷ xs) zero lt = pending_laid_here x (v 0)
-pending_laid v (x ∷ xs) (suc k) lt = pending_laid (λ k. v (suc k)) xs k (omega (arith, lt))
+-- the pending slots are those that are due
+pub pending_laid : (v : ℕ → Bool) (k : ℕ) (xs : List Scope) → places is_pending k (laid v xs) ≡ chosen v k (length xs)
+pending_laid v k [] = refl
+pending_laid v k (x ∷ xs) =
+    ap (λ b. with_if b k (places is_pending (suc k) (laid (λ j. v (suc j)) xs))) (pending_laid_here x (v 0))
+    ∙ ap (with_if (v 0) k) (pending_laid (λ j. v (suc j)) (suc k) xs)
+
+pub pending_fresh : (k : ℕ) (xs : List Scope) → places is_pending k (all_fresh xs) ≡ chosen (λ _. true) k (length xs)
+pending_fresh k [] = refl
+pending_fresh k (x ∷ xs) = ap (λ ks. k ∷ ks) (pending_fresh (suc k) xs)
 
 mixed_here : (r : Option Scope) (x : Scope) (b : Bool) → (b ≡ false → r ≡ Some x) → cond b (or_same x r) x ≡ or_same x r
 mixed_here r x true skips = refl

@@ -1,9 +1,12 @@
 pub mod KeptLaws
 pub mod Machine
-pub mod Cursor
-pub mod SlotLemmas
-pub mod LaidLemmas
-pub mod ShopLemmas
 pub mod Draws
 pub mod OutLaws
+pub mod OneWorker
+pub mod Cursor
+pub mod Listed
+pub mod SlotLemmas
+pub mod Arranging
+pub mod CopyLaws
+pub mod ShopLemmas
 pub mod AloneLemmas

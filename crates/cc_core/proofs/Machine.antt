@@ -6,9 +6,9 @@ use Rattle.cc_meaning.specs.Same.{Same}
 use Rattle.cc_meaning.specs.WellMade.{WellMade}
 use Rattle.cc_meaning.proofs.SameLaws.{reflexive, transitive}
 use Rattle.cc_core.specs.Work.{Work, Lawful, with_scopes, with_heads, heads_of, rewrites, phase, step_after, mixed, after_phases, visited}
-use Rattle.cc_core.specs.State.{Done, Slot, State, is_pending, is_claimed, all_fresh, laid, undone, in_place, KeptMark, Kept, started, with_slots, reading, Sound}
-use Rattle.cc_core.specs.Events.{Event, Claims, Repeats, Puts, GivesBack, Closes, claimed, one_more, entered, put_in, given_back, at_place, at_found, after_claim, after_repeat, after_put, after_give_back, after_enter, after_close, event, IsRewrite, Allowed, Leads, StoresRewrites, ends, IsOneWorkers}
-use Rattle.cc_core.proofs.KeptLaws.{Rewrites, kept_at, kept_put, kept_fresh, kept_laid, in_place_laid, in_place_fresh, in_place_mixed, done_at, length_mixed, keeps_claimed, keeps_one_more, keeps_given_back, keeps_entered}
+use Rattle.cc_core.specs.State.{Done, Slot, State, is_pending, is_claimed, all_fresh, laid, undone, chosen, pendings, in_place, KeptMark, Kept, started, with_slots, reading, Sound}
+use Rattle.cc_core.specs.Events.{Event, Claims, Enters, Repeats, Puts, GivesBack, Closes, claimed, one_more, entered, put_in, given_back, at_place, at_found, after_claim, after_repeat, after_put, after_give_back, after_enter, follows, is_due, after_close, event, IsRewrite, Allowed, Leads, StoresRewrites, ends, IsOneWorkers}
+use Rattle.cc_core.proofs.KeptLaws.{Rewrites, kept_at, kept_put, kept_fresh, kept_laid, pending_laid, mixed_visited, in_place_laid, in_place_fresh, in_place_mixed, done_at, length_mixed, keeps_claimed, keeps_one_more, keeps_given_back, keeps_entered}
 
 -- what a slot stores
 stored_at : (f : Rewrites) (xs : List Scope) (ss : List Slot) (k : ℕ) (x y : Scope) (n : ℕ) → Kept f xs ss
@@ -49,7 +49,7 @@ module _ {P : Type 0} (W : Work P) (law : Lawful W) where
         | false ↦ λ is. subst (λ (b : Bool). Same base (with_heads base (mixed (rewrites W step base) (λ _. true) base.scopes) (cond b (heads_of base) (W.heads (W.plan step base) base)))) is (law.whole step base fits is)
       ] refl
 
-  length_phase : (step : ℕ) (base : Program) → length (phase W step base).scopes ≡ length base.scopes
+  pub length_phase : (step : ℕ) (base : Program) → length (phase W step base).scopes ≡ length base.scopes
   unfolding phase
   length_phase step base = length_mixed (rewrites W step base) (λ _. true) base.scopes
 
@@ -81,13 +81,22 @@ module _ {P : Type 0} (W : Work P) (law : Lawful W) where
   pub sound_started : (source : Program) → W.fits 0 source → length source.scopes < 2 ^ 32 → Sound W (started source)
   sound_started source fits few = sound_at (started source) fits fits refl (reflexive source) few (kept_fresh (rewrites W 0 source) source.scopes)
 
-  -- what is not visited after the close is its own rewrite
+  -- what is not visited after a close is its own rewrite
   skips_after : (s : State) → Sound W s → (k : ℕ) (x : Scope) → slice_get (phase W s.step s.base).scopes k ≡ Some x → visited W s.source (s.closed + 1) k ≡ false
       → rewrites W (step_after W s.step s.base) (phase W s.step s.base) k x ≡ Some x
   skips_after s sound k x get clean =
       let n : s.closed + 1 ≡ suc s.closed = add-one s.closed in
       let at : (step_after W s.step s.base, phase W s.step s.base) ≡ after_phases W s.source (suc s.closed) = ap (λ (p : ℕ × Program). (step_after W p.0 p.1, phase W p.0 p.1)) sound.reached in
       subst (λ (p : ℕ × Program). slice_get p.1.scopes k ≡ Some x → rewrites W p.0 p.1 k x ≡ Some x) (sym at) (λ g. law.skips s.source sound.began (suc s.closed) k x g (subst (λ (m : ℕ). visited W s.source m k ≡ false) n clean)) get
+
+  not_visited : (follows v : Bool) → cond follows v true ≡ false → v ≡ false
+  not_visited true v e = e
+  not_visited false v e = absurd (cc)
+
+  -- and so is what is not due
+  due_after : (s : State) → Sound W s → (k : ℕ) (x : Scope) → slice_get (phase W s.step s.base).scopes k ≡ Some x → is_due W s k ≡ false
+      → rewrites W (step_after W s.step s.base) (phase W s.step s.base) k x ≡ Some x
+  due_after s sound k x get clean = skips_after s sound k x get (not_visited (follows W s) (visited W s.source (s.closed + 1) k) clean)
 
   pub sound_close : (s : State) → Sound W s → Sound W (after_close W s)
   sound_close s sound =
@@ -97,7 +106,7 @@ module _ {P : Type 0} (W : Work P) (law : Lawful W) where
       (ap (λ (p : ℕ × Program). (step_after W p.0 p.1, phase W p.0 p.1)) sound.reached ∙ ap (after_phases W s.source) (sym (add-one s.closed)))
       (transitive s.source s.base _ sound.same_base (same_phase s.step s.base sound.fits))
       (rw (length_phase s.step s.base) sound.few)
-      (kept_laid (rewrites W (step_after W s.step s.base) (phase W s.step s.base)) (visited W s.source (s.closed + 1)) (phase W s.step s.base).scopes (skips_after s sound))
+      (kept_laid (rewrites W (step_after W s.step s.base) (phase W s.step s.base)) (is_due W s) (phase W s.step s.base).scopes (due_after s sound))
 
   pub sound_enter : (s : State) (k : ℕ) → Sound W s → Sound W (after_enter k s)
   sound_enter s k sound = sound_slots s (at_place entered k s.slots) sound (kept_at (rewrites W s.step s.base) entered s.base.scopes k s.slots keeps_entered sound.kept)
@@ -139,6 +148,7 @@ module _ {P : Type 0} (W : Work P) (law : Lawful W) where
 
   pub sound_event : (s : State) (e : Event) → Allowed W s e → Sound W s → Sound W (event W s e)
   sound_event s Claims may sound = sound_claim s sound
+  sound_event s (Enters slot) may sound = sound_enter s slot sound
   sound_event s Repeats may sound = sound_repeat s sound
   sound_event s (Puts phase slot y) may sound = sound_put s phase slot y may sound
   sound_event s (GivesBack phase slot) may sound = sound_give_back s phase slot sound
@@ -152,8 +162,8 @@ module _ {P : Type 0} (W : Work P) (law : Lawful W) where
   pub fresh_reading : (s : State) → reading W (after_close W s) ≡ phase W s.step s.base
   fresh_reading s =
       let new : Program = phase W s.step s.base in
-      let fresh_is : in_place new.scopes (laid (visited W s.source (s.closed + 1)) new.scopes) ≡ new.scopes = in_place_laid (visited W s.source (s.closed + 1)) new.scopes in
-      elim (W.local (step_after W s.step s.base)) as (λ b. ◌≡◌ {A = Program} (with_scopes new (cond b (in_place new.scopes (laid (visited W s.source (s.closed + 1)) new.scopes)) new.scopes)) new) [
+      let fresh_is : in_place new.scopes (laid (is_due W s) new.scopes) ≡ new.scopes = in_place_laid (is_due W s) new.scopes in
+      elim (W.local (step_after W s.step s.base)) as (λ b. ◌≡◌ {A = Program} (with_scopes new (cond b (in_place new.scopes (laid (is_due W s) new.scopes)) new.scopes)) new) [
         | true ↦ ap (with_scopes new) fresh_is
         | false ↦ refl
       ]
@@ -179,6 +189,7 @@ module _ {P : Type 0} (W : Work P) (law : Lawful W) where
   -- the source stays
   source_event : (s : State) (e : Event) → (event W s e).source ≡ s.source
   source_event s Claims = refl
+  source_event s (Enters slot) = refl
   source_event s Repeats = refl
   source_event s (Puts phase slot y) = refl
   source_event s (GivesBack phase slot) = refl
@@ -190,3 +201,16 @@ module _ {P : Type 0} (W : Work P) (law : Lawful W) where
 
   pub stores_rewrites : (s : State) → Sound W s → StoresRewrites W s
   stores_rewrites s sound slot x y out at is = stored_at (rewrites W s.step s.base) s.base.scopes s.slots slot x y out sound.kept at is
+
+  -- the pending slots after a close are those that are due
+  pub pending_after : (s : State) → undone s.slots ≡ 0 → pendings (event W s Closes).slots ≡ chosen (is_due W s) 0 (length (phase W s.step s.base).scopes)
+  pending_after s none =
+      let closes : event W s Closes ≡ after_close W s = ap (λ b. cond b (after_close W s) s) (eq-eqb (undone s.slots) 0 none) in
+      ap (λ (t : State). pendings t.slots) closes ∙ pending_laid (is_due W s) 0 (phase W s.step s.base).scopes
+
+  -- the step over what is visited is the step over all
+  pub step_visited : (source : Program) → W.fits 0 source → (n : ℕ)
+      → mixed (rewrites W (after_phases W source n).0 (after_phases W source n).1) (visited W source n) (after_phases W source n).1.scopes
+      ≡ mixed (rewrites W (after_phases W source n).0 (after_phases W source n).1) (λ _. true) (after_phases W source n).1.scopes
+  step_visited source fits n =
+      mixed_visited (rewrites W (after_phases W source n).0 (after_phases W source n).1) (visited W source n) (after_phases W source n).1.scopes (λ k x get clean. law.skips source fits n k x get clean)

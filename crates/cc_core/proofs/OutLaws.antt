@@ -1,10 +1,10 @@
 -- How many claims may be out on a slot.
 use Rattle.std.proofs.Common.{◌≡◌, ℕ, zero, suc, ◌+◌, ◌<◌, ◌≤◌, ◌==◌, ◌^◌, List, [], ◌∷◌, Bool, true, false, Option, Some, None, cond, slice_get, refl, subst, arith, position}
 use Rattle.cc_ast.specs.Syntax.{Program, Scope}
-use Rattle.cc_core.specs.Work.{Work, phase, visited}
+use Rattle.cc_core.specs.Work.{Work, phase}
 use Rattle.cc_core.specs.State.{Pending, Claimed, Done, Slot, State, fresh, is_pending, is_claimed, all_fresh, laid, undone, NoneOut, started}
 use Rattle.cc_core.specs.Outs.{AtMostOut}
-use Rattle.cc_core.specs.Events.{Event, Claims, Repeats, Puts, GivesBack, Closes, claimed, one_more, put_in, given_back, at_place, at_found, event, after_close}
+use Rattle.cc_core.specs.Events.{Event, Claims, Enters, Repeats, Puts, GivesBack, Closes, claimed, one_more, entered, put_in, given_back, at_place, at_found, event, is_due, after_close}
 
 more : (n : ℕ) (ss : List Slot) → AtMostOut n ss → AtMostOut (n + 1) ss
 more n [] few = tt
@@ -21,6 +21,9 @@ found_changed h adds n (Some k) ss few = at_changed h adds n k ss few
 
 claimed_adds : (s : Slot) → (claimed s).out ≤ s.out + 1
 claimed_adds s = elim (s.mark) as (λ m. (claimed (record { mark = m; out = s.out })).out ≤ s.out + 1) [ Pending ↦ omega arith | Claimed ↦ omega arith | Done y ↦ omega arith ]
+
+entered_adds : (s : Slot) → (entered s).out ≤ s.out + 1
+entered_adds s = elim (s.mark) as (λ m. (entered (record { mark = m; out = s.out })).out ≤ s.out + 1) [ Pending ↦ omega arith | Claimed ↦ omega arith | Done y ↦ omega arith ]
 
 one_more_adds : (s : Slot) → (one_more s).out ≤ s.out + 1
 one_more_adds s = elim (s.mark) as (λ m. (one_more (record { mark = m; out = s.out })).out ≤ s.out + 1) [ Pending ↦ omega arith | Claimed ↦ omega arith | Done y ↦ omega arith ]
@@ -48,6 +51,7 @@ few_started source = few_of_none 0 (started source).slots (none_started source)
 -- an event adds at most one
 pub few_event : {P : Type 0} (W : Work P) (s : State) (e : Event) (n : ℕ) → AtMostOut n s.slots → AtMostOut (n + 1) (event W s e).slots
 few_event W s Claims n few = found_changed claimed claimed_adds n (position is_pending s.slots) s.slots few
+few_event W s (Enters slot) n few = at_changed entered entered_adds n slot s.slots few
 few_event W s Repeats n few = found_changed one_more one_more_adds n (position is_claimed s.slots) s.slots few
 few_event W s (Puts phase slot y) n few =
     elim (phase == s.closed) as (λ b. AtMostOut (n + 1) (cond b (at_place (put_in y) slot s.slots) s.slots)) [ true ↦ at_changed (put_in y) (λ t. omega arith) n slot s.slots few | false ↦ more n s.slots few ]
@@ -55,7 +59,7 @@ few_event W s (GivesBack phase slot) n few =
     elim (phase == s.closed) as (λ b. AtMostOut (n + 1) (cond b (at_place given_back slot s.slots) s.slots)) [ true ↦ at_changed given_back (λ t. omega arith) n slot s.slots few | false ↦ more n s.slots few ]
 few_event W s Closes n few =
     elim (undone s.slots == 0) as (λ b. AtMostOut (n + 1) (cond b (after_close W s) s).slots) [
-      | true ↦ few_of_none (n + 1) _ (none_laid (visited W s.source (s.closed + 1)) (phase W s.step s.base).scopes)
+      | true ↦ few_of_none (n + 1) _ (none_laid (is_due W s) (phase W s.step s.base).scopes)
       | false ↦ more n s.slots few
     ]
 
@@ -70,4 +74,4 @@ room n ss few lt k s at = let h = few_at n k ss s few at in omega arith
 
 -- no claim is out after a close
 pub none_closed : {P : Type 0} (W : Work P) (s : State) → NoneOut (after_close W s).slots
-none_closed W s = none_laid (visited W s.source (s.closed + 1)) (phase W s.step s.base).scopes
+none_closed W s = none_laid (is_due W s) (phase W s.step s.base).scopes

@@ -7,11 +7,13 @@ use Rattle.std.specs.List.{prefix_len, position_or_len}
 use Rattle.cc_core.specs.State as core
 use Rattle.cc_core.specs.Events as act
 use Rattle.cc_ast.specs.Syntax.{Scope}
-use Rattle.cc_core.specs.State.{is_pending, is_claimed, places, with_if}
+use Rattle.cc_core.specs.State.{is_pending, is_claimed, places}
 use Rattle.cc_core.specs.Events.{at_place, at_found}
-use Rattle.cc_core.specs.declared.slots.Mark.TheVariants.{Pending, Claimed, Done, Held}
+use Rattle.cc_core.proofs.Listed.{get_here}
+use Rattle.cc_core.specs.declared.slots.Mark.TheVariants.{Pending, Claimed, Kept, Changed, Aside}
 use Rattle.cc_core.specs.declared.slots.Slot.{Slot}
-use Rattle.cc_core.specs.SlotState.{mark_of, slot_of, slots_of, no_scope, is_pending_inside, is_claimed_inside}
+use Rattle.cc_core.specs.SlotState.{mark_of, slot_of, slots_of, is_pending_inside, is_claimed_inside, is_open_inside, is_changed_inside, counted, changes}
+use Rattle.cc_core.specs.Makes.{no_scope}
 
 -- one slot changed
 pub slots_of_set : (h : core.Slot → core.Slot) (xs : List Scope) (ss : List Slot) (k : ℕ) (s t : Slot)
@@ -28,10 +30,10 @@ length_slots_of [] (s ∷ ss) = ap suc (length_slots_of [] ss)
 length_slots_of (x ∷ xs) (s ∷ ss) = ap suc (length_slots_of xs ss)
 
 is_pending_of : (x : Scope) (s : Slot) → is_pending (slot_of x s) ≡ is_pending_inside s
-is_pending_of x s = elim (s.mark) as (λ m. is_pending (record { mark = mark_of x m; out = s.out }) ≡ is_pending_inside (record { mark = m; out = s.out })) [ Pending ↦ refl | Claimed ↦ refl | Done ↦ refl | Held y ↦ refl ]
+is_pending_of x s = elim (s.mark) as (λ m. is_pending (record { mark = mark_of x m; out = s.out }) ≡ is_pending_inside (record { stamp = s.stamp; mark = m; out = s.out })) [ Pending ↦ refl | Claimed ↦ refl | Kept ↦ refl | Changed ↦ refl | Aside ↦ refl ]
 
 is_claimed_of : (x : Scope) (s : Slot) → is_claimed (slot_of x s) ≡ is_claimed_inside s
-is_claimed_of x s = elim (s.mark) as (λ m. is_claimed (record { mark = mark_of x m; out = s.out }) ≡ is_claimed_inside (record { mark = m; out = s.out })) [ Pending ↦ refl | Claimed ↦ refl | Done ↦ refl | Held y ↦ refl ]
+is_claimed_of x s = elim (s.mark) as (λ m. is_claimed (record { mark = mark_of x m; out = s.out }) ≡ is_claimed_inside (record { stamp = s.stamp; mark = m; out = s.out })) [ Pending ↦ refl | Claimed ↦ refl | Kept ↦ refl | Changed ↦ refl | Aside ↦ refl ]
 
 -- a test of the state's slots that is a test of these
 module _ (p : core.Slot → Bool) (q : Slot → Bool) (is : (x : Scope) (s : Slot) → p (slot_of x s) ≡ q s) where
@@ -50,30 +52,6 @@ module _ (p : core.Slot → Bool) (q : Slot → Bool) (is : (x : Scope) (s : Slo
 
 pub places_pending : (xs : List Scope) (ss : List Slot) → places is_pending 0 (slots_of xs ss) ≡ places is_pending_inside 0 ss
 places_pending xs ss = places_is is_pending is_pending_inside is_pending_of 0 xs ss
-
-with_if_append : (b : Bool) (k : ℕ) (xs ys : List ℕ) → with_if b k (xs ++ ys) ≡ with_if b k xs ++ ys
-with_if_append true k xs ys = refl
-with_if_append false k xs ys = refl
-
--- one more is looked at
-more_places : {A : Type 0} (p : A → Bool) (j i : ℕ) (ss : List A) (s : A) → i < length ss → s ≡ slice_index_or ss i s
-    → places p j (take (suc i) ss) ≡ places p j (take i ss) ++ with_if (p s) (j + i) []
-more_places p j i [] s lt is = absurd (omega (arith, lt))
-more_places p j zero (x ∷ xs) s lt is = let e : x ≡ s = sym is in let z : j + 0 ≡ j = omega arith in ap (λ y. with_if (p y) j []) e ∙ ap (λ n. with_if (p s) n []) (sym z)
-more_places p j (suc i) (x ∷ xs) s lt is =
-    let h : places p (suc j) (take (suc i) xs) ≡ places p (suc j) (take i xs) ++ with_if (p s) (suc j + i) [] = more_places p (suc j) i xs s (omega (arith, lt)) is in
-    let z : suc j + i ≡ j + suc i = omega arith in
-    ap (with_if (p x) j) (h ∙ ap (λ n. places p (suc j) (take i xs) ++ with_if (p s) n []) z) ∙ with_if_append (p x) j (places p (suc j) (take i xs)) (with_if (p s) (j + suc i) [])
-
-pub places_more : {A : Type 0} (p : A → Bool) (i : ℕ) (ss : List A) (s : A) (b : Bool) → i < length ss → s ≡ slice_index_or ss i s → b ≡ p s
-    → places p 0 (take (i + 1) ss) ≡ places p 0 (take i ss) ++ with_if b i []
-places_more p i ss s b lt is e =
-    let z : 0 + i ≡ i = omega arith in
-    let y : i + 1 ≡ suc i = omega arith in
-    ap (λ n. places p 0 (take n ss)) y ∙ (more_places p 0 i ss s lt is ∙ (ap (λ n. places p 0 (take i ss) ++ with_if (p s) n []) z ∙ ap (λ c. places p 0 (take i ss) ++ with_if c i []) (sym e)))
-
-pub all_places : {A : Type 0} (p : A → Bool) (i : ℕ) (ss : List A) → length ss ≤ i → places p 0 (take i ss) ≡ places p 0 ss
-all_places p i ss le = ap (places p 0) (take_all i ss le)
 
 found_at : {A : Type 0} (q : A → Bool) (ss : List A) → prefix_len q ss < length ss → (s : A) × ((slice_get ss (prefix_len q ss) ≡ Some s) × (q s ≡ false))
 found_at q [] h = absurd (omega (arith, h))
@@ -100,12 +78,6 @@ found_pending xs ss = position_is is_pending is_pending_inside is_pending_of xs 
 pub found_claimed : (xs : List Scope) (ss : List Slot) → position is_claimed (slots_of xs ss) ≡ position is_claimed_inside ss
 found_claimed xs ss = position_is is_claimed is_claimed_inside is_claimed_of xs ss
 
--- what an index reads stands there
-pub get_here : {A : Type 0} (ss : List A) (k : ℕ) (s : A) → k < length ss → s ≡ slice_index_or ss k s → slice_get ss k ≡ Some s
-get_here [] k s lt is = absurd (omega (arith, lt))
-get_here (r ∷ ss) zero s lt is = ap Some (sym is)
-get_here (r ∷ ss) (suc k) s lt is = get_here ss k s (omega (arith, lt)) is
-
 pub slots_of_changed : (h : core.Slot → core.Slot) (xs : List Scope) (ss : List Slot) (k : ℕ) (t s : Slot)
     → k < length ss → s ≡ slice_index_or ss k s → ((x : Scope) → slot_of x t ≡ h (slot_of x s)) → slots_of xs (slice_set ss k t) ≡ at_place h k (slots_of xs ss)
 slots_of_changed h xs ss k t s lt is to = slots_of_set h xs ss k s t (get_here ss k s lt is) to
@@ -127,7 +99,7 @@ pub slots_of_found : (h : core.Slot → core.Slot) (o : Option ℕ) (xs : List S
     → o ≡ Some k → k < length ss → s ≡ slice_index_or ss k s → ((x : Scope) → slot_of x t ≡ h (slot_of x s)) → slots_of xs (slice_set ss k t) ≡ at_found h o (slots_of xs ss)
 slots_of_found h o xs ss k t s at lt is to = slots_of_changed h xs ss k t s lt is to ∙ ap (λ o. at_found h o (slots_of xs ss)) (sym at)
 
-slots_of_put_at : (y : Scope) (xs : List Scope) (ss : List Slot) (k : ℕ) (t s : Slot)
+pub slots_of_put_at : (y : Scope) (xs : List Scope) (ss : List Slot) (k : ℕ) (t s : Slot)
     → slice_get ss k ≡ Some s → k < length xs → ((x : Scope) → slot_of y t ≡ act.put_in y (slot_of x s)) → slots_of (slice_set xs k y) (slice_set ss k t) ≡ at_place (act.put_in y) k (slots_of xs ss)
 slots_of_put_at y xs [] k t s get in_range to = absurd (let e : None ≡ Some s = get in (cc))
 slots_of_put_at y [] (r ∷ ss) k t s get in_range to = absurd (omega (arith, in_range))
@@ -160,54 +132,31 @@ pub room_inside : (xs : List Scope) (ss : List Slot) → ((k : ℕ) (s : core.Sl
     → (k : ℕ) (s : Slot) → position is_claimed_inside ss ≡ Some k → slice_get ss k ≡ Some s → s.out + 1 < 2 ^ 32
 room_inside xs ss room k s at get = let r = get_slots_of xs ss k s get in room k (slot_of r.0 s) (found_claimed xs ss ∙ at) r.1
 
-length_if : (b : Bool) (i : ℕ) (ks : List ℕ) → b ≡ true → length (ks ++ with_if b i []) ≡ length ks + 1
-length_if true i ks e = omega (arith, length-append ks (i ∷ []))
-length_if false i ks e = absurd (cc)
+is_open_of : (x : Scope) (s : Slot) → core.is_done (slot_of x s) ≡ not (is_open_inside s)
+is_open_of x s = elim (s.mark) as (λ m. core.is_done (record { mark = mark_of x m; out = s.out }) ≡ not (is_open_inside (record { stamp = s.stamp; mark = m; out = s.out }))) [ Pending ↦ refl | Claimed ↦ refl | Kept ↦ refl | Changed ↦ refl | Aside ↦ refl ]
 
-length_else : (b : Bool) (i : ℕ) (ks : List ℕ) → b ≡ false → length (ks ++ with_if b i []) ≡ length ks
-length_else true i ks e = absurd (cc)
-length_else false i ks e = omega (arith, length-append ks [])
+not_cond : (b : Bool) → ◌≡◌ {A = ℕ} (cond (not b) 0 1) (cond b 1 0)
+not_cond true = refl
+not_cond false = refl
 
-pub more_yes : {A : Type 0} (p : A → Bool) (i : ℕ) (ss : List A) (s : A) → i < length ss → s ≡ slice_index_or ss i s → true ≡ p s → length (places p 0 (take (i + 1) ss)) ≡ length (places p 0 (take i ss)) + 1
-more_yes p i ss s lt is e = ap length (places_more p i ss s (p s) lt is refl) ∙ length_if (p s) i (places p 0 (take i ss)) (sym e)
+undone_here : (x : Scope) (s : Slot) → ◌≡◌ {A = ℕ} (cond (core.is_done (slot_of x s)) 0 1) (cond (is_open_inside s) 1 0)
+undone_here x s = ap (λ b. cond b 0 1) (is_open_of x s) ∙ not_cond (is_open_inside s)
 
-pub more_not : {A : Type 0} (p : A → Bool) (i : ℕ) (ss : List A) (s : A) → i < length ss → s ≡ slice_index_or ss i s → false ≡ p s → length (places p 0 (take (i + 1) ss)) ≡ length (places p 0 (take i ss))
-more_not p i ss s lt is e = ap length (places_more p i ss s (p s) lt is refl) ∙ length_else (p s) i (places p 0 (take i ss)) (sym e)
+-- the slots that are not done
+pub undone_counted : (xs : List Scope) (ss : List Slot) → core.undone (slots_of xs ss) ≡ counted is_open_inside ss
+undone_counted xs [] = refl
+undone_counted [] (s ∷ ss) = let a = undone_here no_scope s in let b = undone_counted [] ss in omega (arith, a, b)
+undone_counted (x ∷ xs) (s ∷ ss) = let a = undone_here x s in let b = undone_counted xs ss in omega (arith, a, b)
 
-get_if : (b : Bool) (j n : ℕ) (ks ls : List ℕ) → slice_get ks (length ls) ≡ Some n → slice_get (with_if b j ks) (length (with_if b j ls)) ≡ Some n
-get_if true j n ks ls e = e
-get_if false j n ks ls e = e
+pub done_at_place : (xs : List Scope) (ss : List Slot) (k : ℕ) (s : Slot) → slice_get ss k ≡ Some s → core.is_done_at k (slots_of xs ss) ≡ not (is_open_inside s)
+done_at_place xs ss k s get = is_done_of_at (not (is_open_inside s)) xs ss k s get (λ x. is_open_of x s)
 
-found_place : {A : Type 0} (p : A → Bool) (j i : ℕ) (ss : List A) (s : A) → i < length ss → s ≡ slice_index_or ss i s → true ≡ p s → slice_get (places p j ss) (length (places p j (take i ss))) ≡ Some (j + i)
-found_place p j i [] s lt is e = absurd (omega (arith, lt))
-found_place p j zero (x ∷ xs) s lt is e = let z : j + 0 ≡ j = omega arith in
-    ap (λ b. slice_get (with_if b j (places p (suc j) xs)) 0) (ap p (sym is) ∙ sym e) ∙ ap Some (sym z)
-found_place p j (suc i) (x ∷ xs) s lt is e = let z : suc j + i ≡ j + suc i = omega arith in
-    get_if (p x) j (j + suc i) (places p (suc j) xs) (places p (suc j) (take i xs)) (found_place p (suc j) i xs s (omega (arith, lt)) is e ∙ ap Some z)
+pub changes_same : (ss : List Slot) (k : ℕ) (s t : Slot) → slice_get ss k ≡ Some s → is_changed_inside t ≡ is_changed_inside s → changes (slice_set ss k t) ≡ changes ss
+changes_same [] k s t get same = refl
+changes_same (r ∷ ss) zero s t get same = let e : r ≡ s = (cc) in ap (λ b. b ∷ changes ss) (same ∙ ap is_changed_inside (sym e))
+changes_same (r ∷ ss) (suc k) s t get same = ap (λ bs. is_changed_inside r ∷ bs) (changes_same ss k s t get same)
 
-pub place_found : {A : Type 0} (p : A → Bool) (i : ℕ) (ss : List A) (s : A) (k : ℕ) → i < length ss → s ≡ slice_index_or ss i s → true ≡ p s → length (places p 0 (take i ss)) ≡ k → slice_get (places p 0 ss) k ≡ Some i
-place_found p i ss s k lt is e n = let z : 0 + i ≡ i = omega arith in ap (slice_get (places p 0 ss)) (sym n) ∙ (found_place p 0 i ss s lt is e ∙ ap Some z)
-
-get_none : {A : Type 0} (xs : List A) (k : ℕ) → length xs ≤ k → slice_get xs k ≡ None
-get_none [] k le = refl
-get_none (x ∷ xs) zero le = absurd (omega (arith, le))
-get_none (x ∷ xs) (suc k) le = get_none xs k (omega (arith, le))
-
-pub none_left : {A : Type 0} (p : A → Bool) (i : ℕ) (ss : List A) (k : ℕ) → length ss ≤ i → length (places p 0 (take i ss)) ≤ k → slice_get (places p 0 ss) k ≡ None
-none_left p i ss k le few = get_none (places p 0 ss) k (subst (λ (ks : List ℕ). length ks ≤ k) (all_places p i ss le) few)
-
-few_with : (b : Bool) (j n : ℕ) (ks : List ℕ) → length ks ≤ n → length (with_if b j ks) ≤ suc n
-few_with true j n ks le = omega arith
-few_with false j n ks le = omega arith
-
-few_places : {A : Type 0} (p : A → Bool) (j i : ℕ) (ss : List A) → length (places p j (take i ss)) ≤ length ss
-few_places p j i [] = ap_le i
-  where
-    ap_le : (i : ℕ) → length (places p j (take i [])) ≤ 0
-    ap_le zero = omega arith
-    ap_le (suc i) = omega arith
-few_places p j zero (x ∷ xs) = omega arith
-few_places p j (suc i) (x ∷ xs) = few_with (p x) j (length xs) (places p (suc j) (take i xs)) (few_places p (suc j) i xs)
-
-pub few_taken : {A : Type 0} (p : A → Bool) (i : ℕ) (ss : List A) → length (places p 0 (take i ss)) ≤ length ss
-few_taken p i ss = few_places p 0 i ss
+pub changes_set : (ss : List Slot) (k : ℕ) (t : Slot) (b : Bool) → is_changed_inside t ≡ b → changes (slice_set ss k t) ≡ slice_set (changes ss) k b
+changes_set [] k t b is = refl
+changes_set (r ∷ ss) zero t b is = ap (λ b. b ∷ changes ss) is
+changes_set (r ∷ ss) (suc k) t b is = ap (λ bs. is_changed_inside r ∷ bs) (changes_set ss k t b is)

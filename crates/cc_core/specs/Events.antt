@@ -1,5 +1,5 @@
 -- The events of any number of workers, and what each changes.
-use Rattle.std.specs.Prelude.{◌≡◌, ℕ, ◌+◌, ◌-◌, ◌<◌, ◌==◌, List, [], ◌∷◌, Bool, false, Option, Some, None, cond, slice_get, position, not}
+use Rattle.std.specs.Prelude.{◌≡◌, ℕ, ◌+◌, ◌-◌, ◌<◌, ◌==◌, List, [], ◌∷◌, Bool, true, false, Option, Some, None, is_some, cond, slice_get, position, not}
 use Rattle.std.proofs.Common.{zero, suc}
 use Rattle.cc_ast.specs.Syntax.{Program, Scope}
 use Rattle.cc_core.specs.Work.{Work, rewrites, phase, step_after, after_phases, visited}
@@ -8,6 +8,8 @@ use Rattle.cc_core.specs.State.{Mark, Pending, Claimed, Done, Slot, State, is_pe
 pub data Event : Type 0 where
   -- of the least pending slot
   Claims : Event
+  -- a claim of this phase on this slot, by its number among those that were pending
+  Enters : (slot : ℕ) → Event
   -- one more claim of the least claimed slot
   Repeats : Event
   -- of a scope, by a claim that was made in this phase on this slot
@@ -81,19 +83,28 @@ abbrev pub after_enter : ℕ → State → State
 after_enter slot s = with_slots s (at_place entered slot s.slots)
 
 module _ {P : Type 0} (W : Work P) where
-  -- what the phase makes of the base is the next base; the slots that are not visited in the next step are done
+  -- whether a phase follows the step for this base
+  abbrev pub follows : State → Bool
+  follows s = is_some (W.next s.step s.base (phase W s.step s.base))
+
+  -- whether a slot is pending after the close: where a phase follows those that it visits, and else all
+  abbrev pub is_due : State → ℕ → Bool
+  is_due s slot = cond (follows s) (visited W s.source (s.closed + 1) slot) true
+
+  -- what the phase makes of the base is the next base; the slots that are not due are done
   abbrev pub after_close : State → State
   after_close s = record {
     source = s.source;
     closed = s.closed + 1;
     step = step_after W s.step s.base;
     base = phase W s.step s.base;
-    slots = laid (visited W s.source (s.closed + 1)) (phase W s.step s.base).scopes;
+    slots = laid (is_due s) (phase W s.step s.base).scopes;
   }
 
   -- the state after an event; a close needs every slot done
   abbrev pub event : State → Event → State
   event s Claims = after_claim s
+  event s (Enters slot) = after_enter slot s
   event s Repeats = after_repeat s
   event s (Puts phase slot x) = after_put phase slot x s
   event s (GivesBack phase slot) = after_give_back phase slot s
@@ -110,6 +121,7 @@ module _ {P : Type 0} (W : Work P) where
   -- the event may come in this state: a worker puts what the rules make
   abbrev pub Allowed : State → Event → Type 0
   Allowed s Claims = Unit {0}
+  Allowed s (Enters slot) = Unit {0}
   Allowed s Repeats = Unit {0}
   Allowed s (Puts phase slot y) = IsRewrite s phase slot y
   Allowed s (GivesBack phase slot) = Unit {0}
@@ -134,3 +146,14 @@ module _ {P : Type 0} (W : Work P) where
     pub goes_on : (k : ℕ) → k < count → ends (after_phases W source k) → ⊥
     pub ended : ends (after_phases W source count)
     pub is : t ≡ (after_phases W source (suc count)).1
+
+  -- among the first so many phases there is one after which none follows
+  pub record EndsWithin (most : ℕ) (source : Program) : Type 0 where
+    pub count : ℕ
+    pub few : count < most
+    pub ended : ends (after_phases W source count)
+
+  -- a bound on the phases, for every source that the first step may be given
+  pub record Bounded : Type 0 where
+    pub most : ℕ
+    pub within : (source : Program) → W.fits 0 source → EndsWithin most source

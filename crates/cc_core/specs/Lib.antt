@@ -1,10 +1,13 @@
 pub mod Work
 pub mod State
+pub mod Changed
 pub mod Events
+pub mod Makes
 pub mod Codes
-pub mod SlotState
-pub mod ShopState
-pub mod Answer
-pub mod Alone
 pub mod Outs
 pub mod Drawn
+pub mod SlotState
+pub mod ShopState
+pub mod Copies
+pub mod Answer
+pub mod Alone

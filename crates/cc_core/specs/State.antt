@@ -92,6 +92,11 @@ abbrev pub places : {A : Type 0} → (A → Bool) → ℕ → List A → List �
 places p k [] = []
 places p k (x ∷ xs) = with_if (p x) k (places p (suc k) xs)
 
+-- the numbers below n at which a test is met, each counted from k on
+abbrev pub chosen : (ℕ → Bool) → ℕ → ℕ → List ℕ
+chosen v k zero = []
+chosen v k (suc n) = with_if (v 0) k (chosen (λ j. v (suc j)) (suc k) n)
+
 -- the pending slots, in ascending order
 abbrev pub pendings : List Slot → List ℕ
 pendings ss = places is_pending 0 ss

@@ -99,7 +99,3 @@ pub record Lawful {P : Type 0} (W : Work P) : Type 0 where
   -- a scope that is not visited is its own rewrite
   pub skips : (source : Program) → W.fits 0 source → (n slot : ℕ) (x : Scope) → slice_get (after_phases W source n).1.scopes slot ≡ Some x → visited W source n slot ≡ false
       → rewrites W (after_phases W source n).0 (after_phases W source n).1 slot x ≡ Some x
-
--- all scopes are visited
-abbrev pub VisitsAll : {P : Type 0} → Work P → Type 0
-VisitsAll W = (history : List (ℕ × Program)) (step : ℕ) (base : Program) (slot : ℕ) → W.visits history step base slot ≡ true

@@ -17,8 +17,8 @@ fn finish_one<R: Rules>(shop: &mut Shop<R>) -> Result<bool, AllocError>
     match shop.claim(0) {
         None => Ok(false),
         Some(claim) => match shop.make(&claim) {
-            Ok(scope) => {
-                let _ = shop.put(claim, scope);
+            Ok(made) => {
+                let _ = shop.put(claim, made);
                 Ok(true)
             }
             Err(fault) => {

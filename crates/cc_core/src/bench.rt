@@ -1,12 +1,12 @@
 // What the workers of a phase share.
-ghost use Rattle.std.specs.Prelude.{◌≡◌, ℕ, ◌<◌, ◌^◌, IfOk, length};
+ghost use Rattle.std.specs.Prelude.{◌≡◌, ℕ, ◌<◌, IfOk, length};
 ghost use Rattle.cc_core.specs.State.{BenchShown};
-ghost use Rattle.cc_core.specs.Events.{IsRewriteAt};
+ghost use Rattle.cc_core.specs.Makes.{IsMade};
 
 use crate::claim::Claim;
-use crate::programs::scope_of;
+use crate::made::{Made, make};
 use crate::rules::Rules;
-use cc_ast::program::{Program, Scope};
+use cc_ast::program::Program;
 use std::alloc::{AllocError, Global};
 use std::marker::Model;
 use std::sync::Arc;
@@ -16,7 +16,7 @@ use std::sync::Arc;
 pub struct Bench<R: Rules> {
     alloc: Global,
     rules: Arc<R>,
-    base: Arc<Program>,
+    base: Program,
     plan: Arc<R::Plan>,
     closed: u32,
     step: u32,
@@ -31,23 +31,23 @@ impl<R: Rules> Model for Bench<R> {
 
     ghost coded = { coded_bench R.code };
 
-    ghost view = { λ b. record { rules = b.rules.value; closed = b.closed; step = b.step; base = b.base.value } };
+    ghost view = { λ b. record { rules = b.rules.value; closed = b.closed; step = b.step; base = b.base } };
 
-    ghost invariant = { λ b. ((R.work b.rules.value).fits b.step b.base.value) × (b.plan.value ≡ (R.work b.rules.value).plan b.step b.base.value) };
+    ghost invariant = { λ b. ((R.work b.rules.value).fits b.step b.base) × (b.plan.value ≡ (R.work b.rules.value).plan b.step b.base) };
 }
 
 /// What a shop shares.
 pub(crate) fn lay_out<R: Rules>(
     alloc: Global,
     rules: Arc<R>,
-    base: Arc<Program>,
+    base: Program,
     plan: Arc<R::Plan>,
     closed: u32,
     step: u32,
 ) -> Bench<R>
-    requires fits { (R.work rules.value).fits step base.value }
-    requires plan { plan.value ≡ (R.work rules.value).plan step base.value }
-    ensures { result ≡ record { rules = rules.value; closed = closed; step = step; base = base.value } }
+    requires fits { (R.work rules.value).fits step base }
+    requires plan { plan.value ≡ (R.work rules.value).plan step base }
+    ensures { result ≡ record { rules = rules.value; closed = closed; step = step; base = base } }
 {
     Bench {
         alloc,
@@ -60,17 +60,11 @@ pub(crate) fn lay_out<R: Rules>(
 }
 
 impl<R: Rules> Bench<R> {
-    /// The rewrite of the slot of a claim of this phase.
-    pub fn make(&self, claim: &Claim) -> Result<Scope, AllocError>
+    /// What is made of the slot of a claim of this phase.
+    pub fn make(&self, claim: &Claim) -> Result<Made, AllocError>
         requires slot { claim.now.slot < length self.now.base.scopes }
-        ensures { IfOk result (λ y. IsRewriteAt (R.work self.now.rules) self.now.closed self.now.step self.now.base claim.now.phase claim.now.slot y) }
+        ensures { IfOk result (λ made. IsMade (R.work self.now.rules) self.now.closed self.now.step self.now.base claim.now.phase claim.now.slot made) }
     {
-        let slot = claim.slot;
-        self.rules.rewrite(
-            self.alloc,
-            &self.plan,
-            slot,
-            scope_of(&self.base, slot as usize),
-        )
+        make(self.alloc, &*self.rules, &*self.plan, &self.base, claim.slot)
     }
 }

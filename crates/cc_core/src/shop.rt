@@ -1,17 +1,24 @@
 // The program under claims.
-ghost use Rattle.std.specs.Prelude.{◌≡◌, ℕ, ◌+◌, ◌<◌, ◌≤◌, ◌^◌, ◌==◌, true, false, List, Some, None, Ok, Err, IfOk, OnErr, IfSome, IfNone, is_some, ◌↔◌, slice_get, length, position};
-ghost use Rattle.cc_core.specs.Events.{event, Claims, Repeats, Puts, GivesBack, Closes, IsRewrite, is_new, after_enter};
-ghost use Rattle.cc_core.specs.State.{reading, is_pending, is_claimed, undone, bench_of, Sound, started, pendings, is_done_at};
-ghost use Rattle.cc_core.specs.Work.{phase, or_stay};
+ghost use Rattle.std.specs.Prelude.{◌≡◌, ℕ, ◌+◌, ◌<◌, ◌≤◌, ◌^◌, ◌==◌, [], true, false, List, Some, None, Ok, Err, IfOk, OnOk, OnErr, IfSome, IfNone, is_some, ◌↔◌, slice_get, length, position, cond};
+ghost use Rattle.cc_core.specs.Events.{event, Claims, Enters, Repeats, Puts, GivesBack, Closes, is_new, follows};
+ghost use Rattle.cc_core.specs.State.{reading, is_pending, is_claimed, undone, bench_of, Sound, started, pendings, is_done_at, chosen};
+ghost use Rattle.cc_core.specs.Makes.{IsMade, made_at};
+ghost use Rattle.cc_core.specs.Work.{phase, or_stay, step_after, heads_after};
 ghost use Rattle.cc_core.specs.ShopState.{GoesOn};
-ghost use Rattle.cc_core.specs.SlotState.{slots_of};
 
 use crate::bench::{Bench, lay_out};
 use crate::claim::Claim;
-use crate::laid::{Laid, lay, placed};
-use crate::programs::{exchange_heads, handle_on, scope_of, set_scope};
+use crate::laid::{Laid, Ready, lay, make_ready};
+use crate::made::{Made, make};
+use crate::programs::{
+    Change, exchange_heads, handle_on, heads_of, scopes_at, set_changes, set_scope,
+};
 use crate::rules::Rules;
-use cc_ast::program::{Program, Scope};
+use crate::slots::Slots;
+use crate::source::Source;
+use crate::visits::all_slots;
+use cc_ast::copy::copy_program;
+use cc_ast::program::{Heads, Program};
 use std::alloc::{AllocError, Global};
 use std::marker::Model;
 use std::sync::Arc;
@@ -33,16 +40,6 @@ pub enum CloseFault {
     Memory,
 }
 
-impl From<AllocError> for CloseFault {
-    ghost use Rattle.cc_core.specs.declared.shop.CloseFault.TheVariants.{Memory};
-
-    ghost from_gives = { λ _ e. e ≡ Memory };
-
-    fn from(_: AllocError) -> Self {
-        CloseFault::Memory
-    }
-}
-
 /// The next step, or the same where there is none.
 fn or_stays(step: u32, next: &Option<u32>) -> u32
     ensures { result ≡ or_stay step next.now }
@@ -53,7 +50,14 @@ fn or_stays(step: u32, next: &Option<u32>) -> u32
     }
 }
 
-/// What a close brings: whether a phase follows, and the step with what is laid out for it.
+/// The slots that are due: where a phase follows those that it visits, and else all.
+fn due_of(follows: bool, visited: Vec<u32>, all: Vec<u32>) -> Vec<u32>
+    ensures { result.items ≡ cond follows visited.items all.items }
+{
+    if follows { visited } else { all }
+}
+
+/// What the phase after a step begins with.
 #[derive(Drop)]
 struct Next<R: Rules> {
     follows: bool,
@@ -61,15 +65,31 @@ struct Next<R: Rules> {
     laid: Laid<R>,
 }
 
+/// What a close needs memory for: the slots whose scopes changed, handles on these scopes and on
+/// the tables of the program after the phase, the step after it, and where none follows a list of
+/// all slots.
+#[derive(Drop)]
+struct Turn<R: Rules> {
+    changed: Vec<u32>,
+    changes: Vec<Change>,
+    heads: Heads,
+    next: Next<R>,
+    all: Vec<u32>,
+}
+
 /// A program that is rewritten scope by scope under claims, phase after phase. Contracts see its
-/// rules and its state.
+/// rules and its state. `made` is the base with the done scopes in place, and with the tables that
+/// the step puts beside them.
 #[derive(Drop)]
 pub struct Shop<R: Rules> {
     rules: Arc<R>,
-    source: Arc<Program>,
-    closed: u32,
+    source: Source<Program>,
     step: u32,
-    laid: Laid<R>,
+    base: Program,
+    made: Program,
+    plan: Arc<R::Plan>,
+    past: R::Past,
+    slots: Slots,
 }
 
 impl<R: Rules> Model for Shop<R> {
@@ -82,9 +102,9 @@ impl<R: Rules> Model for Shop<R> {
 
     ghost use Rattle.cc_core.specs.ShopState.{state_of, Stands};
 
-    ghost view = { λ s. record { rules = s.rules.value; state = state_of s.source.value s.closed s.step s.laid.base.value s.laid.reading s.laid.slots } };
+    ghost view = { λ s. record { rules = s.rules.value; state = state_of s.source s.slots.phase s.step s.base s.made s.slots.slots } };
 
-    ghost invariant = { λ s. Stands (R.work s.rules.value) (state_of s.source.value s.closed s.step s.laid.base.value s.laid.reading s.laid.slots) s.laid.plan.value s.laid.reading };
+    ghost invariant = { λ s. Stands (R.work s.rules.value) (R.stands s.rules.value) s.source s.slots.phase s.step s.base s.made s.slots.slots s.plan.value s.past };
 }
 
 impl<R: Rules> Shop<R> {
@@ -97,32 +117,36 @@ impl<R: Rules> Shop<R> {
         requires few { length program.scopes < 2 ^ 32 }
         ensures { IfOk result (λ s. s ≡ record { rules = rules; state = started program }) }
     {
-        let Ok(base) = handle_on(alloc, program) else {
-            return Err(AllocError);
-        };
         let Ok(rules) = handle_on(alloc, rules) else {
             return Err(AllocError);
         };
-        Shop::opened(alloc, rules, base)
+        Shop::opened(alloc, rules, program)
     }
 
-    fn opened(alloc: Global, rules: Arc<R>, base: Arc<Program>) -> Result<Shop<R>, AllocError>
-        requires fits { (R.work rules.value).fits 0 base.value }
-        requires few { length base.value.scopes < 2 ^ 32 }
-        ensures { IfOk result (λ s. s ≡ record { rules = rules.value; state = started base.value }) }
+    fn opened(alloc: Global, rules: Arc<R>, base: Program) -> Result<Shop<R>, AllocError>
+        requires fits { (R.work rules.value).fits 0 base }
+        requires few { length base.scopes < 2 ^ 32 }
+        ensures { IfOk result (λ s. s ≡ record { rules = rules.value; state = started base }) }
     {
-        let Ok(source) = Arc::try_clone(&base) else {
+        let Ok(ready) = make_ready(alloc, &*rules, &base) else {
             return Err(AllocError);
         };
-        let Ok(laid) = lay(alloc, &*rules, 0, base) else {
-            return Err(AllocError);
-        };
+        let Ready {
+            made,
+            plan,
+            past,
+            slots,
+        } = ready;
+        let source = Source::of(&base);
         Ok(Shop {
             rules,
             source,
-            closed: 0,
             step: 0,
-            laid,
+            base,
+            made,
+            plan,
+            past,
+            slots,
         })
     }
 
@@ -132,8 +156,8 @@ impl<R: Rules> Shop<R> {
         ensures some { IfSome result (λ c. (c.phase ≡ self.old.state.closed) × (position is_pending self.old.state.slots ≡ Some c.slot) × (c.worker ≡ worker)) }
         ensures none { IfNone result (position is_pending self.old.state.slots ≡ None) }
     {
-        let phase = self.closed;
-        let slot = self.laid.slots.claim()?;
+        let phase = self.slots.phase();
+        let slot = self.slots.claim()?;
         Some(Claim {
             phase,
             slot,
@@ -148,8 +172,8 @@ impl<R: Rules> Shop<R> {
         ensures some { IfSome result (λ c. (c.phase ≡ self.old.state.closed) × (position is_claimed self.old.state.slots ≡ Some c.slot) × (c.worker ≡ worker)) }
         ensures none { IfNone result (position is_claimed self.old.state.slots ≡ None) }
     {
-        let phase = self.closed;
-        let slot = self.laid.slots.repeat()?;
+        let phase = self.slots.phase();
+        let slot = self.slots.repeat()?;
         Some(Claim {
             phase,
             slot,
@@ -157,28 +181,26 @@ impl<R: Rules> Shop<R> {
         })
     }
 
-    /// The rewrite of the slot of a claim of this phase.
-    pub fn make(&self, claim: &Claim) -> Result<Scope, AllocError>
-        requires phase { claim.now.phase ≡ self.now.state.closed }
+    /// What is made of the slot of a claim of this phase.
+    pub fn make(&self, claim: &Claim) -> Result<Made, AllocError>
         requires slot { claim.now.slot < length self.now.state.slots }
-        ensures { IfOk result (λ y. IsRewrite (R.work self.now.rules) self.now.state claim.now.phase claim.now.slot y) }
+        ensures { IfOk result (λ made. IsMade (R.work self.now.rules) self.now.state.closed self.now.state.step self.now.state.base claim.now.phase claim.now.slot made) }
     {
-        let alloc = self.laid.slots.allocator();
-        let slot = claim.slot;
-        self.rules.rewrite(
-            alloc,
-            &self.laid.plan,
-            slot,
-            scope_of(&self.laid.base, slot as usize),
+        make(
+            self.slots.allocator(),
+            &*self.rules,
+            &*self.plan,
+            &self.base,
+            claim.slot,
         )
     }
 
-    /// Puts a slot's rewrite. The scope of a claim of an earlier phase is dropped.
-    pub fn put(&mut self, claim: Claim, scope: Scope) -> Put
+    /// Puts what was made of a slot. What comes by a claim of an earlier phase is dropped.
+    pub fn put(&mut self, claim: Claim, made: Made) -> Put
         requires phase { claim.phase ≤ self.old.state.closed }
         requires slot { claim.slot < length self.old.state.slots }
-        requires rewrite { IsRewrite (R.work self.old.rules) self.old.state claim.phase claim.slot scope }
-        ensures event { self.new ≡ record { rules = self.old.rules; state = event (R.work self.old.rules) self.old.state (Puts claim.phase claim.slot scope) } }
+        requires made { IsMade (R.work self.old.rules) self.old.state.closed self.old.state.step self.old.state.base claim.phase claim.slot made }
+        ensures event { self.new ≡ record { rules = self.old.rules; state = event (R.work self.old.rules) self.old.state (Puts claim.phase claim.slot (made_at self.old.state.base claim.slot made)) } }
         ensures answer { result ≡ put_answer (is_new self.old.state claim.phase claim.slot) }
     {
         let Claim {
@@ -186,21 +208,25 @@ impl<R: Rules> Shop<R> {
             slot,
             worker: _,
         } = claim;
-        if phase != self.closed {
+        if phase != self.slots.phase() {
             return Put::Same;
         }
-        let slot = slot as usize;
-        if self.rules.local(self.step) {
-            if self.laid.slots.put(slot) {
-                set_scope(&mut self.laid.reading, slot, scope);
-                Put::New
-            } else {
-                Put::Same
+        match made {
+            Made::Same => {
+                if self.slots.put(slot, false) {
+                    Put::New
+                } else {
+                    Put::Same
+                }
             }
-        } else if self.laid.slots.hold(slot, scope) {
-            Put::New
-        } else {
-            Put::Same
+            Made::Other(scope) => {
+                if self.slots.put(slot, true) {
+                    set_scope(&mut self.made, slot as usize, scope);
+                    Put::New
+                } else {
+                    Put::Same
+                }
+            }
         }
     }
 
@@ -215,8 +241,8 @@ impl<R: Rules> Shop<R> {
             slot,
             worker: _,
         } = claim;
-        if phase == self.closed {
-            self.laid.slots.give_back(slot as usize);
+        if phase == self.slots.phase() {
+            self.slots.give_back(slot);
         }
     }
 
@@ -225,120 +251,167 @@ impl<R: Rules> Shop<R> {
         requires phase { claim.now.phase ≡ self.old.state.closed }
         requires slot { claim.now.slot < length self.old.state.slots }
         requires room { (s : _) → slice_get self.old.state.slots claim.now.slot ≡ Some s → s.out + 1 < 2 ^ 32 }
-        ensures { self.new ≡ record { rules = self.old.rules; state = after_enter claim.now.slot self.old.state } }
+        ensures { self.new ≡ record { rules = self.old.rules; state = event (R.work self.old.rules) self.old.state (Enters claim.now.slot) } }
     {
-        self.laid.slots.enter(claim.slot as usize);
+        self.slots.enter(claim.slot);
     }
 
     /// How many phases are closed.
     pub fn closed(&self) -> u32
         ensures { result ≡ self.now.state.closed }
     {
-        self.closed
+        self.slots.phase()
     }
 
     /// Whether a slot is done.
-    pub fn is_done(&self, slot: usize) -> bool
+    pub fn is_done(&self, slot: u32) -> bool
         requires { slot < length self.now.state.slots }
         ensures { result ≡ is_done_at slot self.now.state.slots }
     {
-        self.laid.slots.is_done(slot)
+        self.slots.is_done(slot)
     }
 
     /// How many slots there are.
     pub fn len(&self) -> usize
         ensures { result ≡ length self.now.state.slots }
     {
-        self.laid.slots.len()
+        self.slots.len()
     }
 
     /// How many slots are not done.
     pub fn undone(&self) -> u32
         ensures { result ≡ undone self.now.state.slots }
     {
-        self.laid.slots.undone()
-    }
-
-    /// How many slots are pending.
-    pub fn pending(&self) -> u32
-        ensures { result ≡ length (pendings self.now.state.slots) }
-    {
-        self.laid.slots.pending()
-    }
-
-    /// The pending slot of a number, counted from 0 in ascending order.
-    pub fn pending_slot(&self, k: u32) -> Option<u32>
-        ensures { slice_get (pendings self.now.state.slots) k ≡ result }
-    {
-        self.laid.slots.pending_slot(k)
+        self.slots.undone()
     }
 
     /// The pending slots, in ascending order.
     pub fn pending_slots(&self) -> Result<Vec<u32>, AllocError>
         ensures { IfOk result (λ v. v.items ≡ pendings self.now.state.slots) }
     {
-        self.laid.slots.pending_slots()
+        self.slots.pending_slots()
     }
 
-    /// The program after this phase.
-    fn after(&self) -> Result<Arc<Program>, AllocError>
-        requires { undone self.now.state.slots ≡ 0 }
-        ensures { IfOk result (λ p. p.value ≡ phase (R.work self.now.rules) self.now.state.step self.now.state.base) }
+    /// The program as it stands.
+    pub fn program(&self) -> &Program
+        ensures { result.now ≡ reading (R.work self.now.rules) self.now.state }
     {
-        let local = self.rules.local(self.step);
-        if local {
-            self.after_local()
+        if self.rules.local(self.step) {
+            &self.made
         } else {
-            self.after_whole()
+            &self.base
         }
     }
 
-    /// The program after a local phase.
-    fn after_local(&self) -> Result<Arc<Program>, AllocError>
-        requires none { undone self.now.state.slots ≡ 0 }
-        requires local { (R.work self.now.rules).local self.now.state.step ≡ true }
-        ensures { IfOk result (λ p. p.value ≡ phase (R.work self.now.rules) self.now.state.step self.now.state.base) }
+    /// The program as it stands, alone.
+    pub fn take(self) -> Program
+        ensures { result ≡ reading (R.work self.rules) self.state }
     {
-        let alloc = self.laid.slots.allocator();
-        let program = placed(alloc, &self.laid.reading, self.laid.slots.as_slice())?;
-        handle_on(alloc, program)
+        let local = self.rules.local(self.step);
+        let Shop {
+            rules: _,
+            source: _,
+            step: _,
+            base,
+            made,
+            plan: _,
+            past: _,
+            slots: _,
+        } = self;
+        if local { made } else { base }
     }
 
-    /// The program after a phase of the whole program.
-    fn after_whole(&self) -> Result<Arc<Program>, AllocError>
-        requires none { undone self.now.state.slots ≡ 0 }
-        requires whole { (R.work self.now.rules).local self.now.state.step ≡ false }
-        ensures { IfOk result (λ p. p.value ≡ phase (R.work self.now.rules) self.now.state.step self.now.state.base) }
+    /// What every shop keeps.
+    pub fn sound(&self)
+        ensures { Sound (R.work self.now.rules) self.now.state }
     {
-        let alloc = self.laid.slots.allocator();
-        let Ok(heads) = self.rules.heads(alloc, &self.laid.plan, &self.laid.base) else {
-            return Err(AllocError);
-        };
-        let Ok(mut program) = placed(alloc, &self.laid.reading, self.laid.slots.as_slice()) else {
-            return Err(AllocError);
-        };
-        exchange_heads(&mut program, heads);
-        handle_on(alloc, program)
+        let _ = &self.made;
     }
 
-    /// Where the shop stands after this phase.
-    fn next(&self) -> Result<Next<R>, AllocError>
-        requires { undone self.now.state.slots ≡ 0 }
-        ensures follows { IfOk result (λ n. n.follows ≡ is_some ((R.work self.now.rules).next self.now.state.step self.now.state.base (phase (R.work self.now.rules) self.now.state.step self.now.state.base))) }
-        ensures goes_on { IfOk result (λ n. GoesOn (R.work self.now.rules) self.now.state n.step n.laid.base.value n.laid.plan.value n.laid.reading (slots_of n.laid.reading.scopes n.laid.slots)) }
+    /// What the workers of this phase share. It takes handles on the base's scopes.
+    pub fn bench(&self) -> Result<Bench<R>, AllocError>
+        ensures { IfOk result (λ b. b ≡ bench_of self.now) }
     {
-        let Ok(fresh) = self.after() else {
+        let alloc = self.slots.allocator();
+        let Ok(rules) = Arc::try_clone(&self.rules) else {
             return Err(AllocError);
         };
-        let next = self.rules.next(self.step, &self.laid.base, &fresh);
+        let Ok(plan) = Arc::try_clone(&self.plan) else {
+            return Err(AllocError);
+        };
+        let Ok(base) = copy_program(alloc, &self.base) else {
+            return Err(AllocError);
+        };
+        Ok(lay_out(
+            alloc,
+            rules,
+            base,
+            plan,
+            self.slots.phase(),
+            self.step,
+        ))
+    }
+
+    /// The step after this phase, laid out for the program that it made.
+    fn next(&self, same: bool) -> Result<Next<R>, AllocError>
+        requires none { undone self.now.state.slots ≡ 0 }
+        requires same { same ≡ true → self.now.state.base ≡ phase (R.work self.now.rules) self.now.state.step self.now.state.base }
+        requires local { (R.work self.now.rules).local self.now.state.step ≡ true → self.now.state.base ≡ phase (R.work self.now.rules) self.now.state.step self.now.state.base → same ≡ true }
+        ensures follows { IfOk result (λ n. n.follows ≡ follows (R.work self.now.rules) self.now.state) }
+        ensures step { IfOk result (λ n. n.step ≡ step_after (R.work self.now.rules) self.now.state.step self.now.state.base) }
+        ensures plan { IfOk result (λ n. n.laid.plan.value ≡ (R.work self.now.rules).plan n.step (phase (R.work self.now.rules) self.now.state.step self.now.state.base)) }
+        ensures heads { IfOk result (λ n. n.laid.heads ≡ heads_after (R.work self.now.rules) n.step (phase (R.work self.now.rules) self.now.state.step self.now.state.base)) }
+    {
+        let next = self.rules.next(self.step, &self.base, &self.made, same);
         let step = or_stays(self.step, &next);
-        let Ok(laid) = lay(self.laid.slots.allocator(), &*self.rules, step, fresh) else {
+        match lay(self.slots.allocator(), &*self.rules, step, &self.made) {
+            Ok(laid) => Ok(Next {
+                follows: next.is_some(),
+                step,
+                laid,
+            }),
+            Err(fault) => Err(fault),
+        }
+    }
+
+    /// The list of all slots where no phase follows.
+    fn all_where(&self, follows: bool) -> Result<Vec<u32>, AllocError>
+        ensures { IfOk result (λ v. follows ≡ false → v.items ≡ chosen (λ _. true) 0 (length self.now.state.slots)) }
+    {
+        let alloc = self.slots.allocator();
+        if follows {
+            return Ok(Vec::new(alloc));
+        }
+        all_slots(alloc, self.slots.len())
+    }
+
+    /// All that a close needs memory for.
+    fn turn(&self) -> Result<Turn<R>, AllocError>
+        requires { undone self.now.state.slots ≡ 0 }
+        ensures { IfOk result (λ t. GoesOn (R.work self.now.rules) self.now.state t.next.follows t.next.step t.changed.items t.changes.items t.heads t.next.laid.plan.value t.next.laid.heads t.all.items) }
+    {
+        let Ok(changed) = self.slots.changed_slots() else {
             return Err(AllocError);
         };
-        Ok(Next {
-            follows: next.is_some(),
-            step,
-            laid,
+        let same = self.rules.local(self.step) && changed.is_empty();
+        let Ok(changes) = scopes_at(self.slots.allocator(), &self.made, &changed) else {
+            return Err(AllocError);
+        };
+        let Ok(next) = self.next(same) else {
+            return Err(AllocError);
+        };
+        let Ok(heads) = heads_of(&self.made) else {
+            return Err(AllocError);
+        };
+        let Ok(all) = self.all_where(next.follows) else {
+            return Err(AllocError);
+        };
+        Ok(Turn {
+            changed,
+            changes,
+            heads,
+            next,
+            all,
         })
     }
 
@@ -348,7 +421,7 @@ impl<R: Rules> Shop<R> {
         requires { self.old.state.closed + 1 < 2 ^ 32 }
         ensures done { IfOk result (λ _. undone self.old.state.slots ≡ 0) }
         ensures event { IfOk result (λ _. self.new ≡ record { rules = self.old.rules; state = event (R.work self.old.rules) self.old.state Closes }) }
-        ensures follows { IfOk result (λ follows. follows ≡ is_some ((R.work self.old.rules).next self.old.state.step self.old.state.base (phase (R.work self.old.rules) self.old.state.step self.old.state.base))) }
+        ensures follows { IfOk result (λ goes. goes ≡ follows (R.work self.old.rules) self.old.state) }
         ensures undone { (0 < undone self.old.state.slots) ↔ (result ≡ Err (Undone (undone self.old.state.slots))) }
         ensures same { OnErr result (self.new ≡ self.old) }
     {
@@ -356,83 +429,54 @@ impl<R: Rules> Shop<R> {
         if count > 0 {
             return Err(CloseFault::Undone { count });
         }
-        let Ok(next) = self.next() else {
+        let Ok(turn) = self.turn() else {
             return Err(CloseFault::Memory);
         };
+        let follows = turn.next.follows;
+        match self.go_on(turn) {
+            Ok(()) => Ok(follows),
+            Err(_) => Err(CloseFault::Memory),
+        }
+    }
+
+    fn go_on(&mut self, turn: Turn<R>) -> Result<(), AllocError>
+        requires room { self.old.state.closed + 1 < 2 ^ 32 }
+        requires none { undone self.old.state.slots ≡ 0 }
+        requires goes_on { GoesOn (R.work self.old.rules) self.old.state turn.next.follows turn.next.step turn.changed.items turn.changes.items turn.heads turn.next.laid.plan.value turn.next.laid.heads turn.all.items }
+        ensures event { OnOk result (self.new ≡ record { rules = self.old.rules; state = event (R.work self.old.rules) self.old.state Closes }) }
+        ensures same { OnErr result (self.new ≡ self.old) }
+    {
+        let Turn {
+            changed,
+            changes,
+            heads,
+            next,
+            all,
+        } = turn;
         let Next {
             follows,
             step,
             laid,
         } = next;
-        self.go_on(step, laid);
-        Ok(follows)
-    }
-
-    fn go_on(&mut self, step: u32, laid: Laid<R>)
-        requires room { self.old.state.closed + 1 < 2 ^ 32 }
-        requires none { undone self.old.state.slots ≡ 0 }
-        requires goes_on { GoesOn (R.work self.old.rules) self.old.state step laid.base.value laid.plan.value laid.reading (slots_of laid.reading.scopes laid.slots) }
-        ensures { self.new ≡ record { rules = self.old.rules; state = event (R.work self.old.rules) self.old.state Closes } }
-    {
-        self.closed += 1;
-        self.step = step;
-        self.laid = laid;
-    }
-
-    /// The program as it stands.
-    pub fn program(&self) -> &Program
-        ensures { result.now ≡ reading (R.work self.now.rules) self.now.state }
-    {
-        &self.laid.reading
-    }
-
-    /// The program as it stands, alone.
-    pub fn take(self) -> Program
-        ensures { result ≡ reading (R.work self.rules) self.state }
-    {
-        let Shop {
-            rules: _,
-            source: _,
-            closed: _,
-            step: _,
-            laid,
-        } = self;
-        let Laid {
-            base: _,
-            plan: _,
-            reading,
-            slots: _,
-        } = laid;
-        reading
-    }
-
-    /// What every shop keeps.
-    pub fn sound(&self)
-        ensures { Sound (R.work self.now.rules) self.now.state }
-    {
-        let _ = &self.laid.reading;
-    }
-
-    /// What the workers of this phase share.
-    pub fn bench(&self) -> Result<Bench<R>, AllocError>
-        ensures { IfOk result (λ b. b ≡ bench_of self.now) }
-    {
-        let Ok(rules) = Arc::try_clone(&self.rules) else {
-            return Err(AllocError);
-        };
-        let Ok(base) = Arc::try_clone(&self.laid.base) else {
-            return Err(AllocError);
-        };
-        let Ok(plan) = Arc::try_clone(&self.laid.plan) else {
-            return Err(AllocError);
-        };
-        Ok(lay_out(
-            self.laid.slots.allocator(),
-            rules,
-            base,
-            plan,
-            self.closed,
+        let alloc = self.slots.allocator();
+        let Ok(visited) = self.rules.visit(
+            alloc,
+            &mut self.past,
             self.step,
-        ))
+            &self.base,
+            &self.made,
+            &changed,
+            step,
+        ) else {
+            return Err(AllocError);
+        };
+        let Laid { plan, heads: after } = laid;
+        set_changes(&mut self.base, changes);
+        exchange_heads(&mut self.base, heads);
+        exchange_heads(&mut self.made, after);
+        self.slots.turn(due_of(follows, visited, all));
+        self.step = step;
+        self.plan = plan;
+        Ok(())
     }
 }

@@ -1,97 +1,107 @@
 // The slots of a shop.
-ghost use Rattle.std.specs.Prelude.{◌≡◌, ℕ, ◌+◌, ◌<◌, ◌≤◌, ◌^◌, List, [], Some, None, length, position, IfOk, IfSome, slice_get, slice_set, slice_index_or, not, true, false};
+ghost use Rattle.std.specs.Prelude.{◌≡◌, ℕ, ◌+◌, ◌<◌, ◌≤◌, ◌^◌, List, All, Some, None, length, position, IfOk, slice_get, slice_set, not, Bool, true, false, leb};
 ghost use Rattle.cc_ast.specs.Syntax.{Scope as Tree};
-ghost use Rattle.cc_core.specs.State.{is_pending, is_claimed, is_done, is_done_at, places, pendings, undone, all_fresh, in_place};
+ghost use Rattle.cc_core.specs.State.{is_pending, is_claimed, is_done, is_done_at, pendings, undone, chosen, places};
 ghost use Rattle.cc_core.specs.Events.{at_found, at_place, claimed, one_more, put_in, given_back, entered};
-ghost use Rattle.cc_core.specs.SlotState.{NoneBefore, slot_of, slots_of, is_pending_inside, is_claimed_inside, is_open_inside};
+ghost use Rattle.cc_core.specs.SlotState.{Table, NoneBefore, Rising, slot_of, slots_of, is_pending_inside, is_claimed_inside, is_open_inside, is_changed_inside, is_listed, seen, all_seen, all_idle, open_at, set_all, due, changes, test_at, picked};
 
-use cc_ast::program::Scope;
+use crate::visits::{
+    all_slots, changed_of, first_claimed, first_pending, idle_slots, open_all, pending_of, place_of,
+};
 use std::alloc::{AllocError, Global};
 use std::marker::Model;
 
-/// How far a slot is. In a local step the scope of a done slot stands in the reading, and in a step
-/// of the whole program the slot holds it.
+/// How far a slot is in the phase at work.
 #[derive(Drop)]
 pub enum Mark {
     Pending,
     Claimed,
-    Done,
-    Held(Scope),
+    /// Done, with the base's scope.
+    Kept,
+    /// Done, with another scope than the base's.
+    Changed,
+    /// Done, since the phase doesn't visit it.
+    Aside,
 }
 
-/// A slot, and how many claims of this phase are out on it.
+/// A slot, and how many claims of this phase are out on it. `stamp` is the phase in which mark and
+/// claims were written; what an earlier phase wrote is no more.
 #[derive(Drop)]
 pub struct Slot {
+    pub stamp: u32,
     pub mark: Mark,
     pub out: u32,
 }
 
-/// The slots, one for each scope. No slot before `from` is pending, so that claims in a row look at
-/// each slot once.
+/// The slots, one for each scope, and a list of those that the phase visits, in ascending order. None
+/// that stands in the list before `from` is pending, and none before `held` is claimed, so that
+/// claims in a row look at each slot once.
 #[derive(Drop)]
 pub struct Slots {
     items: Vec<Slot>,
+    phase: u32,
+    visited: Vec<u32>,
     from: usize,
+    held: usize,
+    undone: u32,
 }
 
 impl Model for Slots {
-    ghost use Rattle.std.specs.Prelude.{List};
+    ghost use Rattle.cc_core.specs.SlotState.{Table, coded_table, all_seen, Arranged};
     ghost use Rattle.std.specs.Coded.{coded_list};
-    ghost use Rattle.cc_core.specs.declared.slots.Slot.{Slot};
     ghost use Rattle.cc_core.specs.contracts.slots.Slot as slot;
 
-    ghost Value = { List Slot };
+    ghost Value = { Table };
 
-    ghost coded = { coded_list slot.the_row.coded };
+    ghost coded = { coded_table (coded_list slot.the_row.coded) };
 
-    ghost use Rattle.cc_core.specs.SlotState.{NoneBefore, is_pending_inside};
+    ghost view = { λ s. record { phase = s.phase; slots = all_seen s.phase s.items.items } };
 
-    ghost view = { λ s. s.items.items };
-
-    ghost invariant = { λ s. NoneBefore is_pending_inside s.from s.items.items };
+    ghost invariant = { λ s. Arranged s.phase s.items.items s.visited.items s.from s.held s.undone };
 }
 
-fn is_open(slot: &Slot) -> bool
-    ensures { result ≡ is_pending_inside slot.now }
+pub fn is_open(slot: &Slot, phase: u32) -> bool
+    ensures { result ≡ is_pending_inside (seen phase slot.now) }
 {
-    matches!(slot.mark, Mark::Pending)
+    slot.stamp == phase && matches!(slot.mark, Mark::Pending)
 }
 
-fn is_unfinished(slot: &Slot) -> bool
-    ensures { result ≡ is_open_inside slot.now }
+pub fn is_held(slot: &Slot, phase: u32) -> bool
+    ensures { result ≡ is_claimed_inside (seen phase slot.now) }
 {
-    matches!(slot.mark, Mark::Pending | Mark::Claimed)
+    slot.stamp == phase && matches!(slot.mark, Mark::Claimed)
 }
 
-fn has_scope(slot: &Slot) -> bool
-    ensures { (x : Tree) → is_done (slot_of x slot.now) ≡ result }
+pub fn is_changed(slot: &Slot, phase: u32) -> bool
+    ensures { result ≡ is_changed_inside (seen phase slot.now) }
 {
-    matches!(slot.mark, Mark::Done | Mark::Held(_))
+    slot.stamp == phase && matches!(slot.mark, Mark::Changed)
 }
 
-/// The first pending slot, where those before `from` are known not to be.
-#[tactic(auto, using(crate::proofs::Cursor::none_more, crate::proofs::Cursor::first_found, crate::proofs::Cursor::none_found))]
-fn first_pending(slots: &[Slot], from: usize) -> Option<usize>
-    requires { NoneBefore is_pending_inside from slots.now }
-    ensures { result ≡ position is_pending_inside slots.now }
+fn is_unfinished(slot: &Slot, phase: u32) -> bool
+    ensures { result ≡ is_open_inside (seen phase slot.now) }
 {
-    for i in from..slots.len() {
-        if is_open(&slots[i]) {
-            return Some(i);
-        }
+    slot.stamp == phase && matches!(slot.mark, Mark::Pending | Mark::Claimed)
+}
+
+/// Makes the slot one of this phase.
+fn renew(at: &mut Slot, phase: u32)
+    ensures { at.new ≡ seen phase at.old }
+{
+    if at.stamp != phase {
+        at.stamp = phase;
+        at.mark = Mark::Aside;
+        at.out = 0;
     }
-    None
-}
-
-fn first_claimed(slots: &[Slot]) -> Option<usize>
-    ensures { result ≡ position is_claimed_inside slots.now }
-{
-    slots.iter().position(|s| matches!(s.mark, Mark::Claimed))
 }
 
 fn claim_slot(at: &mut Slot)
     requires { is_pending_inside at.old ≡ true }
     ensures slot { (x : Tree) → slot_of x at.new ≡ claimed (slot_of x at.old) }
+    ensures listed { is_listed at.new ≡ is_listed at.old }
+    ensures stamp { at.new.stamp ≡ at.old.stamp }
+    ensures changed { is_changed_inside at.new ≡ is_changed_inside at.old }
+    ensures open { is_open_inside at.new ≡ is_open_inside at.old }
     ensures taken { is_pending_inside at.new ≡ false }
 {
     at.mark = Mark::Claimed;
@@ -102,146 +112,121 @@ fn repeat_slot(at: &mut Slot)
     requires claimed { is_claimed_inside at.old ≡ true }
     requires room { at.old.out + 1 < 2 ^ 32 }
     ensures slot { (x : Tree) → slot_of x at.new ≡ one_more (slot_of x at.old) }
-    ensures taken { is_pending_inside at.new ≡ false }
+    ensures same { at.new ≡ record { stamp = at.old.stamp; mark = at.old.mark; out = at.old.out + 1 } }
 {
     at.out += 1;
 }
 
-/// Marks a slot done whose scope stands in the reading, and says whether it was not.
-fn put_slot(at: &mut Slot) -> bool
+/// Marks a slot done, with its own scope or another, and says whether it was not.
+fn put_slot(at: &mut Slot, changed: bool) -> bool
+    ensures open { result ≡ is_open_inside at.old }
     ensures put { result ≡ true → (x y : Tree) → slot_of y at.new ≡ put_in y (slot_of x at.old) }
     ensures same { result ≡ false → (x y : Tree) → slot_of x at.new ≡ put_in y (slot_of x at.old) }
-    ensures done { (x : Tree) → is_done (slot_of x at.old) ≡ not result }
-    ensures taken { is_pending_inside at.new ≡ false }
+    ensures listed { is_listed at.new ≡ is_listed at.old }
+    ensures stamp { at.new.stamp ≡ at.old.stamp }
+    ensures done { is_open_inside at.new ≡ false }
+    ensures pending { is_pending_inside at.new ≡ false }
+    ensures claimed { is_claimed_inside at.new ≡ false }
+    ensures changed { result ≡ true → is_changed_inside at.new ≡ changed }
+    ensures unchanged { result ≡ false → is_changed_inside at.new ≡ is_changed_inside at.old }
 {
     at.out = at.out.saturating_sub(1);
     match at.mark {
         Mark::Pending | Mark::Claimed => {
-            at.mark = Mark::Done;
+            at.mark = if changed { Mark::Changed } else { Mark::Kept };
             true
         }
-        Mark::Done | Mark::Held(_) => false,
+        Mark::Kept | Mark::Changed | Mark::Aside => false,
     }
 }
 
-/// Marks a slot done, with its scope, and says whether it was not.
-fn hold_slot(at: &mut Slot, scope: Scope) -> bool
-    ensures put { (x : Tree) → slot_of x at.new ≡ put_in scope (slot_of x at.old) }
-    ensures done { (x : Tree) → is_done (slot_of x at.old) ≡ not result }
-    ensures taken { is_pending_inside at.new ≡ false }
+/// One claim fewer; the slot is pending again if it is not done and no other claim is out. Says
+/// whether it came to be pending.
+fn give_back_slot(at: &mut Slot) -> bool
+    ensures slot { (x : Tree) → slot_of x at.new ≡ given_back (slot_of x at.old) }
+    ensures listed { is_listed at.new ≡ is_listed at.old }
+    ensures stamp { at.new.stamp ≡ at.old.stamp }
+    ensures changed { is_changed_inside at.new ≡ is_changed_inside at.old }
+    ensures open { is_open_inside at.new ≡ is_open_inside at.old }
+    ensures claimed { is_claimed_inside at.new ≡ true → is_claimed_inside at.old ≡ true }
+    ensures not_back { result ≡ false → is_pending_inside at.new ≡ true → is_pending_inside at.old ≡ true }
 {
     at.out = at.out.saturating_sub(1);
-    match at.mark {
-        Mark::Pending | Mark::Claimed => {
-            at.mark = Mark::Held(scope);
-            true
-        }
-        Mark::Done | Mark::Held(_) => false,
+    if matches!(at.mark, Mark::Claimed) && at.out == 0 {
+        at.mark = Mark::Pending;
+        return true;
     }
+    false
 }
 
-/// One claim fewer; the slot is pending again if it is not done and no other claim is out.
-fn give_back_slot(at: &mut Slot)
-    ensures { (x : Tree) → slot_of x at.new ≡ given_back (slot_of x at.old) }
-{
-    at.out = at.out.saturating_sub(1);
-    if let Mark::Claimed = at.mark {
-        if at.out == 0 {
-            at.mark = Mark::Pending;
-        }
-    }
-}
-
-/// One claim more; a pending slot is claimed.
-fn enter_slot(at: &mut Slot)
+/// One claim more; a pending slot is claimed. Says whether it was pending.
+fn enter_slot(at: &mut Slot) -> bool
     requires { at.old.out + 1 < 2 ^ 32 }
     ensures slot { (x : Tree) → slot_of x at.new ≡ entered (slot_of x at.old) }
+    ensures listed { is_listed at.new ≡ is_listed at.old }
+    ensures stamp { at.new.stamp ≡ at.old.stamp }
+    ensures changed { is_changed_inside at.new ≡ is_changed_inside at.old }
+    ensures open { is_open_inside at.new ≡ is_open_inside at.old }
     ensures taken { is_pending_inside at.new ≡ false }
+    ensures not_taken { result ≡ false → is_claimed_inside at.new ≡ true → is_claimed_inside at.old ≡ true }
 {
-    if let Mark::Pending = at.mark {
+    if matches!(at.mark, Mark::Pending) {
         at.mark = Mark::Claimed;
         at.out = 1;
-    } else {
-        at.out += 1;
+        return true;
     }
+    at.out += 1;
+    false
 }
 
-/// How many slots are not done.
-#[tactic(auto, using(crate::proofs::SlotLemmas::more_yes, crate::proofs::SlotLemmas::more_not, crate::proofs::SlotLemmas::all_places, crate::proofs::SlotLemmas::few_taken))]
-fn undone_of(slots: &[Slot]) -> u32
-    requires { length slots.now < 2 ^ 32 }
-    ensures { result ≡ length (places is_open_inside 0 slots.now) }
+fn least(a: usize, b: usize) -> usize
+    ensures { (result ≤ a) × (result ≤ b) }
 {
-    let mut count = 0;
-    for i in 0..slots.len() {
-        if is_unfinished(&slots[i]) {
-            count += 1;
-        }
-    }
-    count
-}
-
-/// How many slots are pending.
-#[tactic(auto, using(crate::proofs::SlotLemmas::more_yes, crate::proofs::SlotLemmas::more_not, crate::proofs::SlotLemmas::all_places, crate::proofs::SlotLemmas::few_taken))]
-fn pending_count(slots: &[Slot]) -> u32
-    requires { length slots.now < 2 ^ 32 }
-    ensures { result ≡ length (places is_pending_inside 0 slots.now) }
-{
-    let mut count = 0;
-    for i in 0..slots.len() {
-        if is_open(&slots[i]) {
-            count += 1;
-        }
-    }
-    count
-}
-
-/// The k-th pending slot.
-#[tactic(auto, using(crate::proofs::SlotLemmas::more_yes, crate::proofs::SlotLemmas::more_not, crate::proofs::SlotLemmas::place_found, crate::proofs::SlotLemmas::none_left))]
-fn pending_at(slots: &[Slot], k: u32) -> Option<u32>
-    requires { length slots.now < 2 ^ 32 }
-    ensures { slice_get (places is_pending_inside 0 slots.now) k ≡ result }
-{
-    let mut left = k;
-    for i in 0..slots.len() {
-        if is_open(&slots[i]) {
-            if left == 0 {
-                return Some(i as u32);
-            }
-            left -= 1;
-        }
-    }
-    None
-}
-
-/// The pending slots.
-#[tactic(auto, using(crate::proofs::SlotLemmas::places_more, crate::proofs::SlotLemmas::all_places))]
-fn pending_of(alloc: Global, slots: &[Slot]) -> Result<Vec<u32>, AllocError>
-    requires { length slots.now < 2 ^ 32 }
-    ensures { IfOk result (λ v. v.items ≡ places is_pending_inside 0 slots.now) }
-{
-    let mut found = Vec::new(alloc);
-    for i in 0..slots.len() {
-        if is_open(&slots[i]) {
-            found.push(i as u32)?;
-        }
-    }
-    Ok(found)
+    if a < b { a } else { b }
 }
 
 impl Slots {
-    /// So many pending slots.
-    pub fn fresh(alloc: Global, count: usize) -> Result<Slots, AllocError>
-        ensures { (xs : List Tree) → length xs ≡ count → IfOk result (λ s. slots_of xs s ≡ all_fresh xs) }
+    /// So many slots, all of them pending, in the first phase.
+    pub fn begin(alloc: Global, count: usize) -> Result<Slots, AllocError>
+        requires { count < 2 ^ 32 }
+        ensures { IfOk result (λ s. s ≡ record { phase = 0; slots = due 0 (λ _. true) count }) }
     {
-        let mut items = Vec::with_capacity(alloc, count)?;
-        for _i in 0..count {
-            items.push(Slot {
-                mark: Mark::Pending,
-                out: 0,
-            })?;
-        }
-        Ok(Slots { items, from: 0 })
+        let Ok(visited) = all_slots(alloc, count) else {
+            return Err(AllocError);
+        };
+        let Ok(mut items) = idle_slots(alloc, count, 0) else {
+            return Err(AllocError);
+        };
+        open_all(&mut items, 0, &visited);
+        Ok(Slots {
+            items,
+            phase: 0,
+            undone: count as u32,
+            visited,
+            from: 0,
+            held: 0,
+        })
+    }
+
+    /// Begins the next phase, which visits these slots. They are pending then, and the others done.
+    pub fn turn(&mut self, visited: Vec<u32>)
+        requires room { self.old.phase + 1 < 2 ^ 32 }
+        requires visited { (v : ℕ → Bool) × (visited.items ≡ chosen v 0 (length self.old.slots)) }
+        ensures { (v : ℕ → Bool) → visited.items ≡ chosen v 0 (length self.old.slots) → self.new ≡ record { phase = self.old.phase + 1; slots = due (self.old.phase + 1) v (length self.old.slots) } }
+    {
+        let phase = self.phase + 1;
+        open_all(&mut self.items, phase, &visited);
+        self.phase = phase;
+        self.undone = visited.len() as u32;
+        self.visited = visited;
+        self.from = 0;
+        self.held = 0;
+    }
+
+    pub fn phase(&self) -> u32
+        ensures { result ≡ self.now.phase }
+    {
+        self.phase
     }
 
     pub fn allocator(&self) -> Global {
@@ -249,134 +234,144 @@ impl Slots {
     }
 
     pub fn len(&self) -> usize
-        ensures { result ≡ length self.now }
+        ensures { result ≡ length self.now.slots }
     {
         self.items.len()
     }
 
-    pub fn as_slice(&self) -> &[Slot]
-        ensures { result.now ≡ self.now }
-    {
-        self.items.as_slice()
-    }
-
     /// Claims the first pending slot.
     pub fn claim(&mut self) -> Option<u32>
-        requires { length self.old < 2 ^ 32 }
-        ensures slots { (xs : List Tree) → slots_of xs self.new ≡ at_found claimed (position is_pending (slots_of xs self.old)) (slots_of xs self.old) }
-        ensures found { (xs : List Tree) → position is_pending (slots_of xs self.old) ≡ result }
+        ensures phase { self.new.phase ≡ self.old.phase }
+        ensures changes { changes self.new.slots ≡ changes self.old.slots }
+        ensures slots { (xs : List Tree) → slots_of xs self.new.slots ≡ at_found claimed (position is_pending (slots_of xs self.old.slots)) (slots_of xs self.old.slots) }
+        ensures found { (xs : List Tree) → position is_pending (slots_of xs self.old.slots) ≡ result }
     {
-        match first_pending(&self.items, self.from) {
+        match first_pending(&self.items, self.phase, &self.visited, self.from) {
             None => {
-                self.from = self.items.len();
+                self.from = self.visited.len();
                 None
             }
-            Some(slot) => {
-                let at = &mut self.items[slot];
+            Some(place) => {
+                let slot = self.visited[place];
+                let at = &mut self.items[slot as usize];
+                renew(at, self.phase);
                 claim_slot(at);
-                self.from = slot + 1;
-                Some(slot as u32)
+                self.from = place;
+                self.held = least(self.held, place);
+                Some(slot)
             }
         }
     }
 
     /// One more claim of the first slot that is claimed.
     pub fn repeat(&mut self) -> Option<u32>
-        requires few { length self.old < 2 ^ 32 }
-        requires room { (k : ℕ) (s : _) → position is_claimed_inside self.old ≡ Some k → slice_get self.old k ≡ Some s → s.out + 1 < 2 ^ 32 }
-        ensures slots { (xs : List Tree) → slots_of xs self.new ≡ at_found one_more (position is_claimed (slots_of xs self.old)) (slots_of xs self.old) }
-        ensures found { (xs : List Tree) → position is_claimed (slots_of xs self.old) ≡ result }
+        requires room { (k : ℕ) (s : _) → position is_claimed_inside self.old.slots ≡ Some k → slice_get self.old.slots k ≡ Some s → s.out + 1 < 2 ^ 32 }
+        ensures phase { self.new.phase ≡ self.old.phase }
+        ensures changes { changes self.new.slots ≡ changes self.old.slots }
+        ensures slots { (xs : List Tree) → slots_of xs self.new.slots ≡ at_found one_more (position is_claimed (slots_of xs self.old.slots)) (slots_of xs self.old.slots) }
+        ensures found { (xs : List Tree) → position is_claimed (slots_of xs self.old.slots) ≡ result }
     {
-        match first_claimed(&self.items) {
-            None => None,
-            Some(slot) => {
-                let at = &mut self.items[slot];
+        match first_claimed(&self.items, self.phase, &self.visited, self.held) {
+            None => {
+                self.held = self.visited.len();
+                None
+            }
+            Some(place) => {
+                let slot = self.visited[place];
+                let at = &mut self.items[slot as usize];
+                renew(at, self.phase);
                 repeat_slot(at);
-                Some(slot as u32)
+                self.held = place;
+                Some(slot)
             }
         }
     }
 
-    /// Marks a slot done whose scope stands in the reading, and says whether it was not.
-    pub fn put(&mut self, slot: usize) -> bool
-        requires { slot < length self.old }
-        ensures put { result ≡ true → (xs : List Tree) (y : Tree) → slot < length xs → slots_of (slice_set xs slot y) self.new ≡ at_place (put_in y) slot (slots_of xs self.old) }
-        ensures same { result ≡ false → (xs : List Tree) (y : Tree) → slots_of xs self.new ≡ at_place (put_in y) slot (slots_of xs self.old) }
-        ensures done { (xs : List Tree) → is_done_at slot (slots_of xs self.old) ≡ not result }
+    /// Marks a slot done, with its own scope or another, and says whether it was not.
+    pub fn put(&mut self, slot: u32, changed: bool) -> bool
+        requires { slot < length self.old.slots }
+        ensures phase { self.new.phase ≡ self.old.phase }
+        ensures put { result ≡ true → (xs : List Tree) (y : Tree) → slot < length xs → slots_of (slice_set xs slot y) self.new.slots ≡ at_place (put_in y) slot (slots_of xs self.old.slots) }
+        ensures same { result ≡ false → (xs : List Tree) (y : Tree) → slots_of xs self.new.slots ≡ at_place (put_in y) slot (slots_of xs self.old.slots) }
+        ensures done { (xs : List Tree) → is_done_at slot (slots_of xs self.old.slots) ≡ not result }
+        ensures changed { result ≡ true → changes self.new.slots ≡ slice_set (changes self.old.slots) slot changed }
+        ensures unchanged { result ≡ false → changes self.new.slots ≡ changes self.old.slots }
     {
-        let at = &mut self.items[slot];
-        put_slot(at)
-    }
-
-    /// Marks a slot done, with its scope, and says whether it was not.
-    pub fn hold(&mut self, slot: usize, scope: Scope) -> bool
-        requires { slot < length self.old }
-        ensures put { (xs : List Tree) → slots_of xs self.new ≡ at_place (put_in scope) slot (slots_of xs self.old) }
-        ensures done { (xs : List Tree) → is_done_at slot (slots_of xs self.old) ≡ not result }
-    {
-        let at = &mut self.items[slot];
-        hold_slot(at, scope)
+        let at = &mut self.items[slot as usize];
+        renew(at, self.phase);
+        if put_slot(at, changed) {
+            self.undone -= 1;
+            return true;
+        }
+        false
     }
 
     /// One claim fewer; the slot is pending again if it is not done and no other claim is out.
-    pub fn give_back(&mut self, slot: usize)
-        requires { slot < length self.old }
-        ensures { (xs : List Tree) → slots_of xs self.new ≡ at_place given_back slot (slots_of xs self.old) }
+    pub fn give_back(&mut self, slot: u32)
+        requires { slot < length self.old.slots }
+        ensures phase { self.new.phase ≡ self.old.phase }
+        ensures changes { changes self.new.slots ≡ changes self.old.slots }
+        ensures slots { (xs : List Tree) → slots_of xs self.new.slots ≡ at_place given_back slot (slots_of xs self.old.slots) }
     {
-        let at = &mut self.items[slot];
-        give_back_slot(at);
-        if slot < self.from {
-            self.from = slot;
+        let at = &mut self.items[slot as usize];
+        renew(at, self.phase);
+        if give_back_slot(at) {
+            self.from = least(self.from, place_of(&self.visited, slot));
         }
     }
 
     /// One claim more on a slot.
-    pub fn enter(&mut self, slot: usize)
-        requires slot { slot < length self.old }
-        requires room { (s : _) → slice_get self.old slot ≡ Some s → s.out + 1 < 2 ^ 32 }
-        ensures { (xs : List Tree) → slots_of xs self.new ≡ at_place entered slot (slots_of xs self.old) }
+    pub fn enter(&mut self, slot: u32)
+        requires slot { slot < length self.old.slots }
+        requires room { (s : _) → slice_get self.old.slots slot ≡ Some s → s.out + 1 < 2 ^ 32 }
+        ensures phase { self.new.phase ≡ self.old.phase }
+        ensures changes { changes self.new.slots ≡ changes self.old.slots }
+        ensures slots { (xs : List Tree) → slots_of xs self.new.slots ≡ at_place entered slot (slots_of xs self.old.slots) }
     {
-        let at = &mut self.items[slot];
-        enter_slot(at)
+        let at = &mut self.items[slot as usize];
+        renew(at, self.phase);
+        if enter_slot(at) {
+            self.held = least(self.held, place_of(&self.visited, slot));
+        }
     }
 
     /// Whether a slot is done.
-    pub fn is_done(&self, slot: usize) -> bool
-        requires { slot < length self.now }
-        ensures { (xs : List Tree) → is_done_at slot (slots_of xs self.now) ≡ result }
+    pub fn is_done(&self, slot: u32) -> bool
+        requires { slot < length self.now.slots }
+        ensures { (xs : List Tree) → is_done_at slot (slots_of xs self.now.slots) ≡ result }
     {
-        has_scope(&self.items[slot])
+        !is_unfinished(&self.items[slot as usize], self.phase)
     }
 
     /// How many slots are not done.
     pub fn undone(&self) -> u32
-        requires { length self.now < 2 ^ 32 }
-        ensures { (xs : List Tree) → result ≡ undone (slots_of xs self.now) }
+        ensures { (xs : List Tree) → result ≡ undone (slots_of xs self.now.slots) }
     {
-        undone_of(&self.items)
-    }
-
-    /// How many slots are pending.
-    pub fn pending(&self) -> u32
-        requires { length self.now < 2 ^ 32 }
-        ensures { (xs : List Tree) → result ≡ length (pendings (slots_of xs self.now)) }
-    {
-        pending_count(&self.items)
-    }
-
-    /// The k-th pending slot.
-    pub fn pending_slot(&self, k: u32) -> Option<u32>
-        requires { length self.now < 2 ^ 32 }
-        ensures { (xs : List Tree) → slice_get (pendings (slots_of xs self.now)) k ≡ result }
-    {
-        pending_at(&self.items, k)
+        self.undone
     }
 
     /// The pending slots, in ascending order.
     pub fn pending_slots(&self) -> Result<Vec<u32>, AllocError>
-        requires { length self.now < 2 ^ 32 }
-        ensures { (xs : List Tree) → IfOk result (λ v. v.items ≡ pendings (slots_of xs self.now)) }
+        ensures { IfOk result (λ v. (xs : List Tree) → v.items ≡ pendings (slots_of xs self.now.slots)) }
     {
-        pending_of(*self.items.allocator(), &self.items)
+        pending_of(
+            *self.items.allocator(),
+            &self.items,
+            self.phase,
+            &self.visited,
+            self.from,
+        )
+    }
+
+    /// The slots for which another scope was made, in ascending order.
+    pub fn changed_slots(&self) -> Result<Vec<u32>, AllocError>
+        ensures { IfOk result (λ v. v.items ≡ places (λ b. b) 0 (changes self.now.slots)) }
+    {
+        changed_of(
+            *self.items.allocator(),
+            &self.items,
+            self.phase,
+            &self.visited,
+        )
     }
 }

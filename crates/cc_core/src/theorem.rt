@@ -1,12 +1,12 @@
 // What holds after every list of events.
-ghost use Rattle.std.specs.Prelude.{◌≡◌, ℕ, ◌<◌, ◌^◌, List, Some, length, slice_get};
-ghost use Rattle.cc_ast.specs.Syntax.{Program};
+ghost use Rattle.std.specs.Prelude.{◌≡◌, ℕ, ◌+◌, ◌<◌, ◌^◌, List, Some, length, slice_get, true, false};
+ghost use Rattle.cc_ast.specs.Syntax.{Program, Scope};
 ghost use Rattle.cc_meaning.specs.Same.{Same};
 ghost use Rattle.cc_meaning.specs.WellMade.{WellMade};
-ghost use Rattle.cc_core.specs.Work.{Lawful, VisitsAll, after_phases};
-ghost use Rattle.cc_core.specs.State.{State, started, reading, undone, pendings};
+ghost use Rattle.cc_core.specs.Work.{Lawful, rewrites, mixed, phase, after_phases, visited};
+ghost use Rattle.cc_core.specs.State.{State, started, reading, undone, pendings, chosen};
 ghost use Rattle.cc_core.specs.Drawn.{after_claims};
-ghost use Rattle.cc_core.specs.Events.{Event, Claims, Closes, event, after_enter, Leads, StoresRewrites, ends, IsOneWorkers};
+ghost use Rattle.cc_core.specs.Events.{Event, Claims, Enters, Closes, event, follows, Leads, StoresRewrites, ends, IsOneWorkers, Bounded};
 
 use crate::rules::Rules;
 
@@ -23,11 +23,26 @@ pub fn every_run<R: Rules>(rules: &R)
 
 /// Where claims alone are made, the claim after k of them is that of the k-th slot that was pending.
 pub fn drawn<R: Rules>(rules: &R)
-    ensures { (s : State) (k slot : ℕ) → slice_get (pendings s.slots) k ≡ Some slot → event (R.work rules.now) (after_claims k s) Claims ≡ after_enter slot (after_claims k s) }
+    ensures { (s : State) (k slot : ℕ) → slice_get (pendings s.slots) k ≡ Some slot → event (R.work rules.now) (after_claims k s) Claims ≡ event (R.work rules.now) (after_claims k s) (Enters slot) }
+{}
+
+/// A scope that a phase doesn't visit is its own rewrite, so the phase over the visited scopes is the
+/// phase over all. After a close at which a phase follows the pending slots are exactly those that it
+/// visits; where none follows all are pending.
+pub fn changed_scopes<R: Rules>(rules: &R)
+    ensures skips { (source : Program) → (R.work rules.now).fits 0 source → (n slot : ℕ) (x : Scope) → slice_get (after_phases (R.work rules.now) source n).1.scopes slot ≡ Some x → visited (R.work rules.now) source n slot ≡ false → rewrites (R.work rules.now) (after_phases (R.work rules.now) source n).0 (after_phases (R.work rules.now) source n).1 slot x ≡ Some x }
+    ensures step { (source : Program) → (R.work rules.now).fits 0 source → (n : ℕ) → mixed (rewrites (R.work rules.now) (after_phases (R.work rules.now) source n).0 (after_phases (R.work rules.now) source n).1) (visited (R.work rules.now) source n) (after_phases (R.work rules.now) source n).1.scopes ≡ mixed (rewrites (R.work rules.now) (after_phases (R.work rules.now) source n).0 (after_phases (R.work rules.now) source n).1) (λ _. true) (after_phases (R.work rules.now) source n).1.scopes }
+    ensures visited { (s : State) → undone s.slots ≡ 0 → follows (R.work rules.now) s ≡ true → pendings (event (R.work rules.now) s Closes).slots ≡ chosen (visited (R.work rules.now) s.source (s.closed + 1)) 0 (length (phase (R.work rules.now) s.step s.base).scopes) }
+    ensures all { (s : State) → undone s.slots ≡ 0 → follows (R.work rules.now) s ≡ false → pendings (event (R.work rules.now) s Closes).slots ≡ chosen (λ _. true) 0 (length (phase (R.work rules.now) s.step s.base).scopes) }
+{}
+
+/// The program that one worker makes is one, and where the phases have a bound there is one.
+pub fn one_worker<R: Rules>(rules: &R)
+    ensures one { (source t u : Program) → IsOneWorkers (R.work rules.now) source t → IsOneWorkers (R.work rules.now) source u → t ≡ u }
+    ensures exists { Bounded (R.work rules.now) → (source : Program) → (R.work rules.now).fits 0 source → (t : Program) × IsOneWorkers (R.work rules.now) source t }
 {}
 
 /// The law, for a proof to call.
 pub fn law<R: Rules>(rules: &R)
-    ensures lawful { Lawful (R.work rules.now) }
-    ensures visits_all { VisitsAll (R.work rules.now) }
+    ensures { Lawful (R.work rules.now) }
 {}

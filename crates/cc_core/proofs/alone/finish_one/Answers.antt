@@ -1,4 +1,5 @@
 use Rattle.cc_core.specs.Work.{rewrites}
+use Rattle.cc_core.specs.Makes.{made_at}
 use Rattle.cc_core.proofs.AloneLemmas.{worked_both, worked_none, claimed_within}
 use Rattle.cc_core.proofs.alone.finish_one.Goals as goal
 
@@ -19,4 +20,4 @@ returns-in-None-clause-worked g c =
 pub returns-in-Ok-clause-worked : goal.returns-in-Ok-clause-worked
 returns-in-Ok-clause-worked g c =
     let s = c.args.shop.now.state in
-    rw (c.put.ensures.event, c.claim.ensures.event) (worked_both s c.in-Some.claim.phase c.in-Some.claim.slot c.in-Ok.scope c.requires c.in-Some.ensures.some.1 c.in-Some.ensures.some.0)
+    rw (c.put.ensures.event, c.claim.ensures.event) (worked_both s c.in-Some.claim.phase c.in-Some.claim.slot (made_at s.base c.in-Some.claim.slot c.in-Ok.made) c.requires c.in-Some.ensures.some.1 c.in-Some.ensures.some.0)

@@ -5,9 +5,9 @@ use Rattle.cc_core.proofs.shop.Shop.is_done.Goals as goal
 
 pub is_done-requires : goal.is_done-requires
 is_done-requires g c =
-    let h : c.args.slot < length (slots_of c.self.inside.laid.reading.scopes c.self.inside.laid.slots) = rw (← c.self.view_is) at c.requires in
+    let h : c.args.slot < length (slots_of c.self.inside.made.scopes c.self.inside.slots.slots) = rw (← c.self.view_is) at c.requires in
     subst (λ (n : ℕ). c.args.slot < n) (length_slots_of _ _) h
 
 pub returns : goal.returns
 returns g c =
-    rw (← c.self.view_is) (sym (c.is_done.ensures c.self.inside.laid.reading.scopes))
+    rw (← c.self.view_is) (sym (c.is_done.ensures c.self.inside.made.scopes))

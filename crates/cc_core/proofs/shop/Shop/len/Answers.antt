@@ -4,4 +4,4 @@ use Rattle.cc_core.proofs.shop.Shop.len.Goals as goal
 
 pub returns : goal.returns
 returns g c =
-    rw (← c.self.view_is) (c.len.ensures ∙ sym (length_slots_of c.self.inside.laid.reading.scopes c.self.inside.laid.slots))
+    rw (← c.self.view_is) (c.len.ensures ∙ sym (length_slots_of c.self.inside.made.scopes c.self.inside.slots.slots))

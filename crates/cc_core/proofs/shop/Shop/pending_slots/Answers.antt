@@ -1,15 +1,6 @@
-use Rattle.std.proofs.Common.{ℕ, ◌<◌, ◌^◌, subst}
-use Rattle.cc_core.specs.Work.{Lawful}
-use Rattle.cc_core.proofs.SlotLemmas.{length_slots_of}
-use Rattle.cc_core.proofs.ShopLemmas.{few_slots}
+use Rattle.cc_core.proofs.Arranging.{if_ok}
 use Rattle.cc_core.proofs.shop.Shop.pending_slots.Goals as goal
-
-pub pending_slots-requires : goal.pending_slots-requires
-pending_slots-requires g c =
-    let W = g.R.Rules.work c.self.inside.rules.value in
-    let law : Lawful W = (g.met.R.Rules g.world.𝓛 g.world.𝓜 g.world.𝓡 ((λ s x. x), (λ x. x), (λ x. x), λ x. x)).lawful c.self.inside.rules.value in
-    subst (λ (n : ℕ). n < 2 ^ 32) (length_slots_of _ _) (few_slots W law _ _ _ c.self.invariant)
 
 pub returns : goal.returns
 returns g c =
-    rw (← c.self.view_is) (c.pending_slots.ensures c.self.inside.laid.reading.scopes)
+    rw (← c.self.view_is) (if_ok c.pending_slots.result _ _ (λ v h. h c.self.inside.made.scopes) c.pending_slots.ensures)

@@ -1,56 +1,87 @@
-use Rattle.std.proofs.Common.{◌≡◌, ℕ, ◌<◌, length, sym, subst, true, false, not, ap, ◌∙◌}
+use Rattle.std.proofs.Common.{◌≡◌, ℕ, ◌<◌, length, sym, subst, true, false, not, ap, ◌∙◌, cond}
 use Rattle.cc_core.specs.Work.{Lawful}
+use Rattle.cc_core.specs.Makes.{made_at}
 use Rattle.cc_core.specs.SlotState.{slots_of}
 use Rattle.cc_core.specs.ShopState.{state_of}
+use Rattle.cc_core.specs.declared.made.Made.TheVariants.{Same, Other}
 use Rattle.cc_core.proofs.SlotLemmas.{length_slots_of}
-use Rattle.cc_core.proofs.ShopLemmas.{stands_put_new, stands_put_old, stands_held, in_shown, shown_put}
+use Rattle.cc_core.proofs.ShopLemmas.{stands_other, stands_late, in_made, shown_put, same_put, may_put, may_other, tells_other, other_slots}
 use Rattle.cc_core.proofs.shop.Shop.put.Goals as goal
 
 pub put-requires : goal.put-requires
 put-requires g c =
-    let h : c.args.claim.slot < length (slots_of c.self.inside.laid.reading.scopes c.self.inside.laid.slots) = rw (← c.self.view_is) at c.requires.slot in
-    subst (λ (n : ℕ). c.args.claim.slot < n) (length_slots_of _ _) h
+    let h0 : c.args.claim.slot < length (slots_of c.self.inside.made.scopes c.self.inside.slots.slots) = rw (← c.self.view_is) at c.requires.slot in
+    let h = subst (λ (n : ℕ). c.args.claim.slot < n) (length_slots_of c.self.inside.made.scopes c.self.inside.slots.slots) h0 in
+    h
 
-pub hold-requires : goal.hold-requires
-hold-requires g c =
-    let h : c.args.claim.slot < length (slots_of c.self.inside.laid.reading.scopes c.self.inside.laid.slots) = rw (← c.self.view_is) at c.requires.slot in
-    subst (λ (n : ℕ). c.args.claim.slot < n) (length_slots_of _ _) h
+pub put-requires-in-Other : goal.put-requires-in-Other
+put-requires-in-Other g c =
+    let h0 : c.args.claim.slot < length (slots_of c.self.inside.made.scopes c.self.inside.slots.slots) = rw (← c.self.view_is) at c.requires.slot in
+    let h = subst (λ (n : ℕ). c.args.claim.slot < n) (length_slots_of c.self.inside.made.scopes c.self.inside.slots.slots) h0 in
+    h
 
 pub set_scope-requires : goal.set_scope-requires
 set_scope-requires g c =
     let W = g.R.Rules.work c.self.inside.rules.value in
     let law : Lawful W = (g.met.R.Rules g.world.𝓛 g.world.𝓜 g.world.𝓡 ((λ s x. x), (λ x. x), (λ x. x), λ x. x)).lawful c.self.inside.rules.value in
-    let h : c.args.claim.slot < length (slots_of c.self.inside.laid.reading.scopes c.self.inside.laid.slots) = rw (← c.self.view_is) at c.requires.slot in
-    in_shown W law _ _ _ c.self.invariant _ h
+    let h0 : c.args.claim.slot < length (slots_of c.self.inside.made.scopes c.self.inside.slots.slots) = rw (← c.self.view_is) at c.requires.slot in
+    let h = subst (λ (n : ℕ). c.args.claim.slot < n) (length_slots_of c.self.inside.made.scopes c.self.inside.slots.slots) h0 in
+    in_made W law _ _ _ _ _ _ _ _ _ c.self.invariant _ h
 
 pub invariant_of-self : goal.invariant_of-self
 invariant_of-self g c =
+    let now : c.args.claim.phase ≡ c.self.inside.slots.phase = c.if-phase.false ∙ c.phase.ensures in
     let W = g.R.Rules.work c.self.inside.rules.value in
     let law : Lawful W = (g.met.R.Rules g.world.𝓛 g.world.𝓜 g.world.𝓡 ((λ s x. x), (λ x. x), (λ x. x), λ x. x)).lawful c.self.inside.rules.value in
-    let h : c.args.claim.slot < length (slots_of c.self.inside.laid.reading.scopes c.self.inside.laid.slots) = rw (← c.self.view_is) at c.requires.slot in
-    let may = rw (← c.self.view_is) at c.requires.rewrite in
-    let local : W.local c.self.inside.step ≡ true = ap (λ r. (g.R.Rules.work r).local c.self.inside.step) (sym c.deref.ensures) ∙ (sym c.local.ensures ∙ c.if-local.true) in
-    rw c.set_scope.ensures (stands_put_new W law _ _ _ c.self.invariant c.args.claim.slot c.args.scope _ local h (c.put.ensures.done _ ∙ ap not c.if-put.true) (λ e. may c.if-phase-self.false) (c.put.ensures.put c.if-put.true _ c.args.scope (in_shown W law _ _ _ c.self.invariant _ h)))
+    let h0 : c.args.claim.slot < length (slots_of c.self.inside.made.scopes c.self.inside.slots.slots) = rw (← c.self.view_is) at c.requires.slot in
+    let h = subst (λ (n : ℕ). c.args.claim.slot < n) (length_slots_of c.self.inside.made.scopes c.self.inside.slots.slots) h0 in
+    let made = rw (← c.self.view_is, c.in-Same.is) at c.requires.made in
+    let both = same_put W law _ _ _ _ _ _ _ _ _ c.self.invariant c.args.claim.phase c.args.claim.slot _ c.put.result h (c.put.ensures.done _) c.put.ensures.put c.put.ensures.same c.put.ensures.changed c.put.ensures.unchanged in
+    rw c.put.ensures.phase (stands_late W law _ _ _ _ _ _ _ _ _ c.self.invariant c.args.claim.slot _ _ (may_put W law _ _ _ _ _ _ _ _ _ c.self.invariant c.args.claim.phase c.args.claim.slot Same now made) both.0 both.1)
 
-pub invariant_of-self-else-put : goal.invariant_of-self-else-put
-invariant_of-self-else-put g c =
+pub invariant_of-self-then-put-2 : goal.invariant_of-self-then-put-2
+invariant_of-self-then-put-2 g c =
+    let now : c.args.claim.phase ≡ c.self.inside.slots.phase = c.if-phase.false ∙ c.phase.ensures in
     let W = g.R.Rules.work c.self.inside.rules.value in
     let law : Lawful W = (g.met.R.Rules g.world.𝓛 g.world.𝓜 g.world.𝓡 ((λ s x. x), (λ x. x), (λ x. x), λ x. x)).lawful c.self.inside.rules.value in
-    let may = rw (← c.self.view_is) at c.requires.rewrite in
-    stands_put_old W law _ _ _ c.self.invariant c.args.claim.slot c.args.scope _ (c.put.ensures.done _ ∙ ap not c.if-put.false) (λ e. may c.if-phase-self.false) (c.put.ensures.same c.if-put.false _ c.args.scope)
+    let h0 : c.args.claim.slot < length (slots_of c.self.inside.made.scopes c.self.inside.slots.slots) = rw (← c.self.view_is) at c.requires.slot in
+    let h = subst (λ (n : ℕ). c.args.claim.slot < n) (length_slots_of c.self.inside.made.scopes c.self.inside.slots.slots) h0 in
+    let made = rw (← c.self.view_is, c.in-Other.is) at c.requires.made in
+    rw (c.put-in-Other.ensures.phase, c.set_scope.ensures) (stands_other W law _ _ _ _ _ _ _ _ _ c.self.invariant c.args.claim.slot c.in-Other.scope _
+    (may_other W law _ _ _ _ _ _ _ _ _ c.self.invariant c.args.claim.phase c.args.claim.slot c.in-Other.scope now made)
+    (tells_other W law _ _ _ _ _ _ _ _ _ c.self.invariant c.args.claim.phase c.args.claim.slot c.in-Other.scope now made)
+    (c.put-in-Other.ensures.changed c.if-put-2.true)
+    (c.put-in-Other.ensures.put c.if-put-2.true _ c.in-Other.scope (in_made W law _ _ _ _ _ _ _ _ _ c.self.invariant _ h)))
 
-pub invariant_of-self-else-local : goal.invariant_of-self-else-local
-invariant_of-self-else-local g c =
+pub invariant_of-self-else-put-2 : goal.invariant_of-self-else-put-2
+invariant_of-self-else-put-2 g c =
+    let now : c.args.claim.phase ≡ c.self.inside.slots.phase = c.if-phase.false ∙ c.phase.ensures in
     let W = g.R.Rules.work c.self.inside.rules.value in
     let law : Lawful W = (g.met.R.Rules g.world.𝓛 g.world.𝓜 g.world.𝓡 ((λ s x. x), (λ x. x), (λ x. x), λ x. x)).lawful c.self.inside.rules.value in
-    let may = rw (← c.self.view_is) at c.requires.rewrite in
-    let whole : W.local c.self.inside.step ≡ false = ap (λ r. (g.R.Rules.work r).local c.self.inside.step) (sym c.deref.ensures) ∙ (sym c.local.ensures ∙ c.if-local.false) in
-    stands_held W law _ _ _ c.self.invariant c.args.claim.slot c.args.scope _ whole (λ e. may c.if-phase-self.false) (c.hold.ensures.put _)
+    let made = rw (← c.self.view_is, c.in-Other.is) at c.requires.made in
+    rw c.put-in-Other.ensures.phase (stands_late W law _ _ _ _ _ _ _ _ _ c.self.invariant c.args.claim.slot c.in-Other.scope _
+    (may_other W law _ _ _ _ _ _ _ _ _ c.self.invariant c.args.claim.phase c.args.claim.slot c.in-Other.scope now made)
+    (c.put-in-Other.ensures.unchanged c.if-put-2.false)
+    (c.put-in-Other.ensures.same c.if-put-2.false _ c.in-Other.scope))
 
-pub returns-then-put-clause-event : goal.returns-then-put-clause-event
-returns-then-put-clause-event g c =
+pub returns-after-put-clause-event : goal.returns-after-put-clause-event
+returns-after-put-clause-event g c =
+    let now : c.args.claim.phase ≡ c.self.inside.slots.phase = c.if-phase.false ∙ c.phase.ensures in
     let W = g.R.Rules.work c.self.inside.rules.value in
     let law : Lawful W = (g.met.R.Rules g.world.𝓛 g.world.𝓜 g.world.𝓡 ((λ s x. x), (λ x. x), (λ x. x), λ x. x)).lawful c.self.inside.rules.value in
-    let h : c.args.claim.slot < length (slots_of c.self.inside.laid.reading.scopes c.self.inside.laid.slots) = rw (← c.self.view_is) at c.requires.slot in
-    let e = c.put.ensures.put c.if-put.true c.self.inside.laid.reading.scopes c.args.scope (in_shown W law _ _ _ c.self.invariant _ h) in
-    rw (← c.self.view_is, c.set_scope.ensures) (shown_put c.self.inside.rules.value (state_of c.self.inside.source.value c.self.inside.closed c.self.inside.step c.self.inside.laid.base.value c.self.inside.laid.reading c.self.inside.laid.slots) c.args.claim.phase c.args.claim.slot c.args.scope _ c.if-phase-self.false e)
+    let h0 : c.args.claim.slot < length (slots_of c.self.inside.made.scopes c.self.inside.slots.slots) = rw (← c.self.view_is) at c.requires.slot in
+    let h = subst (λ (n : ℕ). c.args.claim.slot < n) (length_slots_of c.self.inside.made.scopes c.self.inside.slots.slots) h0 in
+    let both = same_put W law _ _ _ _ _ _ _ _ _ c.self.invariant c.args.claim.phase c.args.claim.slot _ c.put.result h (c.put.ensures.done _) c.put.ensures.put c.put.ensures.same c.put.ensures.changed c.put.ensures.unchanged in
+    let s = state_of c.self.inside.source c.self.inside.slots.phase c.self.inside.step c.self.inside.base c.self.inside.made c.self.inside.slots.slots in
+    rw (← c.self.view_is, c.put.ensures.phase, c.in-Same.is) (shown_put c.self.inside.rules.value s c.args.claim.phase c.args.claim.slot (made_at c.self.inside.base c.args.claim.slot Same) _ now both.1)
+
+pub returns-then-put-2-clause-event : goal.returns-then-put-2-clause-event
+returns-then-put-2-clause-event g c =
+    let now : c.args.claim.phase ≡ c.self.inside.slots.phase = c.if-phase.false ∙ c.phase.ensures in
+    let W = g.R.Rules.work c.self.inside.rules.value in
+    let law : Lawful W = (g.met.R.Rules g.world.𝓛 g.world.𝓜 g.world.𝓡 ((λ s x. x), (λ x. x), (λ x. x), λ x. x)).lawful c.self.inside.rules.value in
+    let h0 : c.args.claim.slot < length (slots_of c.self.inside.made.scopes c.self.inside.slots.slots) = rw (← c.self.view_is) at c.requires.slot in
+    let h = subst (λ (n : ℕ). c.args.claim.slot < n) (length_slots_of c.self.inside.made.scopes c.self.inside.slots.slots) h0 in
+    let s = state_of c.self.inside.source c.self.inside.slots.phase c.self.inside.step c.self.inside.base c.self.inside.made c.self.inside.slots.slots in
+    let is = c.put-in-Other.ensures.put c.if-put-2.true c.self.inside.made.scopes c.in-Other.scope (in_made W law _ _ _ _ _ _ _ _ _ c.self.invariant _ h) in
+    rw (← c.self.view_is, c.put-in-Other.ensures.phase, c.set_scope.ensures, c.in-Other.is) (shown_put c.self.inside.rules.value s c.args.claim.phase c.args.claim.slot (made_at c.self.inside.base c.args.claim.slot (Other c.in-Other.scope)) _ now (other_slots c.self.inside.base c.args.claim.slot c.in-Other.scope _ _ is))

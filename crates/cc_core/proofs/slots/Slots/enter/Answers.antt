@@ -1,16 +1,136 @@
-use Rattle.cc_core.specs.Events.{entered}
-use Rattle.cc_core.specs.SlotState.{is_pending_inside}
-use Rattle.cc_core.proofs.SlotLemmas.{slots_of_changed, get_here}
-use Rattle.cc_core.proofs.Cursor.{none_set}
+use Rattle.std.proofs.Common.{ℕ, ◌≡◌, ◌+◌, ◌-◌, ◌<◌, List, Some, None, true, false, length, position, cond, slice_get, slice_set, slice_index_or, leb, refl, sym, ap, ◌∙◌, subst, arith}
+use Rattle.cc_ast.specs.Syntax.{Scope}
+use Rattle.cc_core.specs.State.{is_pending, is_claimed, places, chosen}
+use Rattle.cc_core.specs.Events.{at_found, at_place, claimed, one_more, put_in, given_back, entered}
+use Rattle.cc_core.specs.SlotState.{NoneBefore, Arranged, all_seen, seen, test_at, slot_of, slots_of, due, all_idle, open_at, is_pending_inside, is_claimed_inside, is_open_inside, is_changed_inside, is_listed, changes}
+use Rattle.cc_core.proofs.Cursor.{none_less}
+use Rattle.cc_core.proofs.Listed.{pending_within, claimed_within, changed_within, places_picked, test_get}
+use Rattle.cc_core.proofs.SlotLemmas.{found_pending, found_claimed, done_at_place, undone_counted, slots_of_put_at, places_pending}
+use Rattle.cc_core.proofs.Arranging.{below_visited, below_chosen, rising_visited, found_by, found_nowhere, met_here, never, open_of_pending, open_counts, get, written, slots_written, changes_written, changes_put, none_stays, none_set_later, arranged_set, arranged_due, due_is, idle_next, later_more, later_idle, seen_idle, length_seen, length_idle, length_chosen, counted_all, stamp_of, seen_set}
 use Rattle.cc_core.proofs.slots.Slots.enter.Goals as goal
+
+pub index_mut-at-requires : goal.index_mut-at-requires
+index_mut-at-requires c =
+    let ph = c.self.inside.phase in
+    let ss = c.self.inside.items.items in
+    let ks = c.self.inside.visited.items in
+    let fr = c.self.inside.from in
+    let he = c.self.inside.held in
+    let un = c.self.inside.undone in
+    let a = c.self.invariant in
+    let lt0 = rw (← c.self.view_is) at c.requires.slot in
+    let lt : c.args.slot < length ss = (let n = length_seen ph ss in omega (arith, lt0, n)) in
+    omega (arith, lt, c.self.inside.items.ok.0)
 
 pub enter_slot-requires : goal.enter_slot-requires
 enter_slot-requires c =
+    let ph = c.self.inside.phase in
+    let ss = c.self.inside.items.items in
+    let ks = c.self.inside.visited.items in
+    let fr = c.self.inside.from in
+    let he = c.self.inside.held in
+    let un = c.self.inside.undone in
+    let a = c.self.invariant in
+    let lt0 = rw (← c.self.view_is) at c.requires.slot in
+    let lt : c.args.slot < length ss = (let n = length_seen ph ss in omega (arith, lt0, n)) in
     let room = rw (← c.self.view_is) at c.requires.room in
-    room _ (get_here c.self.inside.items.items c.args.slot c.index_mut-at.result.now (rw (← c.self.view_is) at c.requires.slot) c.index_mut-at.ensures.value)
+    room c.renew.new.at (get ph ss ks fr he un a c.args.slot c.index_mut-at.result.now c.renew.new.at c.renew.new.at lt c.index_mut-at.ensures.value c.renew.ensures)
+
+pub place_of-requires : goal.place_of-requires
+place_of-requires c =
+    let ph = c.self.inside.phase in
+    let ss = c.self.inside.items.items in
+    let ks = c.self.inside.visited.items in
+    let fr = c.self.inside.from in
+    let he = c.self.inside.held in
+    let un = c.self.inside.undone in
+    let a = c.self.invariant in
+    rw c.deref.ensures.value (rising_visited ph ss ks fr he un a)
 
 pub invariant_of-self : goal.invariant_of-self
-invariant_of-self c = none_set is_pending_inside c.self.inside.from c.self.inside.items.items c.args.slot c.enter_slot.new.at c.enter_slot.ensures.taken c.self.invariant
+invariant_of-self c =
+    let ph = c.self.inside.phase in
+    let ss = c.self.inside.items.items in
+    let ks = c.self.inside.visited.items in
+    let fr = c.self.inside.from in
+    let he = c.self.inside.held in
+    let un = c.self.inside.undone in
+    let a = c.self.invariant in
+    let lt0 = rw (← c.self.view_is) at c.requires.slot in
+    let lt : c.args.slot < length ss = (let n = length_seen ph ss in omega (arith, lt0, n)) in
+    let least = c.least-self-inside.ensures in
+    let lesser = subst (λ (ns : List ℕ). NoneBefore (leb c.args.slot) c.place_of.result ns) c.deref.ensures.value c.place_of.ensures.before in
+    arranged_set ph ss ks fr he un a c.args.slot c.index_mut-at.result.now c.renew.new.at c.enter_slot.new.at lt c.index_mut-at.ensures.value c.renew.ensures c.enter_slot.ensures.stamp c.enter_slot.ensures.listed fr c.least-self-inside.result un
+    (none_stays ph ss ks fr he un a c.args.slot c.index_mut-at.result.now c.renew.new.at c.enter_slot.new.at lt c.index_mut-at.ensures.value c.renew.ensures c.enter_slot.ensures.stamp c.enter_slot.ensures.listed is_pending_inside fr (never is_pending_inside c.enter_slot.new.at c.renew.new.at c.enter_slot.ensures.taken) a.pending)
+    (none_set_later ph ss ks fr he un a c.args.slot c.index_mut-at.result.now c.renew.new.at c.enter_slot.new.at lt c.index_mut-at.ensures.value c.renew.ensures c.enter_slot.ensures.stamp c.enter_slot.ensures.listed is_claimed_inside c.least-self-inside.result
+    (none_less (leb c.args.slot) c.place_of.result c.least-self-inside.result ks least.1 lesser)
+    (none_less (test_at is_claimed_inside (all_seen ph ss)) he c.least-self-inside.result ks least.0 a.claimed))
+    (ap (λ b. un + cond b 1 0) (sym c.enter_slot.ensures.«open»))
 
-pub returns : goal.returns
-returns c xs = rw (← c.self.view_is) (slots_of_changed entered xs c.self.inside.items.items c.args.slot c.enter_slot.new.at c.index_mut-at.result.now (rw (← c.self.view_is) at c.requires.slot) c.index_mut-at.ensures.value c.enter_slot.ensures.slot)
+pub invariant_of-self-else-enter_slot : goal.invariant_of-self-else-enter_slot
+invariant_of-self-else-enter_slot c =
+    let ph = c.self.inside.phase in
+    let ss = c.self.inside.items.items in
+    let ks = c.self.inside.visited.items in
+    let fr = c.self.inside.from in
+    let he = c.self.inside.held in
+    let un = c.self.inside.undone in
+    let a = c.self.invariant in
+    let lt0 = rw (← c.self.view_is) at c.requires.slot in
+    let lt : c.args.slot < length ss = (let n = length_seen ph ss in omega (arith, lt0, n)) in
+    arranged_set ph ss ks fr he un a c.args.slot c.index_mut-at.result.now c.renew.new.at c.enter_slot.new.at lt c.index_mut-at.ensures.value c.renew.ensures c.enter_slot.ensures.stamp c.enter_slot.ensures.listed fr he un
+    (none_stays ph ss ks fr he un a c.args.slot c.index_mut-at.result.now c.renew.new.at c.enter_slot.new.at lt c.index_mut-at.ensures.value c.renew.ensures c.enter_slot.ensures.stamp c.enter_slot.ensures.listed is_pending_inside fr (never is_pending_inside c.enter_slot.new.at c.renew.new.at c.enter_slot.ensures.taken) a.pending)
+    (none_stays ph ss ks fr he un a c.args.slot c.index_mut-at.result.now c.renew.new.at c.enter_slot.new.at lt c.index_mut-at.ensures.value c.renew.ensures c.enter_slot.ensures.stamp c.enter_slot.ensures.listed is_claimed_inside he (c.enter_slot.ensures.not_taken c.if-enter_slot.false) a.claimed)
+    (ap (λ b. un + cond b 1 0) (sym c.enter_slot.ensures.«open»))
+
+pub returns-then-enter_slot-clause-changes : goal.returns-then-enter_slot-clause-changes
+returns-then-enter_slot-clause-changes c =
+    let ph = c.self.inside.phase in
+    let ss = c.self.inside.items.items in
+    let ks = c.self.inside.visited.items in
+    let fr = c.self.inside.from in
+    let he = c.self.inside.held in
+    let un = c.self.inside.undone in
+    let a = c.self.invariant in
+    let lt0 = rw (← c.self.view_is) at c.requires.slot in
+    let lt : c.args.slot < length ss = (let n = length_seen ph ss in omega (arith, lt0, n)) in
+    rw (← c.self.view_is) (changes_written ph ss ks fr he un a c.args.slot c.index_mut-at.result.now c.renew.new.at c.enter_slot.new.at lt c.index_mut-at.ensures.value c.renew.ensures c.enter_slot.ensures.stamp c.enter_slot.ensures.listed c.enter_slot.ensures.changed)
+
+pub returns-then-enter_slot-clause-slots : goal.returns-then-enter_slot-clause-slots
+returns-then-enter_slot-clause-slots c =
+    let ph = c.self.inside.phase in
+    let ss = c.self.inside.items.items in
+    let ks = c.self.inside.visited.items in
+    let fr = c.self.inside.from in
+    let he = c.self.inside.held in
+    let un = c.self.inside.undone in
+    let a = c.self.invariant in
+    let lt0 = rw (← c.self.view_is) at c.requires.slot in
+    let lt : c.args.slot < length ss = (let n = length_seen ph ss in omega (arith, lt0, n)) in
+    rw (← c.self.view_is) (λ xs. slots_written ph ss ks fr he un a c.args.slot c.index_mut-at.result.now c.renew.new.at c.enter_slot.new.at lt c.index_mut-at.ensures.value c.renew.ensures c.enter_slot.ensures.stamp c.enter_slot.ensures.listed entered c.enter_slot.ensures.slot xs)
+
+pub returns-else-enter_slot-clause-changes : goal.returns-else-enter_slot-clause-changes
+returns-else-enter_slot-clause-changes c =
+    let ph = c.self.inside.phase in
+    let ss = c.self.inside.items.items in
+    let ks = c.self.inside.visited.items in
+    let fr = c.self.inside.from in
+    let he = c.self.inside.held in
+    let un = c.self.inside.undone in
+    let a = c.self.invariant in
+    let lt0 = rw (← c.self.view_is) at c.requires.slot in
+    let lt : c.args.slot < length ss = (let n = length_seen ph ss in omega (arith, lt0, n)) in
+    rw (← c.self.view_is) (changes_written ph ss ks fr he un a c.args.slot c.index_mut-at.result.now c.renew.new.at c.enter_slot.new.at lt c.index_mut-at.ensures.value c.renew.ensures c.enter_slot.ensures.stamp c.enter_slot.ensures.listed c.enter_slot.ensures.changed)
+
+pub returns-else-enter_slot-clause-slots : goal.returns-else-enter_slot-clause-slots
+returns-else-enter_slot-clause-slots c =
+    let ph = c.self.inside.phase in
+    let ss = c.self.inside.items.items in
+    let ks = c.self.inside.visited.items in
+    let fr = c.self.inside.from in
+    let he = c.self.inside.held in
+    let un = c.self.inside.undone in
+    let a = c.self.invariant in
+    let lt0 = rw (← c.self.view_is) at c.requires.slot in
+    let lt : c.args.slot < length ss = (let n = length_seen ph ss in omega (arith, lt0, n)) in
+    rw (← c.self.view_is) (λ xs. slots_written ph ss ks fr he un a c.args.slot c.index_mut-at.result.now c.renew.new.at c.enter_slot.new.at lt c.index_mut-at.ensures.value c.renew.ensures c.enter_slot.ensures.stamp c.enter_slot.ensures.listed entered c.enter_slot.ensures.slot xs)

@@ -1,37 +1,156 @@
-use Rattle.std.proofs.Common.{position, sym, ap, ◌∙◌}
-use Rattle.cc_core.specs.Events.{at_found, one_more}
-use Rattle.cc_core.specs.SlotState.{slots_of, is_pending_inside, is_claimed_inside}
-use Rattle.cc_core.proofs.SlotLemmas.{slots_of_found, found_here, found_claimed, position_within, get_here}
-use Rattle.cc_core.proofs.Cursor.{none_set}
+use Rattle.std.proofs.Common.{ℕ, ◌≡◌, ◌+◌, ◌-◌, ◌<◌, List, Some, None, true, false, length, position, cond, slice_get, slice_set, slice_index_or, refl, sym, ap, ◌∙◌, subst, arith}
+use Rattle.cc_ast.specs.Syntax.{Scope}
+use Rattle.cc_core.specs.State.{is_pending, is_claimed, places, chosen}
+use Rattle.cc_core.specs.Events.{at_found, at_place, claimed, one_more, put_in, given_back, entered}
+use Rattle.cc_core.specs.SlotState.{NoneBefore, Arranged, all_seen, seen, test_at, slot_of, slots_of, due, all_idle, open_at, is_pending_inside, is_claimed_inside, is_open_inside, is_changed_inside, is_listed, changes}
+use Rattle.cc_core.proofs.Cursor.{none_less}
+use Rattle.cc_core.proofs.Listed.{pending_within, claimed_within, changed_within, places_picked, test_get}
+use Rattle.cc_core.proofs.SlotLemmas.{found_pending, found_claimed, done_at_place, undone_counted, slots_of_put_at, places_pending}
+use Rattle.cc_core.proofs.Arranging.{below_visited, below_chosen, rising_visited, found_by, found_nowhere, met_here, never, open_of_pending, open_counts, get, written, slots_written, changes_written, changes_put, none_stays, none_set_later, arranged_set, arranged_due, due_is, idle_next, later_more, later_idle, seen_idle, length_seen, length_idle, length_chosen, counted_all, stamp_of, seen_set}
 use Rattle.cc_core.proofs.slots.Slots.repeat.Goals as goal
 
-pub returns-in-None-clause-found : goal.returns-in-None-clause-found
-returns-in-None-clause-found c xs = rw (← c.self.view_is) (found_claimed xs c.self.inside.items.items ∙ sym (c.in-None.ensures ∙ ap (position is_claimed_inside) c.deref.ensures.value))
+pub first_claimed-requires-clause-within : goal.first_claimed-requires-clause-within
+first_claimed-requires-clause-within c =
+    let ph = c.self.inside.phase in
+    let ss = c.self.inside.items.items in
+    let ks = c.self.inside.visited.items in
+    let fr = c.self.inside.from in
+    let he = c.self.inside.held in
+    let un = c.self.inside.undone in
+    let a = c.self.invariant in
+    rw (c.deref.ensures.value, c.deref-2.ensures.value) (below_visited ph ss ks fr he un a)
 
-pub returns-in-None-clause-slots : goal.returns-in-None-clause-slots
-returns-in-None-clause-slots c xs =
-    let none = found_claimed xs c.self.inside.items.items ∙ sym (c.in-None.ensures ∙ ap (position is_claimed_inside) c.deref.ensures.value) in
-    rw (← c.self.view_is) (sym (ap (λ o. at_found one_more o (slots_of xs c.self.inside.items.items)) none))
+pub invariant_of-self : goal.invariant_of-self
+invariant_of-self c =
+    let ph = c.self.inside.phase in
+    let ss = c.self.inside.items.items in
+    let ks = c.self.inside.visited.items in
+    let fr = c.self.inside.from in
+    let he = c.self.inside.held in
+    let un = c.self.inside.undone in
+    let a = c.self.invariant in
+    let at : position (test_at is_claimed_inside (all_seen ph ss)) ks ≡ None = sym (c.in-None.ensures ∙ (ap (λ ss. position (test_at is_claimed_inside (all_seen ph ss)) c.deref-2.result.now) c.deref.ensures.value ∙ ap (position (test_at is_claimed_inside (all_seen ph ss))) c.deref-2.ensures.value)) in
+    let f = found_nowhere is_claimed_inside claimed_within ph ss ks fr he un a at in
+    let n : length ks ≡ c.len-self-inside.result = omega (arith, c.self.inside.visited.ok.0, c.len-self-inside.ensures) in
+    record { few = a.few; old = a.old; listed = a.listed; pending = a.pending; claimed = subst (λ (n : ℕ). NoneBefore (test_at is_claimed_inside (all_seen ph ss)) n ks) n f.1; counts = a.counts }
+
+pub index_mut-at-requires : goal.index_mut-at-requires
+index_mut-at-requires c =
+    let ph = c.self.inside.phase in
+    let ss = c.self.inside.items.items in
+    let ks = c.self.inside.visited.items in
+    let fr = c.self.inside.from in
+    let he = c.self.inside.held in
+    let un = c.self.inside.undone in
+    let a = c.self.invariant in
+    let at : position (test_at is_claimed_inside (all_seen ph ss)) ks ≡ Some c.in-Some.place = sym (c.in-Some.ensures ∙ (ap (λ ss. position (test_at is_claimed_inside (all_seen ph ss)) c.deref-2.result.now) c.deref.ensures.value ∙ ap (position (test_at is_claimed_inside (all_seen ph ss))) c.deref-2.ensures.value)) in
+    let f = found_by is_claimed_inside claimed_within ph ss ks fr he un a c.in-Some.place c.index-slot.result.now at c.index-slot.ensures in
+    omega (arith, f.within, c.self.inside.items.ok.0)
 
 pub repeat_slot-requires-clause-claimed : goal.repeat_slot-requires-clause-claimed
 repeat_slot-requires-clause-claimed c =
-    let at = sym (c.in-Some.ensures ∙ ap (position is_claimed_inside) c.deref.ensures.value) in
-    found_here is_claimed_inside c.self.inside.items.items c.in-Some.slot c.index_mut-at.result.now at c.index_mut-at.ensures.value
+    let ph = c.self.inside.phase in
+    let ss = c.self.inside.items.items in
+    let ks = c.self.inside.visited.items in
+    let fr = c.self.inside.from in
+    let he = c.self.inside.held in
+    let un = c.self.inside.undone in
+    let a = c.self.invariant in
+    let at : position (test_at is_claimed_inside (all_seen ph ss)) ks ≡ Some c.in-Some.place = sym (c.in-Some.ensures ∙ (ap (λ ss. position (test_at is_claimed_inside (all_seen ph ss)) c.deref-2.result.now) c.deref.ensures.value ∙ ap (position (test_at is_claimed_inside (all_seen ph ss))) c.deref-2.ensures.value)) in
+    let f = found_by is_claimed_inside claimed_within ph ss ks fr he un a c.in-Some.place c.index-slot.result.now at c.index-slot.ensures in
+    met_here is_claimed_inside ph ss c.index-slot.result.now c.index_mut-at.result.now c.renew.new.at f.within c.index_mut-at.ensures.value c.renew.ensures f.met
 
 pub repeat_slot-requires-clause-room : goal.repeat_slot-requires-clause-room
 repeat_slot-requires-clause-room c =
-    let at = sym (c.in-Some.ensures ∙ ap (position is_claimed_inside) c.deref.ensures.value) in
+    let ph = c.self.inside.phase in
+    let ss = c.self.inside.items.items in
+    let ks = c.self.inside.visited.items in
+    let fr = c.self.inside.from in
+    let he = c.self.inside.held in
+    let un = c.self.inside.undone in
+    let a = c.self.invariant in
+    let at : position (test_at is_claimed_inside (all_seen ph ss)) ks ≡ Some c.in-Some.place = sym (c.in-Some.ensures ∙ (ap (λ ss. position (test_at is_claimed_inside (all_seen ph ss)) c.deref-2.result.now) c.deref.ensures.value ∙ ap (position (test_at is_claimed_inside (all_seen ph ss))) c.deref-2.ensures.value)) in
+    let f = found_by is_claimed_inside claimed_within ph ss ks fr he un a c.in-Some.place c.index-slot.result.now at c.index-slot.ensures in
     let room = rw (← c.self.view_is) at c.requires.room in
-    room c.in-Some.slot c.index_mut-at.result.now at (get_here c.self.inside.items.items c.in-Some.slot c.index_mut-at.result.now (position_within is_claimed_inside c.self.inside.items.items c.in-Some.slot at) c.index_mut-at.ensures.value)
+    room c.index-slot.result.now c.renew.new.at f.first (get ph ss ks fr he un a c.index-slot.result.now c.index_mut-at.result.now c.renew.new.at c.renew.new.at f.within c.index_mut-at.ensures.value c.renew.ensures)
 
-pub invariant_of-self : goal.invariant_of-self
-invariant_of-self c = none_set is_pending_inside c.self.inside.from c.self.inside.items.items c.in-Some.slot c.repeat_slot.new.at c.repeat_slot.ensures.taken c.self.invariant
+pub invariant_of-self-in-Some : goal.invariant_of-self-in-Some
+invariant_of-self-in-Some c =
+    let ph = c.self.inside.phase in
+    let ss = c.self.inside.items.items in
+    let ks = c.self.inside.visited.items in
+    let fr = c.self.inside.from in
+    let he = c.self.inside.held in
+    let un = c.self.inside.undone in
+    let a = c.self.invariant in
+    let at : position (test_at is_claimed_inside (all_seen ph ss)) ks ≡ Some c.in-Some.place = sym (c.in-Some.ensures ∙ (ap (λ ss. position (test_at is_claimed_inside (all_seen ph ss)) c.deref-2.result.now) c.deref.ensures.value ∙ ap (position (test_at is_claimed_inside (all_seen ph ss))) c.deref-2.ensures.value)) in
+    let f = found_by is_claimed_inside claimed_within ph ss ks fr he un a c.in-Some.place c.index-slot.result.now at c.index-slot.ensures in
+    arranged_set ph ss ks fr he un a c.index-slot.result.now c.index_mut-at.result.now c.renew.new.at c.repeat_slot.new.at f.within c.index_mut-at.ensures.value c.renew.ensures (ap (λ t. t.stamp) c.repeat_slot.ensures.same) (ap is_listed c.repeat_slot.ensures.same) fr c.in-Some.place un
+    (none_stays ph ss ks fr he un a c.index-slot.result.now c.index_mut-at.result.now c.renew.new.at c.repeat_slot.new.at f.within c.index_mut-at.ensures.value c.renew.ensures (ap (λ t. t.stamp) c.repeat_slot.ensures.same) (ap is_listed c.repeat_slot.ensures.same) is_pending_inside fr (λ e. sym (ap is_pending_inside c.repeat_slot.ensures.same) ∙ e) a.pending)
+    (none_stays ph ss ks fr he un a c.index-slot.result.now c.index_mut-at.result.now c.renew.new.at c.repeat_slot.new.at f.within c.index_mut-at.ensures.value c.renew.ensures (ap (λ t. t.stamp) c.repeat_slot.ensures.same) (ap is_listed c.repeat_slot.ensures.same) is_claimed_inside c.in-Some.place (λ e. sym (ap is_claimed_inside c.repeat_slot.ensures.same) ∙ e) f.before)
+    (ap (λ b. un + cond b 1 0) (sym (ap is_open_inside c.repeat_slot.ensures.same)))
 
-pub returns-in-Some-clause-found : goal.returns-in-Some-clause-found
-returns-in-Some-clause-found c xs = rw (← c.self.view_is) (found_claimed xs c.self.inside.items.items ∙ sym (c.in-Some.ensures ∙ ap (position is_claimed_inside) c.deref.ensures.value))
+pub returns-in-None-clause-slots : goal.returns-in-None-clause-slots
+returns-in-None-clause-slots c =
+    let ph = c.self.inside.phase in
+    let ss = c.self.inside.items.items in
+    let ks = c.self.inside.visited.items in
+    let fr = c.self.inside.from in
+    let he = c.self.inside.held in
+    let un = c.self.inside.undone in
+    let a = c.self.invariant in
+    let at : position (test_at is_claimed_inside (all_seen ph ss)) ks ≡ None = sym (c.in-None.ensures ∙ (ap (λ ss. position (test_at is_claimed_inside (all_seen ph ss)) c.deref-2.result.now) c.deref.ensures.value ∙ ap (position (test_at is_claimed_inside (all_seen ph ss))) c.deref-2.ensures.value)) in
+    let f = found_nowhere is_claimed_inside claimed_within ph ss ks fr he un a at in
+    rw (← c.self.view_is) (λ xs. sym (ap (λ o. at_found one_more o (slots_of xs (all_seen ph ss))) (found_claimed xs (all_seen ph ss) ∙ f.0)))
+
+pub returns-in-None-clause-found : goal.returns-in-None-clause-found
+returns-in-None-clause-found c =
+    let ph = c.self.inside.phase in
+    let ss = c.self.inside.items.items in
+    let ks = c.self.inside.visited.items in
+    let fr = c.self.inside.from in
+    let he = c.self.inside.held in
+    let un = c.self.inside.undone in
+    let a = c.self.invariant in
+    let at : position (test_at is_claimed_inside (all_seen ph ss)) ks ≡ None = sym (c.in-None.ensures ∙ (ap (λ ss. position (test_at is_claimed_inside (all_seen ph ss)) c.deref-2.result.now) c.deref.ensures.value ∙ ap (position (test_at is_claimed_inside (all_seen ph ss))) c.deref-2.ensures.value)) in
+    let f = found_nowhere is_claimed_inside claimed_within ph ss ks fr he un a at in
+    rw (← c.self.view_is) (λ xs. found_claimed xs (all_seen ph ss) ∙ f.0)
+
+pub returns-in-Some-clause-changes : goal.returns-in-Some-clause-changes
+returns-in-Some-clause-changes c =
+    let ph = c.self.inside.phase in
+    let ss = c.self.inside.items.items in
+    let ks = c.self.inside.visited.items in
+    let fr = c.self.inside.from in
+    let he = c.self.inside.held in
+    let un = c.self.inside.undone in
+    let a = c.self.invariant in
+    let at : position (test_at is_claimed_inside (all_seen ph ss)) ks ≡ Some c.in-Some.place = sym (c.in-Some.ensures ∙ (ap (λ ss. position (test_at is_claimed_inside (all_seen ph ss)) c.deref-2.result.now) c.deref.ensures.value ∙ ap (position (test_at is_claimed_inside (all_seen ph ss))) c.deref-2.ensures.value)) in
+    let f = found_by is_claimed_inside claimed_within ph ss ks fr he un a c.in-Some.place c.index-slot.result.now at c.index-slot.ensures in
+    rw (← c.self.view_is) (changes_written ph ss ks fr he un a c.index-slot.result.now c.index_mut-at.result.now c.renew.new.at c.repeat_slot.new.at f.within c.index_mut-at.ensures.value c.renew.ensures (ap (λ t. t.stamp) c.repeat_slot.ensures.same) (ap is_listed c.repeat_slot.ensures.same) (ap is_changed_inside c.repeat_slot.ensures.same))
 
 pub returns-in-Some-clause-slots : goal.returns-in-Some-clause-slots
-returns-in-Some-clause-slots c xs =
-    let at = sym (c.in-Some.ensures ∙ ap (position is_claimed_inside) c.deref.ensures.value) in
-    rw (← c.self.view_is) (slots_of_found one_more _ xs c.self.inside.items.items c.in-Some.slot c.repeat_slot.new.at c.index_mut-at.result.now (found_claimed xs c.self.inside.items.items ∙ at)
-    (position_within is_claimed_inside c.self.inside.items.items c.in-Some.slot at) c.index_mut-at.ensures.value c.repeat_slot.ensures.slot)
+returns-in-Some-clause-slots c =
+    let ph = c.self.inside.phase in
+    let ss = c.self.inside.items.items in
+    let ks = c.self.inside.visited.items in
+    let fr = c.self.inside.from in
+    let he = c.self.inside.held in
+    let un = c.self.inside.undone in
+    let a = c.self.invariant in
+    let at : position (test_at is_claimed_inside (all_seen ph ss)) ks ≡ Some c.in-Some.place = sym (c.in-Some.ensures ∙ (ap (λ ss. position (test_at is_claimed_inside (all_seen ph ss)) c.deref-2.result.now) c.deref.ensures.value ∙ ap (position (test_at is_claimed_inside (all_seen ph ss))) c.deref-2.ensures.value)) in
+    let f = found_by is_claimed_inside claimed_within ph ss ks fr he un a c.in-Some.place c.index-slot.result.now at c.index-slot.ensures in
+    rw (← c.self.view_is) (λ xs. slots_written ph ss ks fr he un a c.index-slot.result.now c.index_mut-at.result.now c.renew.new.at c.repeat_slot.new.at f.within c.index_mut-at.ensures.value c.renew.ensures (ap (λ t. t.stamp) c.repeat_slot.ensures.same) (ap is_listed c.repeat_slot.ensures.same) one_more c.repeat_slot.ensures.slot xs ∙ ap (λ o. at_found one_more o (slots_of xs (all_seen ph ss))) (sym (found_claimed xs (all_seen ph ss) ∙ f.first)))
+
+pub returns-in-Some-clause-found : goal.returns-in-Some-clause-found
+returns-in-Some-clause-found c =
+    let ph = c.self.inside.phase in
+    let ss = c.self.inside.items.items in
+    let ks = c.self.inside.visited.items in
+    let fr = c.self.inside.from in
+    let he = c.self.inside.held in
+    let un = c.self.inside.undone in
+    let a = c.self.invariant in
+    let at : position (test_at is_claimed_inside (all_seen ph ss)) ks ≡ Some c.in-Some.place = sym (c.in-Some.ensures ∙ (ap (λ ss. position (test_at is_claimed_inside (all_seen ph ss)) c.deref-2.result.now) c.deref.ensures.value ∙ ap (position (test_at is_claimed_inside (all_seen ph ss))) c.deref-2.ensures.value)) in
+    let f = found_by is_claimed_inside claimed_within ph ss ks fr he un a c.in-Some.place c.index-slot.result.now at c.index-slot.ensures in
+    rw (← c.self.view_is) (λ xs. found_claimed xs (all_seen ph ss) ∙ f.first)
