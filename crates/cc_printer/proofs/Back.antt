@@ -17,7 +17,7 @@ use Rattle.cc_grammar.proofs.TextTokens.{has_text}
 use Rattle.cc_printer.specs.Printing.{tokens}
 use Rattle.cc_printer.specs.Heights.{height_stmts}
 use Rattle.cc_printer.specs.Placed.{symbols, at_places}
-use Rattle.cc_printer.specs.Spelling.{glue, last}
+use Rattle.cc_spelling.specs.Spelling.{glue, last}
 use Rattle.cc_printer.specs.Laws.{DerivesAtLevel, TokensDerive, Found, HasTokens, TextHasTokens, Back, ReadsBack}
 use Rattle.cc_printer.proofs.Kit.{here}
 use Rattle.cc_printer.proofs.Derives.{derive, derive_stmts, operand}

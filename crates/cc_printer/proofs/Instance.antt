@@ -10,7 +10,7 @@ use Rattle.cc_grammar.specs.Grammar.{of_program}
 use Rattle.cc_printer.specs.Printing.{tokens}
 use Rattle.cc_printer.specs.Printable.{PrintableStmts}
 use Rattle.cc_printer.specs.Heights.{height_stmts}
-use Rattle.cc_printer.specs.Spelling.{glue, IsName}
+use Rattle.cc_spelling.specs.Spelling.{glue, IsName}
 use Rattle.cc_printer.specs.Spellable.{SpellableStmts}
 use Rattle.cc_printer.specs.Laws.{Back}
 use Rattle.cc_printer.proofs.Back.{reads_back}

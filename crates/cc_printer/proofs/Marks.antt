@@ -15,7 +15,7 @@ use Rattle.cc_lexer.specs.declared.word.Word.TheVariants as w
 use Rattle.cc_lexer.specs.Words.{word_of, words, spelling}
 use Rattle.cc_grammar.specs.Symbols.{Kind}
 use Rattle.cc_grammar.specs.Symbols as k
-use Rattle.cc_printer.specs.Spelling.{runs_on}
+use Rattle.cc_spelling.specs.Spelling.{runs_on}
 
 -- no longer mark begins here
 pub stops : (m : Mark) (ys : List ℕ) → first_is (λ c. is_some (longer m c)) ys ≡ false → longest m ys ≡ token (kind.Mark m) ys

@@ -13,7 +13,7 @@ use Rattle.cc_lexer.specs.Items.{token, item, token_item, word_or_name, Begins, 
 use Rattle.cc_lexer.specs.declared.word.Word.{Word}
 use Rattle.cc_lexer.specs.declared.word.Word.TheVariants as w
 use Rattle.cc_lexer.specs.Words.{spelling, word_of}
-use Rattle.cc_printer.specs.Spelling.{characters, IsName}
+use Rattle.cc_spelling.specs.Spelling.{characters, IsName}
 use Rattle.cc_printer.proofs.Marks.{word_reserved}
 use Rattle.cc_printer.proofs.Runs.{run_all, behind_all, Opens, start_opens}
 

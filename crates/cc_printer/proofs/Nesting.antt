@@ -80,7 +80,7 @@ below n y l g = by (y == n) refl where
   by true q = absurd (g (same_number y n q))
   by false q = grind (arith, nat_tests)
 
-pub few : (n : ℕ) (xs : List ℕ) → Different xs → ((x : ℕ) → In x xs → x < n) → length xs ≤ n
+few : (n : ℕ) (xs : List ℕ) → Different xs → ((x : ℕ) → In x xs → x < n) → length xs ≤ n
 few n [] d b = omega arith
 few zero (x ∷ xs) d b = let l = b x here in absurd (omega (arith, l))
 few (suc n) (x ∷ xs) d b =
@@ -96,7 +96,7 @@ pub record Within (P : S.Program) (f : ℕ) (xs : List ℕ) : Type 0 where
   pub encloses : (x : ℕ) → In x xs → (x ≡ f) ⊎ Encloses P f x
 
 module _ (P : S.Program) (W : WellMade P) where
-  pub further_in : (f g c : ℕ) (d : Bool) (xs : List ℕ) → Within P f xs → In (makes c g d) (parts_of P f) → Within P g (g ∷ xs)
+  further_in : (f g c : ℕ) (d : Bool) (xs : List ℕ) → Within P f xs → In (makes c g d) (parts_of P f) → Within P g (g ∷ xs)
   further_in f g c d xs w i = record { different = (new, w.different); below = λ x j. low x (in_cons x g xs j); encloses = λ x j. around x (in_cons x g xs j) } where
     up : Encloses P g f
     up = let m = is_made P W f c g d i in directly g f m.scope m.stands m.parent
@@ -116,7 +116,7 @@ module _ (P : S.Program) (W : WellMade P) where
     around x (inl e) = inl e
     around x (inr j) = inr (beyond x (w.encloses x j))
 
-  pub chunk_within : (c : ℕ) → is_chunk P c ≡ true → Within P c (c ∷ [])
+  chunk_within : (c : ℕ) → is_chunk P c ≡ true → Within P c (c ∷ [])
   unfolding is_chunk
   chunk_within c h = record { different = ((λ i. elim i [ ]), tt); below = λ x i. low x (in_cons x c [] i); encloses = λ x i. first x (in_cons x c [] i) } where
     low : (x : ℕ) → (x ≡ c) ⊎ In x [] → x < length P.scopes

@@ -16,7 +16,7 @@ use Rattle.cc_lexer.specs.declared.token.TokenKind.TheVariants as kind
 use Rattle.cc_lexer.specs.Characters.{is_start, is_part, run, behind}
 use Rattle.cc_lexer.specs.Numbers.{is_number_form, is_large, is_large_hexadecimal, is_exponent, is_signed, begins_with_dot, behind_digits}
 use Rattle.cc_lexer.specs.Items.{token, nothing, token_item, number, literal, Begins, other}
-use Rattle.cc_printer.specs.Spelling.{after_number}
+use Rattle.cc_spelling.specs.Spelling.{after_number}
 use Rattle.cc_printer.proofs.Runs.{both, neither, run_all, behind_all, IsDigit, digit_facts, apart, true_false, false_true, same_number}
 use Rattle.cc_printer.proofs.Names.{past_gaps}
 

@@ -44,7 +44,7 @@ mutual
   opens_expr (raw.comma p e x) n ks qs = behind _ e n _ _ (opens_expr e)
   opens_expr (raw.cast p e) n ks qs = opens_expr e n ks qs
 
-  opens_target : (t : RawTarget) (n : Bool) (ks qs : List Kind) → first_opens (target t n ks) ≡ first_opens (target t n qs)
+  pub opens_target : (t : RawTarget) (n : Bool) (ks qs : List Kind) → first_opens (target t n ks) ≡ first_opens (target t n qs)
   opens_target (raw.to_var p v) n ks qs = refl
   opens_target (raw.to_member p e q v) n ks qs = behind _ e n _ _ (opens_expr e)
   opens_target (raw.to_index p e x) n ks qs = behind _ e n _ _ (opens_expr e)

@@ -8,7 +8,7 @@ use Rattle.cc_ast.specs.declared.tree.Ref.TheVariants.{Frame, Global}
 use Rattle.cc_ast.specs.Syntax as S
 use Rattle.cc_lexer.specs.Words.{spelling, word_of, words}
 use Rattle.cc_printer.specs.Printing.{tokens, stmts}
-use Rattle.cc_printer.specs.Spelling.{glue, spell}
+use Rattle.cc_spelling.specs.Spelling.{glue, spell}
 use Rattle.cc_printer.specs.RawOf.{raw_of}
 
 abbrev list : List S.Stmt → S.Stmts

@@ -9,19 +9,19 @@ use Rattle.cc_text.specs.Utf16.{utf16}
 use Rattle.cc_lexer.specs.Characters.{is_start, is_part}
 use Rattle.cc_lexer.specs.Words.{word_of}
 use lib.Utf8.{scalar, scalars, scalar_cases}
-use Rattle.cc_printer.specs.Spelling.{is_high, is_low, join, characters}
+use Rattle.cc_spelling.specs.Spelling.{is_high, is_low, join, characters}
 use Rattle.cc_printer.specs.Laws.{NamesAreNames}
 use Rattle.cc_printer.proofs.Runs.{both}
 
-no_high : (c : ℕ) → (c < 0xD800) ⊎ (0xDBFF < c) → is_high c ≡ false
+pub no_high : (c : ℕ) → (c < 0xD800) ⊎ (0xDBFF < c) → is_high c ≡ false
 no_high c (inl h) = grind (arith, nat_tests)
 no_high c (inr h) = grind (arith, nat_tests)
 
-alone : (c : ℕ) (ds : List ℕ) → is_high c ≡ false → join c ds ≡ c ∷ ds
+pub alone : (c : ℕ) (ds : List ℕ) → is_high c ≡ false → join c ds ≡ c ∷ ds
 alone c [] h = refl
 alone c (d ∷ ds) h = ap (λ b. cond (b && is_low d) ((0x10000 + (c - 0xD800) * 0x400 + (d - 0xDC00)) ∷ ds) (c ∷ d ∷ ds)) h
 
-two : (h l : ℕ) (ds : List ℕ) → is_high h ≡ true → is_low l ≡ true → join h (l ∷ ds) ≡ (0x10000 + (h - 0xD800) * 0x400 + (l - 0xDC00)) ∷ ds
+pub two : (h l : ℕ) (ds : List ℕ) → is_high h ≡ true → is_low l ≡ true → join h (l ∷ ds) ≡ (0x10000 + (h - 0xD800) * 0x400 + (l - 0xDC00)) ∷ ds
 two h l ds p q = ap₂ (λ a b. cond (a && b) ((0x10000 + (h - 0xD800) * 0x400 + (l - 0xDC00)) ∷ ds) (h ∷ l ∷ ds)) p q
 
 small : (c : ℕ) → c < 0x10000 → encode_utf16 c ≡ c ∷ []

@@ -14,7 +14,7 @@ use Rattle.cc_grammar.specs.Symbols.{nowhere}
 use Rattle.cc_grammar.specs.RawTree.{RawExpr, RawTarget, RawExprs, RawStmt, RawStmts, Named, MaybeExpr}
 use Rattle.cc_grammar.specs.RawTree as raw
 use Rattle.cc_printer.specs.Printing.{tokens, stmts}
-use Rattle.cc_printer.specs.Spelling.{glue, spell}
+use Rattle.cc_spelling.specs.Spelling.{glue, spell}
 
 abbrev a : RawExpr
 a = raw.var nowhere (codes "a")

@@ -23,7 +23,7 @@ use Rattle.cc_lexer.specs.declared.word.Word.{Word}
 use Rattle.cc_lexer.specs.declared.word.Word.TheVariants as w
 use Rattle.cc_grammar.specs.Symbols.{Kind, Lexeme, kind_of, lexeme, lexemes, nowhere}
 use Rattle.cc_grammar.specs.Symbols as k
-use Rattle.cc_printer.specs.Spelling.{characters, spell, runs_on, is_arrow, glue_after, glue, IsName, Sound, AllSound, last, before}
+use Rattle.cc_spelling.specs.Spelling.{characters, spell, runs_on, is_arrow, glue_after, glue, IsName, Sound, AllSound, last, before}
 use Rattle.cc_printer.specs.Placed.{at_places}
 use Rattle.cc_printer.proofs.Marks.{mark_begins}
 use Rattle.cc_printer.proofs.Names.{spelled_begins, word_begins}

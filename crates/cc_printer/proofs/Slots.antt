@@ -13,7 +13,7 @@ use Rattle.cc_printer.proofs.Lists.{some_one}
 
 -- ---- a function is made at one place
 
-pub no_both : (b : Bool) → b ≡ true → b ≡ false → ⊥
+no_both : (b : Bool) → b ≡ true → b ≡ false → ⊥
 no_both b h k = let e = sym h ∙ k in cc
 
 pub in_cons : {A : Type 0} (x y : A) (xs : List A) → In x (y ∷ xs) → (x ≡ y) ⊎ In x xs
@@ -108,16 +108,16 @@ one_place P W g h c e f d b i j =
 
 -- ---- places of frames
 
-pub places_inside : (c : ℕ) (fs : Frames) → places (inside_catches c fs) ≡ c + places fs
+places_inside : (c : ℕ) (fs : Frames) → places (inside_catches c fs) ≡ c + places fs
 places_inside zero fs = omega arith
 places_inside (suc c) fs = let h = places_inside c fs in omega (arith, h)
 
-pub past : (c m k : ℕ) (fs : Frames) → m ≡ c + k → drop m (inside_catches c fs) ≡ drop k fs
+past : (c m k : ℕ) (fs : Frames) → m ≡ c + k → drop m (inside_catches c fs) ≡ drop k fs
 past zero m k fs e = let q : m ≡ k = omega (arith, e) in ap (λ x. drop x fs) q
 past (suc c) zero k fs e = absurd (omega (arith, e))
 past (suc c) (suc m) k fs e = past c m k fs (omega (arith, e))
 
-pub dropped : (u : ℕ) (fs : Frames) → places (drop u fs) ≤ places fs
+dropped : (u : ℕ) (fs : Frames) → places (drop u fs) ≤ places fs
 dropped zero fs = omega arith
 dropped (suc u) [] = omega arith
 dropped (suc u) (n ∷ fs) = let h = dropped u fs in omega (arith, h)
@@ -133,7 +133,7 @@ in_catch : (c u : ℕ) (fs : Frames) → u < c → Slot c u 0 fs
 in_catch zero u fs h = absurd (omega (arith, h))
 in_catch (suc c) u fs h = let p = dropped u (inside_catches c fs) in omega (arith, p)
 
-pub own_place : (P : S.Program) (s : S.Scope) (f n : ℕ) → IsOwn P s f n → n < s.params + s.names
+own_place : (P : S.Program) (s : S.Scope) (f n : ℕ) → IsOwn P s f n → n < s.params + s.names
 own_place P s f n (is_param _ h) = omega (arith, h)
 own_place P s f n (is_declared _ c h i) = h
 

@@ -13,7 +13,7 @@ use Rattle.cc_grammar.specs.Symbols as k
 use Rattle.cc_grammar.specs.RawTree.{RawExpr, RawTarget, RawExprs, MaybeExpr, RawFields, RawKey, RawDeclarators, RawInit, RawForTarget, RawStmt, RawStmts, RawCatch, RawFinally, RawCases, Named}
 use Rattle.cc_grammar.specs.RawTree as raw
 use Rattle.cc_printer.specs.Printing.{TokensBefore, operator, prefix, stepping, truth_word, literal, parens, braces, names, own_name, label, otherwise, expr, target, exprs, fields, maybe, initial, declarators, init, for_target, stmt, stmts, catch, finally, cases}
-use Rattle.cc_printer.specs.Spelling.{IsName, Sound, AllSound, before}
+use Rattle.cc_spelling.specs.Spelling.{IsName, Sound, AllSound, before}
 use Rattle.cc_printer.specs.Spellable.{SpellableLiteral, SpellableNames, SpellableOwn, SpellableLabel, Spellable, SpellableTarget, SpellableExprs, SpellableMaybe, SpellableFields, SpellableDeclarators, SpellableInit, SpellableForTarget, SpellableStmt, SpellableStmts, SpellableCatch, SpellableFinally, SpellableCases}
 
 -- a mark, a word

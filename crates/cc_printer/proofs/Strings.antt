@@ -10,8 +10,8 @@ use Rattle.cc_lexer.specs.declared.token.TokenKind.TheVariants as kind
 use Rattle.cc_lexer.specs.Characters.{is_quote}
 use Rattle.cc_lexer.specs.Strings.{closes, is_plain, InString, quote, plain, escape}
 use Rattle.cc_lexer.specs.Items.{token, Begins, string}
-use Rattle.cc_printer.specs.Spelling.{glyph, letter, unit, units, count, Units}
-use Rattle.cc_printer.specs.Spelling as spelling
+use Rattle.cc_spelling.specs.Spelling.{glyph, letter, unit, units, count, Units}
+use Rattle.cc_spelling.specs.Spelling as spelling
 
 either : {A : Type 0} (P : A → Type 0) (b : Bool) (x y : A) → (b ≡ true → P x) → (b ≡ false → P y) → P (cond b x y)
 either P true x y f g = f refl

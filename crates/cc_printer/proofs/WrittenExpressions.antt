@@ -23,7 +23,7 @@ use Rattle.cc_grammar.specs.Grammar.{Context}
 use Rattle.cc_printer.specs.Printing.{assigning}
 use Rattle.cc_printer.specs.Printing as printed
 use Rattle.cc_printer.specs.Printable.{is_key, Printable, PrintableTarget, PrintableExprs, PrintableFields, PrintableStmt}
-use Rattle.cc_printer.specs.Spelling.{Sound}
+use Rattle.cc_spelling.specs.Spelling.{Sound}
 use Rattle.cc_printer.specs.Spellable.{SpellableLiteral, Spellable, SpellableTarget, SpellableExprs, SpellableFields, SpellableStmt}
 use Rattle.cc_printer.specs.RawOf.{Frames, Bodies, places, variable, property, key, function, declaration, raw_expr, raw_target, raw_exprs, raw_fields}
 use Rattle.cc_printer.specs.Texts.{LiteralUnits, KeyUnits, ExprUnits, TargetUnits, ExprsUnits, FieldsUnits}

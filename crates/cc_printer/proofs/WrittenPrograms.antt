@@ -12,14 +12,14 @@ use Rattle.cc_meaning.specs.WellMade.{WellMade, parts_of, is_chunk, opened, Reac
 use Rattle.cc_grammar.specs.Symbols as k
 use Rattle.cc_grammar.specs.Grammar.{Context, of_program, of_function}
 use Rattle.cc_printer.specs.Printable.{PrintableNames, PrintableOwn, PrintableStmt, PrintableStmts}
-use Rattle.cc_printer.specs.Spelling.{IsName}
+use Rattle.cc_spelling.specs.Spelling.{IsName}
 use Rattle.cc_printer.specs.Spellable.{SpellableNames, SpellableOwn, SpellableStmt}
 use Rattle.cc_printer.specs.RawOf.{Frames, Bodies, name_at, places, property_name, params, outside, own_name, function, declaration, raw_stmts, body_in, raw_bodies, raw_of}
 use Rattle.cc_printer.specs.Texts.{HasUnits}
 use Rattle.cc_printer.specs.Naming.{IsVariableName, IsPropertyName, AreNames, Around, around_chunk, around_function, inside_catches, inside_function, stmts_catches}
 use Rattle.cc_printer.specs.Printing.{tokens}
 use Rattle.cc_printer.specs.Heights.{height_stmts}
-use Rattle.cc_printer.specs.Spelling.{last}
+use Rattle.cc_spelling.specs.Spelling.{last}
 use Rattle.cc_printer.specs.Laws.{ProgramsAreWritten, ProgramsReadBack, Back}
 use Rattle.cc_printer.proofs.Lists.{every, there_is}
 use Rattle.cc_printer.proofs.WrittenExpressions.{FineExpr, Fine, Room}
@@ -56,7 +56,7 @@ module _ (P : S.Program) (ns : S.Names) (W : WellMade P) (spelled : IsSpelled Is
   own_fine true fs h = let v = names.slots (places fs) (omega (arith, h)) in (v.allowed, v.identifier)
   own_fine false fs h = (tt, tt)
 
-  abbrev pub FineBodies : Bodies → Type 0
+  abbrev FineBodies : Bodies → Type 0
   FineBodies B = (f : ℕ) (fs : Frames) → Around P f fs → FineStmts (context (opened P f) []) (B f fs)
 
   function_fine : (B : Bodies) → FineBodies B → (f c g : ℕ) (fs : Frames) → Around P f fs → In (makes c g false) (parts_of P f) → FineExpr (function ns B (inside_catches c fs) g (slice_get P.scopes g))
@@ -122,7 +122,7 @@ module _ (P : S.Program) (ns : S.Names) (W : WellMade P) (spelled : IsSpelled Is
   body_fine B go f fs a None e = (tt, tt)
   body_fine B go f fs a (Some s) e = scope_fine B go f fs a s e
 
-  pub bodies_fine : (n : ℕ) → FineBodies (raw_bodies P ns n)
+  bodies_fine : (n : ℕ) → FineBodies (raw_bodies P ns n)
   bodies_fine zero f fs a = (tt, tt)
   bodies_fine (suc n) f fs a = body_fine (raw_bodies P ns n) (bodies_fine n) f fs a (slice_get P.scopes f) refl
 

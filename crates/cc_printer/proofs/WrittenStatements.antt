@@ -17,7 +17,7 @@ use Rattle.cc_grammar.specs.RawTree as raw
 use Rattle.cc_grammar.specs.Grammar.{Context, Labels, inside, labelled, is_among}
 use Rattle.cc_printer.specs.Printing.{is_simple, is_loop_or_label, is_one, is_bare_label}
 use Rattle.cc_printer.specs.Printable.{under_label, PrintableMaybe, PrintableDeclarators, PrintableInit, PrintableForTarget, PrintableBreak, PrintableContinue, PrintableStmt, PrintableStmts, PrintableCatch, PrintableFinally, PrintableCases}
-use Rattle.cc_printer.specs.Spelling.{IsName}
+use Rattle.cc_spelling.specs.Spelling.{IsName}
 use Rattle.cc_printer.specs.Spellable.{SpellableMaybe, SpellableDeclarators, SpellableInit, SpellableForTarget, SpellableLabel, SpellableStmt, SpellableStmts, SpellableCatch, SpellableFinally, SpellableCases}
 use Rattle.cc_printer.specs.RawOf.{Frames, Bodies, name_at, places, raw_maybe, raw_declarators, raw_init, raw_for_target, raw_stmt, raw_stmts, raw_catch, raw_finally, raw_cases}
 use Rattle.cc_printer.specs.Texts.{OptionUnits, VarsUnits, InitUnits, ForTargetUnits, StmtUnits, StmtsUnits, MaybeUnits, CasesUnits}

@@ -27,7 +27,7 @@ use Rattle.cc_printer.specs.Bare.{bare, bare_stmts}
 use Rattle.cc_printer.specs.Printable.{Printable, PrintableStmts}
 use Rattle.cc_printer.specs.Heights.{enclosed_height, height, height_stmts}
 use Rattle.cc_printer.specs.Placed.{symbols, at_places}
-use Rattle.cc_printer.specs.Spelling.{glue, AllSound, IsName}
+use Rattle.cc_spelling.specs.Spelling.{glue, AllSound, IsName}
 use Rattle.cc_printer.specs.Spellable.{SpellableStmts}
 
 -- a tree that is derived, and is the printed one up to places

@@ -8,7 +8,7 @@ use Rattle.cc_meaning.specs.Shapes.{body_of}
 use Rattle.cc_meaning.specs.Parts.{mentions, declares, makes}
 use Rattle.cc_meaning.specs.WellMade.{parts_of, is_chunk, Reached}
 use Rattle.cc_printer.specs.Printing.{identifier}
-use Rattle.cc_printer.specs.Spelling.{IsName, Sound}
+use Rattle.cc_spelling.specs.Spelling.{IsName, Sound}
 use Rattle.cc_printer.specs.RawOf.{Frames, name_at, places, outside}
 
 -- A variable's name is an identifier (ECMA-262 5.1, 7.6), and neither `eval` nor `arguments`.

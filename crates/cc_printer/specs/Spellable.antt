@@ -5,7 +5,7 @@ use Rattle.cc_grammar.specs.RawTree.{RawExpr, RawTarget, RawExprs, MaybeExpr, Ra
 use Rattle.cc_grammar.specs.RawTree as raw
 use Rattle.cc_printer.specs.Printing.{identifier, assigning}
 use Rattle.cc_printer.specs.Printing as printed
-use Rattle.cc_printer.specs.Spelling.{IsName, Units, Sound}
+use Rattle.cc_spelling.specs.Spelling.{IsName, Units, Sound}
 
 -- a literal (ECMA-262 5.1, 7.8)
 abbrev pub SpellableLiteral : Prim → Type 0

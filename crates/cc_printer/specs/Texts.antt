@@ -3,7 +3,7 @@ use Rattle.std.specs.Prelude.{◌≡◌, ℕ, List, [], ◌∷◌, Option, Some,
 use Rattle.cc_ast.specs.declared.tree.Key.{Key}
 use Rattle.cc_ast.specs.declared.tree.Key.TheVariants.{Dotted, Quoted}
 use Rattle.cc_ast.specs.Syntax as S
-use Rattle.cc_printer.specs.Spelling.{Units}
+use Rattle.cc_spelling.specs.Spelling.{Units}
 
 -- the text of a literal (7.8.4)
 abbrev pub LiteralUnits : S.Prim → Type 0

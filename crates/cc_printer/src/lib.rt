@@ -1,8 +1,25 @@
-//! Printing: the tokens of a tree and the text of tokens, as definitions, and their laws. The
-//! functions here state the laws, and do nothing.
+//! Printing: the tokens of a tree and the text of tokens, as definitions, with their laws, and `spell`,
+//! which writes the text of a chunk. What is still to be written stands on a stack of its own, so no
+//! tree is walked by recursion. The functions of this file state the laws, and do nothing.
 #![tactic(auto)]
 
+mod bodies;
+mod chunk;
+mod enter;
+mod expression;
+mod frames;
+mod leftmost;
+mod levels;
+mod lookup;
+mod printer;
+mod sequences;
+mod signs;
+mod statement;
+mod work;
+
 ghost use Rattle.cc_printer.specs.Laws.{DerivesAtLevel, TokensDerive, TextHasTokens, ReadsBack, NamesAreNames, SameTokens, TextIsUtf8, NoneLeftOut, ProgramsAreWritten, ProgramsReadBack};
+
+pub use chunk::spell;
 
 /// What is printed at a level is derived at that level, whatever follows.
 pub fn derives_at_level()

@@ -1,0 +1,6 @@
+-- The last of a list is the first of the list in reverse.
+use Rattle.std.specs.Prelude.{◌≡◌, List, [], ◌∷◌, ◌++◌, reverse}
+use Rattle.std.proofs.lemmas.List.{reverse-append}
+
+pub reverse_push : {A : Type 0} (xs : List A) (x : A) → reverse (xs ++ x ∷ []) ≡ x ∷ reverse xs
+reverse_push xs x = reverse-append xs (x ∷ [])

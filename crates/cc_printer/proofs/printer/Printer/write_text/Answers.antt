@@ -1,0 +1,8 @@
+use Rattle.std.proofs.Common.{refl}
+use Rattle.cc_printer.specs.Pieces.{parts}
+use Rattle.cc_printer.proofs.Stepped.{token_steps}
+use Rattle.cc_printer.proofs.printer.Printer.write_text.Goals as goal
+
+pub returns : goal.returns
+unfolding parts
+returns c = token_steps _ _ _ _ c.in_ok-text.ensures refl c.requires

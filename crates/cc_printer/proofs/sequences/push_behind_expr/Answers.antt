@@ -1,0 +1,11 @@
+use Rattle.std.proofs.Common.{[], ◌∷◌}
+use Rattle.cc_grammar.specs.Symbols as k
+use Rattle.cc_printer.specs.Works.{pieces, works}
+use Rattle.cc_printer.proofs.Listed.{pushed_one, pushed_two, behind_expr_none, behind_expr_more}
+use Rattle.cc_printer.proofs.sequences.push_behind_expr.Goals as goal
+
+pub returns-in_default : goal.returns-in_default
+returns-in_default c = λ v. pushed_one (pieces v (works c.args.todo.now)) _ _ (c.in_ok-mark.ensures v) (behind_expr_none v c.args.rest.now (k.mark c.args.close) c.in_default.ensures.cases)
+
+pub returns : goal.returns
+returns c = λ v. pushed_two (pieces v (works c.args.todo.now)) (_ ∷ []) (_ ∷ []) _ (c.in_ok-mark-2.ensures v) (c.in_ok-push.ensures.pieces v) (behind_expr_more v c.args.rest.now (k.mark c.args.close) _ _ c.in-Some.ensures.cases.0)
