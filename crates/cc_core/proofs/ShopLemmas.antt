@@ -366,7 +366,7 @@ module _ {P Q : Type 0} (W : Work P) (law : Lawful W) (stands : Q → List (ℕ 
   turned_due none goes step' changed scopes heads plan' heads' all on some some_is =
       let past : List (ℕ × Program) = (step, base) ∷ history W source closed in
       let visits : W.visits past step' made ≡ W.visits past (step_after W step base) (phase W step base) =
-          ap (λ (n : ℕ). W.visits past n made) on.step_is ∙ ap (W.visits past (step_after W step base)) (made_phase none) in
+      ap (λ (n : ℕ). W.visits past n made) on.step_is ∙ ap (W.visits past (step_after W step base)) (made_phase none) in
       due_slots (length slots) goes some all on.follows_is
       (some_is ∙ (ap (λ (v : ℕ → Bool). chosen v 0 (length made.scopes)) visits ∙ ap (chosen (W.visits past (step_after W step base) (phase W step base)) 0) (sym slots_made)))
       (λ e. on.all_are e ∙ ap (chosen (λ _. true) 0) (length_slots_of made.scopes slots))
