@@ -1,12 +1,12 @@
 -- What the two phases mean, and that they keep their law.
-use Rattle.std.specs.Prelude.{◌≡◌, ℕ, ◌==◌, List, [], ◌∷◌, Bool, true, false, Some, None, cond, refl}
-use Rattle.std.proofs.Common.{suc, sym, ap, ◌∙◌, subst}
+use Rattle.std.specs.Prelude.{◌≡◌, ℕ, ◌==◌, nat_le, length, List, [], ◌∷◌, Bool, true, false, Some, None, cond, refl, slice_get}
+use Rattle.std.proofs.Common.{zero, suc, sym, ap, ◌∙◌, subst}
 use Rattle.cc_ast.specs.Syntax.{Program, Scope}
 use Rattle.cc_ast.specs.StmtBridge.{term_stmts}
 use Rattle.cc_meaning.specs.Same.{Same}
 use Rattle.cc_meaning.specs.WellMade.{WellMade}
 use Rattle.cc_meaning.proofs.SameLaws.{reflexive}
-use Rattle.cc_core.specs.Work.{Work, Lawful, VisitsAll, with_scopes, with_heads, heads_of, mixed, phase}
+use Rattle.cc_core.specs.Work.{Work, Lawful, with_scopes, with_heads, heads_of, mixed, or_stay, phase, step_after, after_phases, rewrites, visited}
 use Rattle.cc_clear.specs.declared.clear.ClearPlan.{ClearPlan}
 
 -- a scope whose doc says nothing
@@ -23,7 +23,7 @@ pub record Clears (base : Program) : Type 0 where
   pub same : (mix : ℕ → Bool) → Same base (with_scopes base (some_cleared mix base.scopes))
   pub well : WellMade base → (mix : ℕ → Bool) → WellMade (with_scopes base (some_cleared mix base.scopes))
 
--- the first step clears each scope, and the second one changes nothing
+-- the first step clears each scope, and the second one changes nothing; after n closed phases the slots from n on are visited
 abbrev pub clear : Work ClearPlan
 clear = record {
   fits = λ step base. Clears base;
@@ -32,7 +32,7 @@ clear = record {
   heads = λ plan base. heads_of base;
   rewrite = λ plan slot x. Some (cond (plan.step == 0) (cleared x) x);
   next = λ step before after. cond (step == 0) (Some 1) None;
-  visits = λ history step base slot. true;
+  visits = λ history step base slot. nat_le (length history) slot;
 }
 
 mixed_clears : (b : Bool) (mix : ℕ → Bool) (xs : List Scope) → b ≡ true → mixed (λ slot x. Some (cond b (cleared x) x)) mix xs ≡ some_cleared mix xs
@@ -91,8 +91,23 @@ clears_phase step base fits =
       | false ↦ λ e. subst (λ (p : Program). Clears p) (sym (phase_stays step base e)) fits
     ] refl
 
-pub clear_visits_all : VisitsAll clear
-clear_visits_all = λ history step base slot. refl
+-- after the first phase the step is not the first
+later_step : (n : ℕ) (source : Program) → ((after_phases clear source (suc n)).0 == 0) ≡ false
+later_step n source = by ((after_phases clear source n).0)
+  where
+    stay : (step : ℕ) (b : Bool) → (step == 0) ≡ b → (or_stay step (cond b (Some 1) None) == 0) ≡ false
+    stay step true e = refl
+    stay step false e = e
+
+    by : (step : ℕ) → (or_stay step (cond (step == 0) (Some 1) None) == 0) ≡ false
+    by step = stay step (step == 0) refl
+
+stays_later : (step : ℕ) (x : Scope) → (step == 0) ≡ false → Some (cond (step == 0) (cleared x) x) ≡ Some x
+stays_later step x e = ap (λ b. Some (cond b (cleared x) x)) e
+
+clean_stays : (source : Program) (n slot : ℕ) (x : Scope) → visited clear source n slot ≡ false → rewrites clear (after_phases clear source n).0 (after_phases clear source n).1 slot x ≡ Some x
+clean_stays source zero slot x clean = let e : true ≡ false = clean in absurd (cc)
+clean_stays source (suc n) slot x clean = stays_later (after_phases clear source (suc n)).0 x (later_step n source)
 
 pub clear_lawful : Lawful clear
 clear_lawful = record {
@@ -101,7 +116,7 @@ clear_lawful = record {
   well = λ step base fits local well mix. subst (λ (xs : List Scope). WellMade (with_scopes base xs)) (sym (mixed_clears (step == 0) mix base.scopes local)) (fits.well well mix);
   whole = λ step base fits local. subst (λ (p : Program). Same base p) (sym (phase_stays step base local)) (reflexive base);
   goes_on = λ step base fits. clears_phase step base fits;
-  skips = λ source fits n slot x at clean. absurd (let e : true ≡ false = clean in (cc));
+  skips = λ source fits n slot x at clean. clean_stays source n slot x clean;
 }
 
 -- no scope has a doc

@@ -1,12 +1,12 @@
--- Lists of scopes are the same exactly where their codes are.
-use Rattle.std.specs.Prelude.{◌≡◌, ◌↔◌, IsTrue, Bool, true, false, ◌&&◌, List}
-use Rattle.std.specs.Coded.{coded_list}
+-- Programs are the same exactly where their codes are.
+use Rattle.std.specs.Prelude.{◌≡◌, Bool, true, false, ◌&&◌}
 use Rattle.std.proofs.Common.{refl, ap, sym, ◌∙◌, subst}
 use Rattle.std.proofs.lemmas.Bool.{eq-eqb, eqb-true}
 use base.Stored.{Gv, gnil, gnum, gcons}
-use Rattle.cc_ast.specs.Syntax.{Scope}
-use Rattle.cc_ast.specs.Codes.{coded_scope}
-use Rattle.cc_passes.specs.Codes.{same_code, are_same}
+use Rattle.cc_ast.specs.Syntax.{Program}
+use Rattle.cc_ast.specs.Codes.{coded_program}
+use Rattle.cc_core.specs.Changed.{same_code}
+use Rattle.cc_passes.specs.Phases.{are_same}
 
 and_left : (a b : Bool) → (a && b) ≡ true → a ≡ true
 and_left true b h = refl
@@ -37,19 +37,19 @@ same_itself gnil = refl
 same_itself (gnum n) = eq-eqb n n refl
 same_itself (gcons a b) = and_both (same_code a a) (same_code b b) (same_itself a) (same_itself b)
 
-pub scopes_once : (xs ys : List Scope) → are_same xs ys ≡ true → xs ≡ ys
+program_once : (P Q : Program) → are_same P Q ≡ true → P ≡ Q
 unfolding are_same
-scopes_once xs ys h = (coded_list coded_scope).inj xs ys (code_once _ _ h)
+program_once P Q h = coded_program.inj P Q (code_once _ _ h)
 
-pub scopes_same : (xs ys : List Scope) → xs ≡ ys → are_same xs ys ≡ true
+program_same : (P Q : Program) → P ≡ Q → are_same P Q ≡ true
 unfolding are_same
-scopes_same xs ys e = subst (λ zs. same_code ((coded_list coded_scope).code xs) ((coded_list coded_scope).code zs) ≡ true) e (same_itself ((coded_list coded_scope).code xs))
+program_same P Q e = subst (λ z. same_code (coded_program.code P) (coded_program.code z) ≡ true) e (same_itself (coded_program.code P))
 
 -- what tells whether they are the same is the test of their codes
-pub same_test : (r : Bool) (xs ys : List Scope) → IsTrue r ↔ (xs ≡ ys) → r ≡ are_same xs ys
-same_test true xs ys h = sym (scopes_same xs ys (h.0 refl))
-same_test false xs ys h = by (are_same xs ys) refl
+pub same_test : (same : Bool) (P Q : Program) → (same ≡ true → P ≡ Q) → (P ≡ Q → same ≡ true) → same ≡ are_same P Q
+same_test true P Q one told = sym (program_same P Q (one refl))
+same_test false P Q one told = by (are_same P Q) refl
   where
-    by : (b : Bool) → are_same xs ys ≡ b → false ≡ b
-    by true e = let t : IsTrue false = h.1 (scopes_once xs ys e) in absurd (cc)
+    by : (b : Bool) → are_same P Q ≡ b → false ≡ b
+    by true e = told (program_once P Q e)
     by false e = refl

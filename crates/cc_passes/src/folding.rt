@@ -1,29 +1,24 @@
 // The list of phases: rounds of folding.
 ghost use Rattle.std.specs.Prelude.{◌≡◌};
-ghost use Rattle.cc_passes.specs.Codes.{are_same};
 ghost use Rattle.cc_passes.specs.Phases as phases;
 
 use cc_ast::program::{Heads, Program, Scope};
 use cc_core::programs::heads_of;
 use cc_core::rules::Rules;
-use cc_equal::scope::same_scopes;
 use cc_fold::built::Plan;
 use std::alloc::{AllocError, Global};
 
 /// The most rounds of folding.
-const MOST_ROUNDS: u32 = 12;
+pub(crate) const MOST_ROUNDS: u32 = 12;
 
-/// Folding, repeated until a round changes nothing, at most 12 times. A step is the number of its
-/// round, counted from 0.
+/// Folding, repeated until a round changes nothing, at most `MOST_ROUNDS` times. A step is the number
+/// of its round, counted from 0.
 #[derive(Drop)]
 pub struct Folding;
 
-/// Whether a round changed nothing.
-fn is_unchanged(before: &Program, after: &Program) -> bool
-    ensures { result ≡ are_same before.now.scopes after.now.scopes }
-{
-    same_scopes(&before.scopes, &after.scopes)
-}
+/// What is kept of the rounds that are done: nothing, since a round visits what the last one changed.
+#[derive(Drop)]
+pub struct NothingKept;
 
 fn next_round(step: u32, same: bool) -> Option<u32>
     ensures { result ≡ phases.next_round step same }
@@ -36,12 +31,16 @@ fn next_round(step: u32, same: bool) -> Option<u32>
 }
 
 impl Rules for Folding {
+    ghost use Rattle.std.specs.Prelude.{Unit};
     ghost use Rattle.cc_passes.specs.Phases.{folding};
-    ghost use Rattle.cc_passes.specs.Lawful.{folding_lawful, folding_visits_all};
+    ghost use Rattle.cc_passes.specs.Lawful.{folding_lawful};
 
     type Plan = Plan;
+    type Past = NothingKept;
 
     ghost work = { λ _. folding };
+
+    ghost stands = { λ _ _ _. Unit {0} };
 
     fn local(&self, step: u32) -> bool {
         let _ = step;
@@ -59,6 +58,10 @@ impl Rules for Folding {
         heads_of(base)
     }
 
+    fn keeps(&self, plan: &Plan, slot: u32, scope: &Scope) -> bool {
+        cc_fold::keeps::keeps(plan, slot, scope)
+    }
+
     fn rewrite(
         &self,
         alloc: Global,
@@ -69,11 +72,35 @@ impl Rules for Folding {
         cc_fold::rewrite(alloc, plan, slot, scope)
     }
 
-    fn next(&self, step: u32, before: &Program, after: &Program) -> Option<u32> {
-        next_round(step, is_unchanged(before, after))
+    fn next(&self, step: u32, before: &Program, after: &Program, same: bool) -> Option<u32> {
+        let _ = before;
+        let _ = after;
+        next_round(step, same)
+    }
+
+    fn past(&self, alloc: Global, base: &Program) -> Result<NothingKept, AllocError> {
+        let _ = alloc;
+        let _ = base;
+        Ok(NothingKept)
+    }
+
+    fn visit(
+        &self,
+        alloc: Global,
+        past: &mut NothingKept,
+        closed: u32,
+        before: &Program,
+        after: &Program,
+        changed: &[u32],
+        step: u32,
+    ) -> Result<Vec<u32>, AllocError> {
+        let _ = past;
+        let _ = closed;
+        let _ = before;
+        let _ = after;
+        let _ = step;
+        changed.to_vec(alloc)
     }
 
     ghost lawful = { λ _. folding_lawful };
-
-    ghost visits_all = { λ _. folding_visits_all };
 }

@@ -2,4 +2,5 @@
 #![tactic(auto)]
 
 pub mod folding;
+pub mod laws;
 pub mod optimise;

@@ -1,13 +1,14 @@
 // A program put through the phases by one worker.
-ghost use Rattle.std.specs.Prelude.{◌≡◌, ◌+◌, ◌<◌, ◌^◌, IfOk, OnOk, is_some};
-ghost use Rattle.cc_core.specs.Events.{after_close};
+ghost use Rattle.std.specs.Prelude.{◌≡◌, ℕ, ◌+◌, ◌<◌, ◌^◌, Bool, List, IsTrue, IfOk, OnOk};
+ghost use Rattle.cc_core.specs.Events.{after_close, follows, IsOneWorkers};
 ghost use Rattle.cc_core.specs.State.{NoneOut, started, reading};
-ghost use Rattle.cc_core.specs.Work.{phase};
+ghost use Rattle.cc_meaning.specs.Same.{Same};
+ghost use Rattle.cc_meaning.specs.Spelled.{IsSpelled};
 ghost use Rattle.cc_meaning.specs.WellMade.{WellMade};
-ghost use Rattle.cc_passes.specs.Phases.{folding, optimised};
+ghost use Rattle.cc_passes.specs.Phases.{folding};
 ghost use Rattle.cc_tied.specs.Promises.{HasNoPaths};
 
-use crate::folding::Folding;
+use crate::folding::{Folding, MOST_ROUNDS};
 use cc_ast::program::Program;
 use cc_core::alone::work_alone;
 use cc_core::shop::Shop;
@@ -18,7 +19,7 @@ fn finish_phase(shop: &mut Shop<Folding>) -> Result<bool, AllocError>
     requires none_out { NoneOut shop.old.state.slots }
     requires few { shop.old.state.closed + 1 < 2 ^ 32 }
     ensures closed { OnOk result (shop.new.state ≡ after_close folding shop.old.state) }
-    ensures follows { IfOk result (λ follows. follows ≡ is_some (folding.next shop.old.state.step shop.old.state.base (phase folding shop.old.state.step shop.old.state.base))) }
+    ensures follows { IfOk result (λ goes. goes ≡ follows folding shop.old.state) }
 {
     work_alone(shop)?;
     match shop.close() {
@@ -31,9 +32,10 @@ fn finish_phase(shop: &mut Shop<Folding>) -> Result<bool, AllocError>
 /// Makes all phases of a program that is at its first step.
 fn finish_all(shop: &mut Shop<Folding>) -> Result<(), AllocError>
     requires { shop.old.state ≡ started shop.old.state.source }
-    ensures { OnOk result (reading folding shop.new.state ≡ optimised shop.old.state.source) }
+    ensures { OnOk result (IsOneWorkers folding shop.old.state.source (reading folding shop.new.state)) }
 {
-    for _round in 0..12_u32 {
+    for _round in 0..MOST_ROUNDS {
+        shop.sound();
         let follows = finish_phase(shop)?;
         if !follows {
             return Ok(());
@@ -42,11 +44,17 @@ fn finish_all(shop: &mut Shop<Folding>) -> Result<(), AllocError>
     Ok(())
 }
 
-/// The program after the phases.
+/// The program after the phases: the one that one worker makes. It means what the program meant, and
+/// may be given to what comes next: it is well made and has no flat paths, and its labels and properties
+/// can be written where those of the program can, whichever texts are identifiers and names.
 pub fn optimise(alloc: Global, program: Program) -> Result<Program, AllocError>
     requires well { WellMade program }
     requires no_paths { HasNoPaths program }
-    ensures { IfOk result (λ p. p ≡ optimised program) }
+    ensures one_worker { IfOk result (λ p. IsOneWorkers folding program p) }
+    ensures same { IfOk result (λ p. Same program p) }
+    ensures well { IfOk result (λ p. WellMade p) }
+    ensures no_paths { IfOk result (λ p. HasNoPaths p) }
+    ensures spelled { IfOk result (λ p. (is_identifier : List ℕ → Bool) (is_name : List ℕ → Bool) → IsSpelled (λ t. IsTrue (is_identifier t)) (λ t. IsTrue (is_name t)) program → IsSpelled (λ t. IsTrue (is_identifier t)) (λ t. IsTrue (is_name t)) p) }
 {
     let Ok(mut shop) = Shop::begin(alloc, Folding, program) else {
         return Err(AllocError);

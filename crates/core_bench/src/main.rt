@@ -1,18 +1,21 @@
-//! How long a phase takes under claims: makes a program of as many small functions as its first
-//! argument says, and prints the microseconds in which one worker does its first phase and closes it.
+//! How long phases take under claims: makes a program of as many small functions as its first argument
+//! says, and prints the microseconds in which one worker does fifteen phases and closes them. The first
+//! three make each scope anew, the others keep it. The phases after the first visit as many scopes as
+//! the second argument says, or all. The microseconds of the last twelve stand behind.
 #![tactic(auto)]
 
-ghost use Rattle.std.specs.Prelude.{◌≡◌, ℕ, ◌+◌, ◌<◌, ◌^◌, IfOk, length};
-ghost use Rattle.cc_clear.specs.Clear.{NoDocs};
-ghost use Rattle.cc_core.specs.State.{started};
+ghost use Rattle.std.specs.Prelude.{◌≡◌, ℕ, ◌+◌, ◌<◌, ◌^◌, IfOk, OnOk, length};
+ghost use Rattle.cc_core.specs.State.{NoneOut};
+
+mod rounds;
 
 use cc_ast::operator::BinOp;
 use cc_ast::program::{Heads, Program, Scope};
 use cc_ast::shared::Shared;
 use cc_ast::tree::{Expr, Ref, Stmt};
-use cc_clear::clear::Clear;
 use cc_core::alone::work_alone;
-use cc_core::shop::{CloseFault, Shop};
+use cc_core::shop::Shop;
+use rounds::Rounds;
 use sqlite_items::{Boxed, Items};
 use std::alloc::{AllocError, Global};
 use std::time::{Duration, Instant};
@@ -33,9 +36,7 @@ fn a_body(alloc: Global) -> Result<Shared<Items<Stmt>>, AllocError> {
 }
 
 // A function that returns the sum.
-fn a_scope(alloc: Global) -> Result<Scope, AllocError>
-    ensures { IfOk result (λ made. made.doc ≡ 0) }
-{
+fn a_scope(alloc: Global) -> Result<Scope, AllocError> {
     Ok(Scope {
         params: 1,
         names: 0,
@@ -47,8 +48,7 @@ fn a_scope(alloc: Global) -> Result<Scope, AllocError>
 }
 
 fn scopes(alloc: Global, count: u32) -> Result<Items<Scope>, AllocError>
-    ensures no_docs { IfOk result (λ made. NoDocs made) }
-    ensures length { IfOk result (λ made. length made ≡ count) }
+    ensures { IfOk result (λ made. length made ≡ count) }
 {
     let mut made = Items::new(alloc);
     for _at in 0..count {
@@ -117,60 +117,83 @@ fn with_scopes(alloc: Global, scopes: Items<Scope>) -> Result<Program, AllocErro
 }
 
 fn a_program(alloc: Global, count: u32) -> Result<Program, AllocError>
-    ensures no_docs { IfOk result (λ made. NoDocs made.scopes) }
-    ensures length { IfOk result (λ made. length made.scopes ≡ count) }
+    ensures { IfOk result (λ made. length made.scopes ≡ count) }
 {
     let scopes = scopes(alloc, count)?;
     with_scopes(alloc, scopes)
 }
 
-fn a_shop(alloc: Global, count: u32) -> Result<Shop<Clear>, AllocError>
-    ensures { IfOk result (λ shop. (program : _) × (shop ≡ record { rules = record {}; state = started program })) }
+fn a_shop(alloc: Global, count: u32, visited: u32) -> Result<Shop<Rounds>, AllocError>
+    ensures none_out { IfOk result (λ shop. NoneOut shop.state.slots) }
+    ensures first { IfOk result (λ shop. shop.state.closed ≡ 0) }
 {
-    Shop::begin(alloc, Clear, a_program(alloc, count)?)
+    Shop::begin(alloc, Rounds { visited }, a_program(alloc, count)?)
 }
 
-/// Does the first phase and closes it, a second time where the first found no memory, since that
-/// leaves all as it was; says whether a phase follows.
-fn phase(shop: &mut Shop<Clear>) -> Result<bool, AllocError>
-    requires { (program : _) × (shop.old ≡ record { rules = record {}; state = started program }) }
+// Does a phase and closes it.
+fn phase(shop: &mut Shop<Rounds>) -> Result<(), AllocError>
+    requires none_out { NoneOut shop.old.state.slots }
+    requires few { shop.old.state.closed + 1 < 2 ^ 32 }
+    ensures none_out { OnOk result (NoneOut shop.new.state.slots) }
+    ensures closed { OnOk result (shop.new.state.closed ≡ shop.old.state.closed + 1) }
 {
     work_alone(shop)?;
-    Ok(match shop.close() {
-        Err(CloseFault::Memory) => matches!(shop.close(), Ok(true)),
-        closed => matches!(closed, Ok(true)),
-    })
+    match shop.close() {
+        Ok(_) => Ok(()),
+        Err(_) => Err(AllocError),
+    }
 }
 
-// The number that the first argument says.
-fn count_asked(rt: &HostRuntime) -> io::Result<Option<u32>> {
+// Does so many phases.
+fn phases(shop: &mut Shop<Rounds>, count: u32) -> Result<(), AllocError>
+    requires none_out { NoneOut shop.old.state.slots }
+    requires few { shop.old.state.closed + count < 2 ^ 32 }
+    ensures none_out { OnOk result (NoneOut shop.new.state.slots) }
+    ensures closed { OnOk result (shop.new.state.closed ≡ shop.old.state.closed + count) }
+{
+    for _done in 0..count {
+        phase(shop)?;
+    }
+    Ok(())
+}
+
+// The number that an argument says.
+fn number(word: &str) -> Option<u32> {
+    word.parse::<u32>().ok()
+}
+
+// How many scopes are asked for, and how many of them the later phases visit.
+fn asked(rt: &HostRuntime) -> io::Result<Option<(u32, u32)>> {
     let mut args = env::args(rt)?;
     let _program = args.next();
     let Some(word) = args.next() else {
         return Ok(None);
     };
-    Ok(word.as_str().parse::<u32>().ok())
+    let Some(count) = number(word.as_str()) else {
+        return Ok(None);
+    };
+    let Some(word) = args.next() else {
+        return Ok(Some((count, count)));
+    };
+    Ok(number(word.as_str()).map(|visited| (count, visited)))
 }
 
-// The time that the first phase takes, and whether another follows.
-fn timed(rt: &HostRuntime, shop: &mut Shop<Clear>) -> io::Result<(Duration, bool)>
-    requires { (program : _) × (shop.old ≡ record { rules = record {}; state = started program }) }
-{
+// The times that all phases take, and the last twelve.
+fn timed(rt: &HostRuntime, count: u32, visited: u32) -> io::Result<(Duration, Duration)> {
+    let mut shop = a_shop(rt.alloc(), count, visited)?;
     let start = Instant::now(rt)?;
-    let follows = phase(shop)?;
-    Ok((start.elapsed(rt)?, follows))
-}
-
-fn timed_for(rt: &HostRuntime, count: u32) -> io::Result<(Duration, bool)> {
-    let mut shop = a_shop(rt.alloc(), count)?;
-    timed(rt, &mut shop)
+    phases(&mut shop, 3)?;
+    let middle = Instant::now(rt)?;
+    phases(&mut shop, 12)?;
+    Ok((start.elapsed(rt)?, middle.elapsed(rt)?))
 }
 
 fn main(rt: HostRuntime) -> io::Result<()> {
-    let Some(count) = count_asked(&rt)? else {
+    let Some((count, visited)) = asked(&rt)? else {
         return println!(rt; "how many scopes?");
     };
-    let (spent, follows) = timed_for(&rt, count)?;
+    let (spent, last) = timed(&rt, count, visited)?;
     let micros = spent.as_micros();
-    println!(rt; "{count} scopes, {micros} us, {follows}")
+    let last = last.as_micros();
+    println!(rt; "{count} scopes, {micros} us, {visited} visited, {last} us")
 }

@@ -20,6 +20,8 @@ pub enum Word {
     Last,
     /// There is no memory to close the phase.
     Memory,
+    /// The slot's scope stays as it is.
+    Kept,
 }
 
 impl Word {
@@ -33,6 +35,7 @@ impl Word {
             Word::Follows => "closed, a phase follows",
             Word::Last => "closed, none follows",
             Word::Memory => "no memory",
+            Word::Kept => "the scope itself",
         }
     }
 }

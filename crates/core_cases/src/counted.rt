@@ -5,10 +5,10 @@ ghost use Rattle.cc_core.specs.Outs.{AtMostOut};
 ghost use Rattle.core_cases.specs.Few.{AtMostOut-prop};
 
 use crate::made::{a_shop, an_empty_scope};
-use cc_ast::program::Scope;
 use cc_clear::clear::Clear;
 use cc_core::alone::work_alone;
 use cc_core::claim::Claim;
+use cc_core::made::Made;
 use cc_core::shop::{CloseFault, Put, Shop};
 use std::alloc::{AllocError, Global};
 use std::mem;
@@ -59,6 +59,16 @@ impl Counted {
         claim
     }
 
+    /// Enters a claim of this phase that was drawn.
+    pub fn enter(&mut self, claim: &Claim)
+        requires room { self.old.most + 1 < 2 ^ 32 }
+        requires phase { claim.now.phase ≡ self.old.shop.state.closed }
+        requires slot { claim.now.slot < length self.old.shop.state.slots }
+    {
+        self.shop.enter(claim);
+        self.most += 1;
+    }
+
     /// Makes the scope of a claim of this phase, and puts it. The claim is given back where memory is
     /// wanting.
     pub fn put(&mut self, claim: Claim) -> Result<Put, AllocError>
@@ -67,8 +77,8 @@ impl Counted {
         requires slot { claim.slot < length self.old.shop.state.slots }
     {
         match self.shop.make(&claim) {
-            Ok(scope) => {
-                let put = self.shop.put(claim, scope);
+            Ok(made) => {
+                let put = self.shop.put(claim, made);
                 self.most += 1;
                 Ok(put)
             }
@@ -88,7 +98,7 @@ impl Counted {
     {
         match an_empty_scope(alloc) {
             Ok(scope) => {
-                let put = self.shop.put(claim, scope);
+                let put = self.shop.put(claim, Made::Other(scope));
                 self.most += 1;
                 Ok(put)
             }
@@ -109,7 +119,7 @@ impl Counted {
     }
 
     /// Makes the scope of a claim by what the workers of the phase share.
-    pub fn bench_make(&self, claim: &Claim) -> Result<Scope, AllocError>
+    pub fn bench_make(&self, claim: &Claim) -> Result<Made, AllocError>
         requires { claim.now.slot < length self.now.shop.state.slots }
     {
         self.shop.sound();

@@ -1,5 +1,6 @@
 //! A shop that is worked by claims, step by step: reads steps, one a line, and prints each with what
-//! the call answered below it. Empty lines and lines that begin with `#` are printed as they stand; a
+//! the call answered below it, and the state after it: how many phases are closed, and for each slot
+//! `p`, `c` or `d` where it is pending, claimed or done. Empty lines and lines that begin with `#` are printed as they stand; a
 //! line that is no step is printed behind a `?`, and the program then ends with status 2.
 #![tactic(auto)]
 
@@ -32,7 +33,9 @@ fn show(rt: &HostRuntime, session: &mut Session, line: &str) -> io::Result<bool>
         return Ok(false);
     };
     let answer = session.follow(step)?;
-    println!(rt; "{line}\n  {answer}")?;
+    let marks = session.marks()?;
+    let closed = session.closed();
+    println!(rt; "{line}\n  {answer}\n  {closed}:{marks}")?;
     Ok(true)
 }
 

@@ -4,8 +4,8 @@ ghost use Rattle.std.specs.Prelude.{◌≡◌, ◌+◌, ◌<◌, ◌≤◌, ◌^
 use crate::answer::{Answer, Word};
 use crate::counted::Counted;
 use crate::step::{Call, Step, Taking, Using};
-use cc_ast::program::Scope;
 use cc_core::claim::Claim;
+use cc_core::made::Made;
 use cc_core::shop::{CloseFault, Put};
 use std::alloc::{AllocError, Global};
 use std::collections::BTreeMap;
@@ -56,10 +56,13 @@ fn leave(claim: Claim) {
     } = claim;
 }
 
-fn scope_answer(scope: &Scope) -> Answer {
-    Answer::Scope {
-        doc: scope.doc,
-        statements: scope.body.get().len(),
+fn made_answer(made: &Made) -> Answer {
+    match made {
+        Made::Same => Answer::Word(Word::Kept),
+        Made::Other(scope) => Answer::Scope {
+            doc: scope.doc,
+            statements: scope.body.get().len(),
+        },
     }
 }
 
@@ -106,17 +109,25 @@ impl Session {
         Ok(Answer::Word(Word::Done))
     }
 
+    /// A claim of this phase on a slot that was drawn, if there is such a slot.
+    fn drawn(&mut self, slot: u32, worker: u32) -> Option<Claim>
+        requires { self.old.counted.most + 1 < 2 ^ 32 }
+    {
+        if slot as usize >= self.counted.shop.len() {
+            return None;
+        }
+        let claim = Claim::drawn(self.counted.shop.closed(), slot, worker);
+        self.counted.enter(&claim);
+        Some(claim)
+    }
+
     fn claimed(&mut self, taking: Taking) -> Option<Held>
         requires { self.old.counted.most + 1 < 2 ^ 32 }
     {
         let claim = match taking {
             Taking::Claim(worker) => self.counted.claim(worker),
             Taking::Repeat(worker) => self.counted.repeat(worker),
-            Taking::Drawn {
-                phase,
-                slot,
-                worker,
-            } => Some(Claim::drawn(phase, slot, worker)),
+            Taking::Drawn { slot, worker } => self.drawn(slot, worker),
         };
         match claim {
             Some(claim) => Some(Held::of(claim)),
@@ -166,7 +177,7 @@ impl Session {
         let claim = held.claim();
         let made = self.counted.shop.make(&claim);
         leave(claim);
-        Ok(scope_answer(&made?))
+        Ok(made_answer(&made?))
     }
 
     fn bench_make(&self, held: Held) -> Result<Answer, AllocError>
@@ -175,7 +186,7 @@ impl Session {
         let claim = held.claim();
         let made = self.counted.bench_make(&claim);
         leave(claim);
-        Ok(scope_answer(&made?))
+        Ok(made_answer(&made?))
     }
 
     fn put(&mut self, name: u8, held: Held) -> Result<Answer, AllocError>
@@ -230,12 +241,39 @@ impl Session {
 
     fn call(&mut self, call: Call) -> Result<Answer, AllocError> {
         match call {
-            Call::Pending => Ok(Answer::Number(self.counted.shop.pending())),
             Call::Slots => self.slots(),
             Call::Undone => Ok(Answer::Number(self.counted.shop.undone())),
             Call::Closed => Ok(Answer::Number(self.counted.shop.closed())),
             Call::Close => Ok(self.close()),
             Call::WorkAlone => self.work_alone(),
         }
+    }
+
+    /// How a slot stands: pending, claimed or done.
+    fn mark(&self, slot: u32, pending: &[u32]) -> char
+        requires { slot < length self.now.counted.shop.state.slots }
+    {
+        if self.counted.shop.is_done(slot) {
+            'd'
+        } else if pending.contains(&slot) {
+            'p'
+        } else {
+            'c'
+        }
+    }
+
+    /// The slots as they stand, a letter for each.
+    pub fn marks(&self) -> Result<String, AllocError> {
+        let pending = self.counted.shop.pending_slots()?;
+        let mut marks = String::new(self.alloc);
+        for slot in 0..self.counted.shop.len() as u32 {
+            marks.push(self.mark(slot, &pending))?;
+        }
+        Ok(marks)
+    }
+
+    /// How many phases are closed.
+    pub fn closed(&self) -> u32 {
+        self.counted.shop.closed()
     }
 }

@@ -7,7 +7,8 @@ pub enum Taking {
     Claim(u32),
     /// For this worker.
     Repeat(u32),
-    Drawn { phase: u32, slot: u32, worker: u32 },
+    /// Of this slot, which was drawn, for this worker.
+    Drawn { slot: u32, worker: u32 },
 }
 
 /// What is done with a claim.
@@ -25,9 +26,7 @@ pub enum Using {
 /// A call without a claim.
 #[derive(Clone, Copy)]
 pub enum Call {
-    /// How many are pending.
-    Pending,
-    /// Which are pending.
+    /// Which slots are pending.
     Slots,
     /// How many aren't done.
     Undone,
@@ -59,22 +58,17 @@ fn letter(word: &str) -> Option<u8> {
     }
 }
 
-fn drawn(phase: &str, slot: &str, worker: &str) -> Option<Taking> {
-    let phase = number(phase)?;
+fn drawn(slot: &str, worker: &str) -> Option<Taking> {
     let slot = number(slot)?;
     let worker = number(worker)?;
-    Some(Taking::Drawn {
-        phase,
-        slot,
-        worker,
-    })
+    Some(Taking::Drawn { slot, worker })
 }
 
 fn read_taking(words: &[&str]) -> Option<Taking> {
     match words {
         ["claim", worker] => number(worker).map(Taking::Claim),
         ["repeat", worker] => number(worker).map(Taking::Repeat),
-        ["drawn", phase, slot, worker] => drawn(phase, slot, worker),
+        ["drawn", slot, worker] => drawn(slot, worker),
         _ => None,
     }
 }
@@ -103,7 +97,6 @@ fn read_use(word: &str, name: &str) -> Option<Step> {
 
 fn read_call(word: &str) -> Option<Call> {
     match word {
-        "pending" => Some(Call::Pending),
         "slots" => Some(Call::Slots),
         "undone" => Some(Call::Undone),
         "closed" => Some(Call::Closed),
