@@ -4,7 +4,8 @@ use Rattle.std.proofs.lemmas.Bool.{and_parts}
 use Rattle.std.proofs.lemmas.List.Elements.{All-weaker}
 use Rattle.cc_ast.specs.declared.tables.GlobalInfo.{GlobalInfo}
 use Rattle.cc_ast.specs.Syntax.{Program}
-use Rattle.cc_passes.specs.Phases.{optimised}
+use Rattle.cc_core.specs.Events.{IsOneWorkers}
+use Rattle.cc_passes.specs.Phases.{folding}
 use Rattle.cc_driver.specs.declared.form.Statement.{Statement}
 use Rattle.cc_driver.specs.declared.spelling.Piece.{Piece}
 use Rattle.cc_driver.specs.Form.{IsExterns, IsSource}
@@ -18,7 +19,7 @@ use Rattle.cc_driver.proofs.SourceLaws.{is_ascii_name, sound_ascii}
 use Rattle.cc_driver.proofs.Promise.Fit.{sound_source}
 use Rattle.cc_driver.proofs.Promise.Text.{sound_spelled}
 use Rattle.cc_driver.proofs.NamingLaws.{names-ASCII}
-use Rattle.cc_driver.proofs.Promise.Folded.{made_of, source_folds}
+use Rattle.cc_driver.proofs.Promise.Folded.{IsMade, source_folds}
 
 -- each unit of an ASCII name is below 128
 ascii_at : (n : List ℕ) → is_ascii_name n ≡ true → IsAscii n
@@ -51,17 +52,17 @@ is_spelled externs text size ss s none = sound_is_spelled externs size ss (sound
 
 -- ---- what is written for a program that the phases made
 
--- what the phases make of a source of the form is the program of what folding makes of its statements
-pub made_again : (externs : List (List ℕ)) (size : ℕ) (ss : List Statement) (P Q : Program) → AreSound externs ss → P ≡ program_of externs size ss → Q ≡ optimised P → Q ≡ program_of externs size (made_of ss)
-made_again externs size ss P Q s p q = q ∙ ap optimised p ∙ source_folds externs size ss s
+-- what the phases make of a source of the form is the program of sound statements
+pub made_again : (externs : List (List ℕ)) (size : ℕ) (ss : List Statement) (P Q : Program) → AreSound externs ss → P ≡ program_of externs size ss → IsOneWorkers folding P Q → IsMade externs size Q
+made_again externs size ss P Q s p q = source_folds externs size ss Q s (subst (λ (z : Program). IsOneWorkers folding z Q) p q)
 
-pub output_by : (externs : List (List ℕ)) (size : ℕ) (ss : List Statement) (P Q : Program) (out : List ℕ) → P ≡ program_of externs size ss → Q ≡ optimised P → IsTextOf Q out → IsOutput externs size ss out
-output_by externs size ss P Q out p q text =
-    let made : Q ≡ optimised (program_of externs size ss) = q ∙ ap optimised p in
-    record {
-      pieces = text.pieces;
-      names = text.names;
-      spelled = subst (λ (z : Program). spell_chunk z 0 ≡ Some text.pieces) made text.spelled;
-      named = subst (λ (z : Program). IsNaming z text.pieces text.names) made text.named;
-      text = text.text;
-    }
+pub output_by : (externs : List (List ℕ)) (size : ℕ) (ss : List Statement) (P Q : Program) (out : List ℕ) → P ≡ program_of externs size ss → IsOneWorkers folding P Q → IsTextOf Q out → IsOutput externs size ss out
+output_by externs size ss P Q out p q text = record {
+  program = Q;
+  pieces = text.pieces;
+  names = text.names;
+  one_worker = subst (λ (z : Program). IsOneWorkers folding z Q) p q;
+  spelled = text.spelled;
+  named = text.named;
+  text = text.text;
+}

@@ -2,7 +2,9 @@
 use Rattle.std.specs.Prelude.{◌≡◌, ℕ, ◌+◌, ◌⊎◌, Bool, true, false, cond, nat_eq, IsTrue, List, [], ◌∷◌, ◌++◌, codes, length, Some}
 use Rattle.cc_host.specs.Host.{View, Contents, file_of, IfShown, KeepsOtherFiles}
 use Rattle.cc_host.specs.Count.{Rose}
-use Rattle.cc_passes.specs.Phases.{optimised}
+use Rattle.cc_ast.specs.Syntax.{Program}
+use Rattle.cc_core.specs.Events.{IsOneWorkers}
+use Rattle.cc_passes.specs.Phases.{folding}
 use Rattle.cc_driver.specs.declared.outcome.Outcome.{Outcome}
 use Rattle.cc_driver.specs.declared.outcome.Outcome.TheVariants.{Done, Read, Write, Unbuilt, Memory}
 use Rattle.cc_driver.specs.declared.spelling.Piece.{Piece}
@@ -20,12 +22,14 @@ pub record IsJob (words : List (List ℕ)) (externs source output : List ℕ) : 
 pub record WasRead (before : View) (file text : List ℕ) : Type 0 where
   pub held : (contents : Contents) → before.shown ≡ Some contents → file_of contents file ≡ Some text
 
--- the one text that is written for a source of so many bytes: of what the phases make of its program
+-- the one text that is written for a source of so many bytes: of the program that one worker makes of its program
 pub record IsOutput (externs : List (List ℕ)) (size : ℕ) (statements : List Statement) (output : List ℕ) : Type 0 where
+  pub program : Program
   pub pieces : List Piece
   pub names : List (List ℕ)
-  pub spelled : spell_chunk (optimised (program_of externs size statements)) 0 ≡ Some pieces
-  pub named : IsNaming (optimised (program_of externs size statements)) pieces names
+  pub one_worker : IsOneWorkers folding (program_of externs size statements) program
+  pub spelled : spell_chunk program 0 ≡ Some pieces
+  pub named : IsNaming program pieces names
   pub text : output ≡ text_of names pieces
 
 -- externs and a source of the form, with the text that is written for them

@@ -1,3 +1,3 @@
 pub mod CodeLaws
-pub mod DirtyLaws
+pub mod FoldingLaws
 pub mod RoundLaws

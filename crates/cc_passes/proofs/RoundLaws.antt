@@ -110,10 +110,6 @@ stands_first P = record {
 pub few_closed : {P : Program} {k : ℕ} {s : State} → Stands P k s → s.closed + 1 < 2 ^ 32
 few_closed h = let e = h.closed in let lt = h.few in omega (arith, e, lt)
 
-and_first : (a b : Bool) → is_some (cond (a && b) (Some 0) None) ≡ true → a ≡ true
-and_first true b e = refl
-and_first false b e = absurd (cc)
-
 record NextStep (step : ℕ) (o : Option ℕ) : Type 0 where
   few : step + 1 < most_rounds
   is : or_stay step o ≡ step + 1
@@ -149,7 +145,7 @@ below_or_there (suc j) (suc k) lt = up (below_or_there j k (omega (arith, lt)))
     up (there h) = there (ap suc h)
 
 at_round : {P : Program} {k : ℕ} {s : State} → Stands P k s → Sound folding s → (s.step, s.base) ≡ after_phases folding P k
-at_round {k = k} {s = s} h sound = sound.reached ∙ ap (λ (P : Program). after_phases folding P s.closed) h.source ∙ ap (λ (n : ℕ). after_phases folding P n) h.closed
+at_round {P = P} {k = k} {s = s} h sound = sound.reached ∙ ap (λ (Q : Program). after_phases folding Q s.closed) h.source ∙ ap (λ (n : ℕ). after_phases folding P n) h.closed
 
 -- another round follows
 pub stands_next : (P : Program) (k : ℕ) (s t : State) → Stands P k s → Sound folding s → follows folding s ≡ true → t ≡ after_close folding s → Stands P (suc k) t

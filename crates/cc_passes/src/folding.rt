@@ -1,5 +1,5 @@
 // The list of phases: rounds of folding.
-ghost use Rattle.std.specs.Prelude.{◌≡◌};
+ghost use Rattle.std.specs.Prelude.{◌≡◌, IfOk};
 ghost use Rattle.cc_passes.specs.Phases as phases;
 
 use cc_ast::program::{Heads, Program, Scope};
@@ -30,8 +30,16 @@ fn next_round(step: u32, same: bool) -> Option<u32>
     }
 }
 
+// The same slots.
+fn copy_of(alloc: Global, slots: &[u32]) -> Result<Vec<u32>, AllocError>
+    ensures { IfOk result (λ copy. copy.items ≡ slots.now) }
+{
+    let mut copy = Vec::with_capacity(alloc, slots.len())?;
+    copy.extend_from_slice(slots)?;
+    Ok(copy)
+}
+
 impl Rules for Folding {
-    ghost use Rattle.std.specs.Prelude.{Unit};
     ghost use Rattle.cc_passes.specs.Phases.{folding};
     ghost use Rattle.cc_passes.specs.Lawful.{folding_lawful};
 
@@ -99,7 +107,7 @@ impl Rules for Folding {
         let _ = before;
         let _ = after;
         let _ = step;
-        changed.to_vec(alloc)
+        copy_of(alloc, changed)
     }
 
     ghost lawful = { λ _. folding_lawful };

@@ -47,7 +47,6 @@ fn slots_below(alloc: Global, visited: u32, count: u32) -> Result<Vec<u32>, Allo
 }
 
 impl Rules for Rounds {
-    ghost use Rattle.std.specs.Prelude.{Unit};
     ghost use Rattle.core_bench.specs.Rounds.{rounds, rounds_lawful};
 
     type Plan = RoundPlan;

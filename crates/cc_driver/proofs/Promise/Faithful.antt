@@ -3,8 +3,7 @@ use Rattle.std.proofs.Common.{◌≡◌, ℕ, List, length, sym, subst, Some}
 use Rattle.cc_meaning.specs.Alike.{In, Alike}
 use Rattle.cc_ast.specs.Syntax.{Program}
 use Rattle.cc_tied.proofs.Alike.Ends.{joining}
-use Rattle.cc_passes.specs.Phases.{optimised}
-use Rattle.cc_passes.specs.Lawful.{rounds_keep}
+use Rattle.cc_passes.proofs.RoundLaws.{one_worker_keeps}
 use Rattle.cc_driver.specs.Form.{IsExterns, IsSource, IsReading}
 use Rattle.cc_driver.specs.Source.{program_of}
 use Rattle.cc_driver.specs.Spelling.{spell_chunk, text_of}
@@ -26,7 +25,7 @@ use Rattle.cc_driver.proofs.Promise.ReadAgain.{renaming, written_reads}
 use Rattle.cc_driver.proofs.Promise.AlikePrograms.{alike_again}
 use Rattle.cc_driver.proofs.Promise.SourceWellMade.{source_well}
 use Rattle.cc_driver.proofs.Promise.SourcePaths.{source_has_no_paths}
-use Rattle.cc_driver.proofs.Promise.Folded.{made_of, source_folds, made_sound}
+use Rattle.cc_driver.proofs.Promise.Folded.{source_folds}
 
 -- two readings of one text are equal
 pub reading_once : (externs : List (List ℕ)) (text : List ℕ) (ss ts : List Statement) → IsReading externs text ss → IsReading externs text ts → ss ≡ ts
@@ -57,23 +56,23 @@ pub output_faithful : (file : List ℕ) (externs : List (List ℕ)) (source : Li
 output_faithful file externs source ss text ex so out =
     let s : AreSound externs ss = sound_source externs source ss so in
     let S = program_of externs (length source) ss in
-    let ts : List Statement = made_of ss in
-    let t : AreSound externs ts = made_sound externs ss s in
+    let made = source_folds externs (length source) ss out.program s out.one_worker in
+    let ts : List Statement = made.statements in
+    let t : AreSound externs ts = made.sound in
     let P = program_of externs (length source) ts in
-    let made : optimised S ≡ P = source_folds externs (length source) ss s in
-    let spelled : spell_chunk P 0 ≡ Some out.pieces = subst (λ (p : Program). spell_chunk p 0 ≡ Some out.pieces) made out.spelled in
-    let named : IsNaming P out.pieces out.names = subst (λ (p : Program). IsNaming p out.pieces out.names) made out.named in
+    let spelled : spell_chunk P 0 ≡ Some out.pieces = subst (λ (p : Program). spell_chunk p 0 ≡ Some out.pieces) made.is out.spelled in
+    let named : IsNaming P out.pieces out.names = subst (λ (p : Program). IsNaming p out.pieces out.names) made.is out.named in
     let f = renaming file externs ts ex t (length source) out.pieces out.names named in
     let reading : IsReading externs text (statements_again f 0 ts) =
     subst (λ z. IsReading externs z (statements_again f 0 ts)) (sym out.text) (written_reads file externs ts ex t (length source) out.pieces out.names named spelled) in
     let E = program_of externs (length text) (statements_again f 0 ts) in
-    let kept = rounds_keep 12 S (source_well file externs source ss ex so) (source_has_no_paths externs (length source) ss) in
-    let alike : Alike (optimised S) E = subst (λ (p : Program). Alike p E) (sym made) (alike_again file externs ts ex t (length source) out.pieces out.names named (length text)) in
+    let kept = one_worker_keeps S out.program (source_well file externs source ss ex so) (source_has_no_paths externs (length source) ss) out.one_worker in
+    let alike : Alike out.program E = subst (λ (p : Program). Alike p E) (sym made.is) (alike_again file externs ts ex t (length source) out.pieces out.names named (length text)) in
     record {
       statements_read = statements_again f 0 ts;
       reading = reading;
       only = λ others h. reading_once externs text others (statements_again f 0 ts) h reading;
-      agrees = joining S (optimised S) E kept.0 kept.2 alike;
+      agrees = joining S out.program E kept.same kept.no_paths alike;
     }
 
 pub compiled_faithful : (externs source text : List ℕ) (c : IsCompiled externs source text) → IsFaithful c.names source c.statements text

@@ -15,7 +15,10 @@ use Rattle.cc_tied.specs.Placed.{a_value, a_callee, keeps, guard}
 use Rattle.cc_tied.specs.Rewrites.{put, put_call, re, re_all, re_value, re_option, re_declarator, re_declarators, re_stmt, re_stmts}
 use Rattle.cc_fold.specs.Built.{built_globals, built_in}
 use Rattle.cc_fold.specs.Fold.{price_of, unmarked, marked, charged, Literal, literal_at, literal, computed, computed_of_two, fold_binary, fold, same_call, same_declarator, same_name, same_stmt, fold_scope}
-use Rattle.cc_passes.specs.Phases.{folded, rounds, optimised}
+use Rattle.cc_core.specs.Work.{after_phases}
+use Rattle.cc_core.specs.Events.{IsOneWorkers}
+use Rattle.cc_passes.specs.Phases.{folded, folding}
+use Rattle.cc_passes.specs.Lawful.{phase_folds}
 use Rattle.cc_driver.specs.Source.{global_of_no_chunk, global_of_main, number_of, operand_tree, chain_tree, value_tree, statement_tree, global_names, main_scope, program_of}
 use Rattle.cc_driver.specs.Sound.{IsSmall, small, OperandFit, MoreFit, ValueFit, ValuesFit, StatementFit, StatementsFit, AreSound}
 use Rattle.cc_driver.specs.Names.{IsName, built_in_names}
@@ -179,16 +182,26 @@ round_folds externs size ss s =
     let P : S.Program = program_of externs size ss in
     ap (λ z. let p : S.Program = record P { scopes = z ∷ [] } in p) (scope_folds (built_in (built_globals P)) (global_names externs ss) ss s.writable) ∙ names_same externs size ss
 
-pub rounds_fold : (n : ℕ) (externs : List (List ℕ)) (size : ℕ) (ss : List Statement) → AreSound externs ss → rounds n (program_of externs size ss) ≡ program_of externs size (fold_times n ss)
-rounds_fold zero externs size ss s = refl
-rounds_fold (suc n) externs size ss s = ap (rounds n) (round_folds externs size ss s) ∙ rounds_fold n externs size (fold_all ss) (folded_sound externs ss s)
+once_more : (n : ℕ) (ss : List Statement) → fold_all (fold_times n ss) ≡ fold_times (suc n) ss
+once_more zero ss = refl
+once_more (suc n) ss = once_more n (fold_all ss)
 
--- what folding makes of the statements of a source, once and for all
-abbrev pub made_of : List Statement → List Statement
-made_of ss = fold_times 12 ss
+phases_fold : (n : ℕ) (externs : List (List ℕ)) (size : ℕ) (ss : List Statement) → AreSound externs ss → (after_phases folding (program_of externs size ss) n).1 ≡ program_of externs size (fold_times n ss)
+phases_fold zero externs size ss s = refl
+phases_fold (suc n) externs size ss s =
+    let p = after_phases folding (program_of externs size ss) n in
+    phase_folds p.1 p.0 ∙ ap folded (phases_fold n externs size ss s) ∙ round_folds externs size (fold_times n ss) (times_sound n externs ss s) ∙ ap (program_of externs size) (once_more n ss)
 
-pub source_folds : (externs : List (List ℕ)) (size : ℕ) (ss : List Statement) → AreSound externs ss → optimised (program_of externs size ss) ≡ program_of externs size (made_of ss)
-source_folds externs size ss s = rounds_fold 12 externs size ss s
+-- the program is that of sound statements
+pub record IsMade (externs : List (List ℕ)) (size : ℕ) (P : S.Program) : Type 0 where
+  pub statements : List Statement
+  pub sound : AreSound externs statements
+  pub is : P ≡ program_of externs size statements
 
-pub made_sound : (externs : List (List ℕ)) (ss : List Statement) → AreSound externs ss → AreSound externs (made_of ss)
-made_sound externs ss s = times_sound 12 externs ss s
+-- what one worker makes of a source is the program of what folding makes of its statements
+pub source_folds : (externs : List (List ℕ)) (size : ℕ) (ss : List Statement) (P : S.Program) → AreSound externs ss → IsOneWorkers folding (program_of externs size ss) P → IsMade externs size P
+source_folds externs size ss P s one = record {
+  statements = fold_times (suc one.count) ss;
+  sound = times_sound (suc one.count) externs ss s;
+  is = one.is ∙ phases_fold (suc one.count) externs size ss s;
+}

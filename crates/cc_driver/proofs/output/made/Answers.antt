@@ -8,7 +8,6 @@ use Rattle.cc_driver.specs.Spelling.{spell_chunk}
 use Rattle.cc_driver.proofs.OutputLemmas.{sound_globals_ascii, sound_is_spelled, made_again, output_by}
 use Rattle.cc_driver.specs.Sound.{AreSound}
 use Rattle.cc_driver.proofs.Promise.Fit.{sound_source}
-use Rattle.cc_driver.proofs.Promise.Folded.{made_of, made_sound}
 use Rattle.cc_driver.proofs.Promise.SourceWellMade.{source_well}
 use Rattle.cc_driver.proofs.Promise.SourcePaths.{source_has_no_paths}
 use Rattle.cc_driver.proofs.output.made.Goals as goal
@@ -28,19 +27,17 @@ optimise-requires-clause-no_paths c =
 pub written-requires-clause-spelled : goal.written-requires-clause-spelled
 written-requires-clause-spelled c =
     let externs = c.args.externs.now in
-    let ss = c.args.statements.now in
-    let sound : AreSound externs ss = sound_source externs c.requires.of_source.0 ss c.requires.of_source.2 in
-    let made : c.in_ok-program-2.program ≡ program_of externs c.args.size (made_of ss) = made_again externs c.args.size ss c.in_ok-program.program c.in_ok-program-2.program sound c.in_ok-program.ensures c.in_ok-program-2.ensures in
-    λ none. sound_is_spelled externs c.args.size (made_of ss) (made_sound externs ss sound) (subst (λ (p : Program). spell_chunk p 0 ≡ None) made none)
+    let sound : AreSound externs c.args.statements.now = sound_source externs c.requires.of_source.0 c.args.statements.now c.requires.of_source.2 in
+    let made = made_again externs c.args.size c.args.statements.now c.in_ok-program.program c.in_ok-program-2.program sound c.in_ok-program.ensures c.in_ok-program-2.ensures.one_worker in
+    λ none. sound_is_spelled externs c.args.size made.statements made.sound (subst (λ (p : Program). spell_chunk p 0 ≡ None) made.is none)
 
 pub written-requires-clause-ascii : goal.written-requires-clause-ascii
 written-requires-clause-ascii c =
     let externs = c.args.externs.now in
-    let ss = c.args.statements.now in
-    let sound : AreSound externs ss = sound_source externs c.requires.of_source.0 ss c.requires.of_source.2 in
-    let made : c.in_ok-program-2.program ≡ program_of externs c.args.size (made_of ss) = made_again externs c.args.size ss c.in_ok-program.program c.in_ok-program-2.program sound c.in_ok-program.ensures c.in_ok-program-2.ensures in
-    subst (λ (p : Program). All (λ (g : GlobalInfo). IsAscii g.name) p.globals) (sym made) (sound_globals_ascii c.requires.of_externs.0 externs c.args.size (made_of ss) c.requires.of_externs.1 (made_sound externs ss sound))
+    let sound : AreSound externs c.args.statements.now = sound_source externs c.requires.of_source.0 c.args.statements.now c.requires.of_source.2 in
+    let made = made_again externs c.args.size c.args.statements.now c.in_ok-program.program c.in_ok-program-2.program sound c.in_ok-program.ensures c.in_ok-program-2.ensures.one_worker in
+    subst (λ (p : Program). All (λ (g : GlobalInfo). IsAscii g.name) p.globals) (sym made.is) (sound_globals_ascii c.requires.of_externs.0 externs c.args.size made.statements c.requires.of_externs.1 made.sound)
 
 pub returns : goal.returns
 returns c =
-    output_by c.args.externs.now c.args.size c.args.statements.now c.in_ok-program.program c.in_ok-program-2.program c.in_ok-written.field-0.items c.in_ok-program.ensures c.in_ok-program-2.ensures c.in_ok-written.ensures
+    output_by c.args.externs.now c.args.size c.args.statements.now c.in_ok-program.program c.in_ok-program-2.program c.in_ok-written.field-0.items c.in_ok-program.ensures c.in_ok-program-2.ensures.one_worker c.in_ok-written.ensures
