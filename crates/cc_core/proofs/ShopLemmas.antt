@@ -1,5 +1,5 @@
 -- What a shop keeps at each call.
-use Rattle.std.proofs.Common.{◌≡◌, ℕ, zero, suc, ◌+◌, ◌<◌, List, [], ◌∷◌, length, Bool, true, false, Option, Some, None, cond, slice_get, slice_set, refl, sym, ap, ◌∙◌, subst, arith, position, ◌^◌, eq-eqb, is_some, add-one, slice_index_or}
+use Rattle.std.proofs.Common.{◌≡◌, ℕ, zero, suc, ◌+◌, ◌<◌, List, [], ◌∷◌, length, Bool, true, false, Option, Some, None, cond, slice_get, slice_set, refl, sym, ap, ◌∙◌, subst, arith, position, ◌^◌, ◌==◌, not, eq-eqb, eqb-true, is_some, add-one, slice_index_or}
 use Rattle.cc_ast.specs.Syntax.{Program, Scope, Heads}
 use Rattle.cc_core.specs.Work.{Work, Lawful, with_scopes, with_heads, heads_of, heads_after, rewrites, phase, step_after, mixed, after_phases, history, visited}
 use Rattle.cc_core.specs.State as core
@@ -14,7 +14,7 @@ use Rattle.cc_core.specs.declared.slots.Slot.{Slot}
 use Rattle.cc_core.specs.declared.slots.Mark.TheVariants.{Pending, Claimed, Kept, Changed, Aside}
 use Rattle.cc_core.specs.declared.programs.Change.{Change}
 use Rattle.cc_core.specs.SlotState.{mark_of, slot_of, slots_of, is_changed_inside, changes, due, open_at, idle}
-use Rattle.cc_core.specs.ShopState.{state_of, DiffersIf, Differ, Stands}
+use Rattle.cc_core.specs.ShopState.{state_of, DiffersIf, Differ, Stands, GoesOn}
 use Rattle.cc_core.proofs.KeptLaws.{Rewrites, all_done}
 use Rattle.cc_core.proofs.SlotLemmas.{length_slots_of}
 use Rattle.cc_core.proofs.CopyLaws.{length_differ, differ_set, differ_get, places_differ, written_differ, inside_differ, same_of_none, none_of_same, below_differ}
@@ -102,6 +102,11 @@ other_at None y = refl
 pub other_slots : (base : Program) (k : ℕ) (y : Scope) (ts ss : List core.Slot) → ts ≡ at_place (put_in y) k ss → ts ≡ at_place (put_in (made_at base k (Other y))) k ss
 other_slots base k y ts ss is = is ∙ ap (λ z. at_place (put_in z) k ss) (sym (other_at (slice_get base.scopes k) y))
 
+pub shown_state : {R : Type 0} (rules : R) (s t : State) → s ≡ t → ◌≡◌ {A = Shown R} (record { rules = rules; state = s }) (record { rules = rules; state = t })
+shown_state {R} rules s t e =
+    let shown : State → Shown R = λ s. record { rules = rules; state = s } in
+    ap shown e
+
 -- the program with its own heads
 own_heads : (p q : Program) (heads : Heads) → p ≡ with_heads q p.scopes heads → with_heads q p.scopes (heads_of p) ≡ p
 own_heads p q heads is =
@@ -132,6 +137,19 @@ stands_begin W law stands source made plan past fits few plan_is made_is past_is
       differ = subst (λ (xs : List Scope). Differ source.scopes xs (changes (due 0 (λ _. true) (length source.scopes)))) (sym scopes) (differ_due 0 (λ _. true) (length source.scopes) source.scopes refl);
       past_is = past_is;
     }
+
+-- a list of length 0 is empty
+pub none_of_empty : (n : ℕ) (ks : List ℕ) → n ≡ length ks → (n == 0) ≡ true → ks ≡ []
+none_of_empty n [] len e = refl
+none_of_empty n (k ∷ ks) len e = absurd (let z : n ≡ 0 = eqb-true n 0 e in omega (arith, len, z))
+
+pub empty_of_none : (n : ℕ) (ks : List ℕ) → n ≡ length ks → ks ≡ [] → (n == 0) ≡ true
+empty_of_none n ks len none = eq-eqb n 0 (len ∙ ap length none)
+
+scope_at : (xs : List Scope) (k : ℕ) → k < length xs → (x : Scope) × (slice_get xs k ≡ Some x)
+scope_at [] k lt = absurd (omega (arith, lt))
+scope_at (x ∷ xs) zero lt = (x, refl)
+scope_at (x ∷ xs) (suc k) lt = scope_at xs k (omega (arith, lt))
 
 module _ {P Q : Type 0} (W : Work P) (law : Lawful W) (stands : Q → List (ℕ × Program) → Type 0) (source : Program) (closed step : ℕ) (base made : Program) (slots : List Slot) (plan : P) (past : Q) (st : Stands W stands source closed step base made slots plan past) where
   abbrev now : State
@@ -318,3 +336,69 @@ module _ {P Q : Type 0} (W : Work P) (law : Lawful W) (stands : Q → List (ℕ 
 
   pub below_changed : (i d : ℕ) → i < length (places (λ b. b) 0 (changes slots)) → slice_index_or (places (λ b. b) 0 (changes slots)) i d < length made.scopes
   below_changed i d lt = below_differ base.scopes made.scopes (changes slots) st.differ i d lt
+
+  -- a put of the scope itself, whether or not the slot was done
+  pub same_put : (phase k : ℕ) (ts : List Slot) (first : Bool) → k < length slots → is_done_at k (slots_of made.scopes slots) ≡ not first
+      → (first ≡ true → (xs : List Scope) (y : Scope) → k < length xs → slots_of (slice_set xs k y) ts ≡ at_place (put_in y) k (slots_of xs slots))
+      → (first ≡ false → (xs : List Scope) (y : Scope) → slots_of xs ts ≡ at_place (put_in y) k (slots_of xs slots))
+      → (first ≡ true → changes ts ≡ slice_set (changes slots) k false) → (first ≡ false → changes ts ≡ changes slots)
+      → (changes ts ≡ changes slots) × (slots_of made.scopes ts ≡ at_place (put_in (made_at base k Same)) k (slots_of made.scopes slots))
+  same_put phase k ts true lt is_open put late flags flags_late =
+      let x = scope_at base.scopes k (let e = length_slots in omega (arith, lt, e)) in
+      (same_flags k ts lt is_open (flags refl), same_slots k x.0 ts lt is_open x.1 (put refl made.scopes x.0 (in_made k lt)))
+  same_put phase k ts false lt is_open put late flags flags_late = (flags_late refl, late refl made.scopes (made_at base k Same))
+
+  -- what was made is the rewrite, where it comes by a claim of this phase
+  pub may_put : (phase k : ℕ) (m : Made) → phase ≡ closed → IsMade W closed step base phase k m → IsRewrite W now closed k (made_at base k m)
+  may_put phase k m is may e = made_may W now phase k m may is
+
+  pub may_other : (phase k : ℕ) (y : Scope) → phase ≡ closed → IsMade W closed step base phase k (Other y) → IsRewrite W now closed k y
+  may_other phase k y is may e x get = (may is x get).0
+
+  pub tells_other : (phase k : ℕ) (y : Scope) → phase ≡ closed → IsMade W closed step base phase k (Other y) → (x : Scope) → slice_get base.scopes k ≡ Some x → y ≡ x → ⊥
+  tells_other phase k y is may x get e = (may is x get).1 e
+
+  -- ---- what a close has made ready
+
+  pub turned_due : undone (slots_of made.scopes slots) ≡ 0 → (goes : Bool) (step' : ℕ) (changed : List ℕ) (scopes : List Change) (heads : Heads) (plan' : P) (heads' : Heads) (all : List ℕ) → GoesOn W now goes step' changed scopes heads plan' heads' all
+      → (some : List ℕ) → some ≡ chosen (W.visits ((step, base) ∷ history W source closed) step' made) 0 (length made.scopes)
+      → cond goes some all ≡ chosen (is_due W now) 0 (length slots)
+  turned_due none goes step' changed scopes heads plan' heads' all on some some_is =
+      let past : List (ℕ × Program) = (step, base) ∷ history W source closed in
+      let visits : W.visits past step' made ≡ W.visits past (step_after W step base) (phase W step base) =
+          ap (λ (n : ℕ). W.visits past n made) on.step_is ∙ ap (W.visits past (step_after W step base)) (made_phase none) in
+      due_slots (length slots) goes some all on.follows_is
+      (some_is ∙ (ap (λ (v : ℕ → Bool). chosen v 0 (length made.scopes)) visits ∙ ap (chosen (W.visits past (step_after W step base) (phase W step base)) 0) (sym slots_made)))
+      (λ e. on.all_are e ∙ ap (chosen (λ _. true) 0) (length_slots_of made.scopes slots))
+
+  pub turned_base : undone (slots_of made.scopes slots) ≡ 0 → (goes : Bool) (step' : ℕ) (changed : List ℕ) (scopes : List Change) (heads : Heads) (plan' : P) (heads' : Heads) (all : List ℕ) → GoesOn W now goes step' changed scopes heads plan' heads' all
+      → (base' : Program) → base' ≡ with_heads (with_scopes base (written scopes base.scopes)) (written scopes base.scopes) heads → base' ≡ phase W step base
+  turned_base none goes step' changed scopes heads plan' heads' all on base' is = is ∙ base_turned none scopes heads (scopes_are none changed scopes on.changed_is on.scopes_are) on.heads_are
+
+  pub turned_stands : undone (slots_of made.scopes slots) ≡ 0 → (goes : Bool) (step' : ℕ) (changed : List ℕ) (scopes : List Change) (heads : Heads) (plan' : P) (heads' : Heads) (all : List ℕ) → GoesOn W now goes step' changed scopes heads plan' heads' all
+      → (base' made' : Program) → base' ≡ phase W step base → made' ≡ with_heads made made.scopes heads' → (past' : Q) → stands past' ((step, base) ∷ history W source closed)
+      → Stands W stands source (closed + 1) step' base' made' (due (closed + 1) (is_due W now) (length slots)) plan' past'
+  turned_stands none goes step' changed scopes heads plan' heads' all on base' made' base_is made_is past' past_is =
+      stands_close step' base' made' plan' past' on.step_is base_is (made_is ∙ made_turned none step' base' heads' base_is on.next_heads_are) (on.plan_is ∙ ap (W.plan step') (sym base_is)) past_is
+
+  pub turned_state : undone (slots_of made.scopes slots) ≡ 0 → (goes : Bool) (step' : ℕ) (changed : List ℕ) (scopes : List Change) (heads : Heads) (plan' : P) (heads' : Heads) (all : List ℕ) → GoesOn W now goes step' changed scopes heads plan' heads' all
+      → (base' made' : Program) → base' ≡ phase W step base → made' ≡ with_heads made made.scopes heads'
+      → state_of source (closed + 1) step' base' made' (due (closed + 1) (is_due W now) (length slots)) ≡ event W now Closes
+  turned_state none goes step' changed scopes heads plan' heads' all on base' made' base_is made_is =
+      closed_state step' base' made' on.step_is base_is (ap (λ (p : Program). p.scopes) made_is ∙ ap (λ (p : Program). p.scopes) (made_phase none ∙ sym base_is)) ∙ closed_event none
+
+  -- what a turn is made of
+  pub changed_turn : undone (slots_of made.scopes slots) ≡ 0 → (changed : List ℕ) → changed ≡ places (λ b. b) 0 (changes slots) → changed ≡ differing 0 base.scopes (phase W step base).scopes
+  changed_turn none changed is = is ∙ (places_differ 0 base.scopes made.scopes (changes slots) st.differ ∙ ap (λ (p : Program). differing 0 base.scopes p.scopes) (made_phase none))
+
+  pub scopes_turn : undone (slots_of made.scopes slots) ≡ 0 → (changed : List ℕ) (scopes : List Change) → scopes ≡ copies made.scopes changed → scopes ≡ copies (phase W step base).scopes changed
+  scopes_turn none changed scopes is = is ∙ ap (λ (p : Program). copies p.scopes changed) (made_phase none)
+
+  pub heads_turn : undone (slots_of made.scopes slots) ≡ 0 → (heads : Heads) → heads ≡ heads_of made → heads ≡ heads_of (phase W step base)
+  heads_turn none heads is = is ∙ ap heads_of (made_phase none)
+
+  pub stays_empty : undone (slots_of made.scopes slots) ≡ 0 → W.local step ≡ true → (n : ℕ) (changed : List ℕ) → changed ≡ places (λ b. b) 0 (changes slots) → n ≡ length changed → (n == 0) ≡ true → base ≡ phase W step base
+  stays_empty none local n changed is len e = stays none local (sym is ∙ none_of_empty n changed len e)
+
+  pub empty_stays : undone (slots_of made.scopes slots) ≡ 0 → base ≡ phase W step base → (n : ℕ) (changed : List ℕ) → changed ≡ places (λ b. b) 0 (changes slots) → n ≡ length changed → (n == 0) ≡ true
+  empty_stays none same n changed is len = empty_of_none n changed len (is ∙ none_changed none same)

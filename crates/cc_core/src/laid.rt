@@ -84,7 +84,7 @@ pub(crate) struct Ready<R: Rules> {
 }
 
 /// Makes ready for the first step.
-pub(crate) fn ready<R: Rules>(
+pub(crate) fn make_ready<R: Rules>(
     alloc: Global,
     rules: &R,
     base: &Program,

@@ -17,3 +17,4 @@ mod slots;
 mod source;
 pub mod theorem;
 pub mod threads;
+mod visits;

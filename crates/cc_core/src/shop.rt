@@ -8,14 +8,15 @@ ghost use Rattle.cc_core.specs.ShopState.{GoesOn};
 
 use crate::bench::{Bench, lay_out};
 use crate::claim::Claim;
-use crate::laid::{Laid, Ready, lay, ready};
+use crate::laid::{Laid, Ready, lay, make_ready};
 use crate::made::{Made, make};
 use crate::programs::{
     Change, exchange_heads, handle_on, heads_of, scopes_at, set_changes, set_scope,
 };
 use crate::rules::Rules;
-use crate::slots::{Slots, all_slots};
+use crate::slots::Slots;
 use crate::source::Source;
+use crate::visits::all_slots;
 use cc_ast::copy::copy_program;
 use cc_ast::program::{Heads, Program};
 use std::alloc::{AllocError, Global};
@@ -127,7 +128,7 @@ impl<R: Rules> Shop<R> {
         requires few { length base.scopes < 2 ^ 32 }
         ensures { IfOk result (λ s. s ≡ record { rules = rules.value; state = started base }) }
     {
-        let Ok(ready) = ready(alloc, &*rules, &base) else {
+        let Ok(ready) = make_ready(alloc, &*rules, &base) else {
             return Err(AllocError);
         };
         let Ready {

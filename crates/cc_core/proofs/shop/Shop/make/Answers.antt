@@ -6,12 +6,12 @@ use Rattle.cc_core.proofs.Arranging.{if_ok}
 use Rattle.cc_core.proofs.shop.Shop.make.Goals as goal
 
 pub make-requires-clause-slot : goal.make-requires-clause-slot
-make-requires-clause-slot g c =
-    let h : c.args.claim.now.slot < length (slots_of c.self.inside.made.scopes c.self.inside.slots.slots) = rw (← c.self.view_is) at c.requires in
+make-requires-clause-slot g c κs within =
+    let h : c.args.claim.now.slot < length (slots_of c.self.inside.made.scopes c.self.inside.slots.slots) = rw (← c.self.view_is) at c.requires.slot in
     subst (λ (n : ℕ). c.args.claim.now.slot < n) (kept_length _ _ _ c.self.invariant.sound.kept) h
 
 pub make-requires-clause-step : goal.make-requires-clause-step
-make-requires-clause-step g c =
+make-requires-clause-step g c κs within =
     rw (c.deref.ensures, c.deref-2.ensures) (c.self.inside.step, (c.self.invariant.sound.fits, c.self.invariant.plan_is))
 
 pub returns : goal.returns

@@ -5,8 +5,8 @@ use Rattle.cc_core.proofs.shop.Shop.repeat.Goals as goal
 
 pub repeat-requires : goal.repeat-requires
 repeat-requires g c =
-    let room = c.requires in
-    room_inside c.self.inside.made.scopes c.self.inside.slots.slots (rw (← c.self.view_is) at room)
+    let room = c.requires.room in
+    record { room = room_inside c.self.inside.made.scopes c.self.inside.slots.slots (rw (← c.self.view_is) at room) }
 
 pub invariant_of-self-2 : goal.invariant_of-self-2
 invariant_of-self-2 g c =

@@ -1,6 +1,0 @@
-use Rattle.std.proofs.Common.{◌≡◌}
-use Rattle.cc_core.specs.SlotState.{all_idle}
-use Rattle.cc_core.proofs.slots.idle_slots.Given as goal
-
-abbrev pub invariant-loop-i : goal.invariant-loop-i
-invariant-loop-i l = l.items.items ≡ all_idle l.fn.phase l._i
