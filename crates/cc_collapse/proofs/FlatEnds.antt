@@ -38,6 +38,7 @@ use Rattle.cc_collapse.proofs.FlatReads.{T, W}
 use Rattle.cc_collapse.proofs.FlatPairs.{K}
 use Rattle.cc_collapse.proofs.FlatRules.{exchange, flat_rules}
 use Rattle.cc_collapse.proofs.FlatWrites.{Globals}
+use Rattle.cc_collapse.proofs.FlatLists.{OwnSs, list_hoists, chunk_runs}
 use Rattle.cc_collapse.proofs.FlatOwn.{Known, known_later, known_more, split, whole_as, OwnT, below_at}
 
 abbrev no_value : GlobalInfo → Option Val
@@ -192,3 +193,10 @@ module _ (F : Facts) (P Q : Program) (A : Plan (tables_of P)) (G : Globals F (ta
         chunks = λ l c q d d' w le le' a b all. chunk_run l c q d d' all w le le' a b;
       }) sc f n no_tabs (λ h m n i. absurd (none_in i)) (starts sc.replies n);
     }
+
+  -- .. where the own lists stand in the relation of trees
+  pub same_by_lists : ((f f' : ℕ) → KF.FunT f f' → L.FlatSs KF.Ctx KF.in_catch (exchange F (tables_of P) A) (KF.inside f f') (body_of P f) (body_of Q f')) → ((c : ℕ) → OwnSs F (tables_of P) A setting c [] (body_of P c) (body_of Q c)) → Same P Q
+  same_by_lists functions lists = same_by_flat functions (λ c. record {
+    hoists = λ d d' all w le le'. list_hoists F (tables_of P) A setting c G (below_at F (tables_of P) A G exact c (λ h. ⊥) P Q d d' all w le le') (lists c);
+    runs = λ D End more free own d d' all. chunk_runs F (tables_of P) A setting c G exact D End more free own P Q d d' all (lists c);
+  })

@@ -232,7 +232,7 @@ module _ (K : Kit) (X : Below K) (A : L.Exchange K.Ctx) where
 
     -- ---- functions that are bound before a list runs
 
-    hoist_one : {c : K.Ctx} {s s' : Stmt} → L.FlatS K.Ctx K.in_catch A c s s' → S.FollowsHoistOne K X c s s'
+    pub hoist_one : {c : K.Ctx} {s s' : Stmt} → L.FlatS K.Ctx K.in_catch A c s s' → S.FollowsHoistOne K X c s s'
     unfolding S.declares_function
     hoist_one {c = c} (L.fun_s {f = f} {r = r} m w) = S.hoist_fun K X c s_ (R.makes c f m) (R.writes c r w)
     hoist_one {c = c} (L.simple_s h) = S.hoist_other K X c _ _ refl refl

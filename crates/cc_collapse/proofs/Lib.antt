@@ -22,4 +22,5 @@ pub mod FlatInner
 pub mod FlatRules
 pub mod FlatChunks
 pub mod FlatOwn
+pub mod FlatLists
 pub mod FlatEnds
