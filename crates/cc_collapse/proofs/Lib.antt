@@ -24,3 +24,4 @@ pub mod FlatChunks
 pub mod FlatOwn
 pub mod FlatLists
 pub mod FlatEnds
+pub mod NamespacePlan

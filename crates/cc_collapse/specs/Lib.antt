@@ -1,3 +1,4 @@
 pub mod Paths
 pub mod Flattening
 pub mod Law
+pub mod Namespaces
