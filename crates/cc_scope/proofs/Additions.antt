@@ -23,6 +23,10 @@ pub record IsAdded (S : Source) : Type 0 where
   pub one_class : (a b f : ℕ) (c d : Class) → slice_get S.added.classes a ≡ Some c → slice_get S.added.classes b ≡ Some d → IsCode c f → IsCode d f → a ≡ b
   pub methods : (f : ℕ) (v : Path) (q g : ℕ) → In (sets_method v q g) (parts_of (program_of S) f) → HasMethod (program_of S) v q g
   pub paths : (n : ℕ) (g : GlobalInfo) → slice_get (globals_of S) n ≡ Some g → ArePaths (program_of S) n g.flat
+
+-- the numbers of globals with their paths, of docs and of classes are below 2^32, also after each method has
+-- become a global and has got a doc
+pub record AddedAreFew (S : Source) : Type 0 where
   pub globals_few : length (globals_of S) + path_count (globals_of S) + method_count S.added.classes < 2 ^ 32
   pub docs_few : length S.added.docs + method_count S.added.classes < 2 ^ 32
   pub classes_few : length S.added.classes < 2 ^ 32

@@ -32,7 +32,7 @@ use Rattle.cc_scope.specs.Marks as m
 use Rattle.cc_scope.specs.Refusals as f
 use Rattle.cc_scope.specs.Grammatical as g
 use Rattle.cc_scope.specs.Promises.{Readable, Grammatical, AreFew}
-use Rattle.cc_scope.proofs.NothingAdded.{nothing_is_added}
+use Rattle.cc_scope.proofs.NothingAdded.{nothing_is_added, few_are_added}
 use Rattle.cc_scope.proofs.Made.{well_made}
 
 abbrev o : Place
@@ -211,4 +211,4 @@ unfolding shut_source
 unrefused = refl
 
 made : wm.WellMade (program_of source)
-made = well_made source readable grammatical unrefused few (nothing_is_added source few refl)
+made = well_made source readable grammatical unrefused few (nothing_is_added source refl) (few_are_added source few refl)

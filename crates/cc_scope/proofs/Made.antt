@@ -26,8 +26,8 @@ use Rattle.cc_scope.proofs.Standing.{each_stands, plain, given, the_parts, top_i
 use Rattle.cc_scope.proofs.Sound.{part, made, meant}
 use Rattle.cc_scope.proofs.Well as well
 use Rattle.cc_scope.proofs.Lists.{new_shorter}
-use Rattle.cc_scope.proofs.Additions.{IsAdded}
-use Rattle.cc_scope.proofs.NothingAdded.{nothing_is_added}
+use Rattle.cc_scope.proofs.Additions.{IsAdded, AddedAreFew}
+use Rattle.cc_scope.proofs.NothingAdded.{nothing_is_added, few_are_added}
 
 -- ---- lists
 
@@ -163,7 +163,7 @@ module _ (S : Source) (R : Readable S) (fitting : Grammatical S) (unrefused : re
   pub functions_once : IsDistinct (all_functions (tables_of (program_of S)) (program_of S).scopes)
   functions_once = once_from 0 (program_of S).scopes (λ k s e. subst (λ i. slice_get (program_of S).scopes i ≡ Some s) (let z : k ≡ 0 + k = omega arith in z) e)
 
-module _ (S : Source) (R : Readable S) (fitting : Grammatical S) (unrefused : refusals_of S ≡ []) (few : AreFew S) (A : IsAdded S) where
+module _ (S : Source) (R : Readable S) (fitting : Grammatical S) (unrefused : refusals_of S ≡ []) (few : AreFew S) (A : IsAdded S) (added_few : AddedAreFew S) where
   -- ---- scopes
 
   well_body : {f : ℕ} {top : Bool} {E : Frames} {b : RawStmts} {n : Counters} → Stands S f top E b n → stmts_well (tables_of (program_of S)) (opened (program_of S) f) [] (stmts_of (outer_of S) E n b) ≡ true
@@ -215,15 +215,15 @@ module _ (S : Source) (R : Readable S) (fitting : Grammatical S) (unrefused : re
 
   globals_few : length (program_of S).globals + path_count (program_of S).globals + method_count (program_of S).classes < 2 ^ 32
   unfolding program_of
-  globals_few = A.globals_few
+  globals_few = added_few.globals_few
 
   docs_few : length (program_of S).docs + method_count (program_of S).classes < 2 ^ 32
   unfolding program_of
-  docs_few = A.docs_few
+  docs_few = added_few.docs_few
 
   classes_few : length (program_of S).classes < 2 ^ 32
   unfolding program_of
-  classes_few = A.classes_few
+  classes_few = added_few.classes_few
 
   counted : IsCounted (program_of S)
   counted = record {
@@ -257,4 +257,4 @@ module _ (S : Source) (R : Readable S) (fitting : Grammatical S) (unrefused : re
 
 -- what is answered is the program, and nothing is refused
 pub answered_made : (S : Source) (Q : Program) → Readable S → Grammatical S → AreFew S → S.added ≡ nothing_added → resolve S ≡ answered Q → WellMade Q
-answered_made S Q r g f a e = let d = (exact S Q).0 e in subst (λ z. WellMade z) d.1 (well_made S r g d.0 f (nothing_is_added S f a))
+answered_made S Q r g f a e = let d = (exact S Q).0 e in subst (λ z. WellMade z) d.1 (well_made S r g d.0 f (nothing_is_added S a) (few_are_added S f a))

@@ -13,7 +13,7 @@ use Rattle.cc_scope.specs.Resolve.{nothing_added, says_nothing, outer_info, chun
 use Rattle.cc_scope.specs.Promises.{AreFew}
 use Rattle.cc_scope.proofs.Tables.{mapped_at, split_at}
 use Rattle.cc_scope.proofs.Lists.{globals_length}
-use Rattle.cc_scope.proofs.Additions.{IsAdded}
+use Rattle.cc_scope.proofs.Additions.{IsAdded, AddedAreFew}
 
 no_paths : (xs ys : List GlobalInfo) → path_count xs ≡ 0 → path_count ys ≡ 0 → path_count (xs ++ ys) ≡ 0
 unfolding path_count
@@ -59,9 +59,9 @@ without_paths : (S : Source) → path_count (globals_of (plain S)) ≡ 0
 unfolding globals_of
 without_paths S = no_paths (map outer_info (S.externs ++ builtin_globals)) (map (chunk_info nothing_added S.trees) (distinct (all_declared S.trees))) (no_outer_paths (S.externs ++ builtin_globals)) (no_chunk_paths S.trees (distinct (all_declared S.trees)))
 
-plain_added : (S : Source) → AreFew S → IsAdded (plain S)
-unfolding method_count program_of
-plain_added S few = record {
+plain_added : (S : Source) → IsAdded (plain S)
+unfolding program_of
+plain_added S = record {
   casts = λ q. lit< tt;
   functions = λ f. lit< tt;
   variables = λ x. lit< tt;
@@ -72,10 +72,18 @@ plain_added S few = record {
   one_class = λ a b f c d e h i j. absurd (cc);
   methods = λ f v q g i. record { method = λ h c k j e y. absurd (cc) };
   paths = paths_at S;
+}
+
+plain_few : (S : Source) → AreFew S → AddedAreFew (plain S)
+unfolding method_count
+plain_few S few = record {
   globals_few = let a = globals_length (plain S) in let b = without_paths S in omega (arith, few);
   docs_few = lit< tt;
   classes_few = lit< tt;
 }
 
-pub nothing_is_added : (S : Source) → AreFew S → S.added ≡ nothing_added → IsAdded S
-nothing_is_added S few e = subst (λ z. IsAdded z) (ap (λ A. record S { added = A }) (sym e)) (plain_added S few)
+pub nothing_is_added : (S : Source) → S.added ≡ nothing_added → IsAdded S
+nothing_is_added S e = subst (λ z. IsAdded z) (ap (λ A. record S { added = A }) (sym e)) (plain_added S)
+
+pub few_are_added : (S : Source) → AreFew S → S.added ≡ nothing_added → AddedAreFew S
+few_are_added S few e = subst (λ z. AddedAreFew z) (ap (λ A. record S { added = A }) (sym e)) (plain_few S few)

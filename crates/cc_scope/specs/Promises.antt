@@ -11,7 +11,10 @@ use Rattle.cc_ast.specs.declared.tables.SiteDoc.{SiteDoc}
 use Rattle.cc_lexer.specs.declared.token.Token.{Token}
 use Rattle.cc_lexer.specs.Lexes.{Lexed}
 use Rattle.cc_meaning.specs.Operators.{is_in}
-use Rattle.cc_meaning.specs.WellMade.{Encloses, IsDistinct, IsProp, IsClass, IsCode, IsDoc, IsOrdered, IsGlobal, ArePaths, opened, stmts_well, refused_names, WellMade}
+use Rattle.cc_meaning.specs.State.{Path}
+use Rattle.cc_meaning.specs.Parts.{sets_method}
+use Rattle.cc_scope.specs.Resolution.{Input, resolution, resolved, source_of, all_refusals, first_cycle}
+use Rattle.cc_meaning.specs.WellMade.{HasMethod, parts_of, Encloses, IsDistinct, IsProp, IsClass, IsCode, IsDoc, IsOrdered, IsGlobal, ArePaths, opened, stmts_well, refused_names, WellMade}
 use Rattle.cc_meaning.specs.Names.{builtin_globals, always_kept, is_index}
 use Rattle.cc_meaning.specs.Store.{of_chunk, outer_global, global_kind}
 use Rattle.cc_meaning.specs.Shapes.{tables_of, body_of}
@@ -122,7 +125,7 @@ pub record HasTables (P : Program) : Type 0 where
 
 -- the tables of what is resolved are those of a well made program
 abbrev pub TablesAreMade : Type 0
-TablesAreMade = (S : Source) → Readable S → AreFew S → S.added ≡ nothing_added → HasTables (program_of S)
+TablesAreMade = (S : Source) → Readable S → S.added ≡ nothing_added → HasTables (program_of S)
 
 -- one scope for each chunk and function, and one place for each site
 abbrev pub AreCounted : Type 0
@@ -153,3 +156,18 @@ LastDeclarationCounts = (x : Name) (es : List Declaration) (e : Declaration) (cs
 -- what is annotated as a variable of statements, they declare
 abbrev pub AnnotatedAreDeclared : Type 0
 AnnotatedAreDeclared = (t : RawStmts) (d : Declaration) → In d (stmts_at t) → In d.variable (stmts_declare t)
+
+-- the clauses of a well made program that speak of its classes, their methods and its docs
+pub record HasClasses (P : Program) : Type 0 where
+  pub classes : (a : ℕ) (c : Class) → slice_get P.classes a ≡ Some c → IsClass P a c
+  pub one_class : (a b f : ℕ) (c d : Class) → slice_get P.classes a ≡ Some c → slice_get P.classes b ≡ Some d → IsCode c f → IsCode d f → a ≡ b
+  pub methods : (f : ℕ) (v : Path) (q g : ℕ) → In (sets_method v q g) (parts_of P f) → HasMethod P v q g
+  pub docs : (n : ℕ) (d : SiteDoc) → slice_get P.docs n ≡ Some d → IsDoc P d
+
+-- The classes, methods and docs of what resolution answers are those of a well made program.
+abbrev pub ClassesAreMade : Type 0
+ClassesAreMade = (I : Input) (Q : Program) → Readable (source_of I) → Grammatical (source_of I) → resolution I ≡ resolved Q → HasClasses Q
+
+-- a program is answered exactly where nothing is over the limit, refused or in a cycle
+abbrev pub IsResolved : Type 0
+IsResolved = (I : Input) (Q : Program) → (resolution I ≡ resolved Q) ↔ ((too_many (source_of I) ≡ None) × (all_refusals I ≡ []) × (first_cycle I ≡ None) × (program_of (source_of I) ≡ Q))

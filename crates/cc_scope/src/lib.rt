@@ -2,7 +2,7 @@
 //! go into one table. The functions here state laws of it, and do nothing.
 #![tactic(auto)]
 
-ghost use Rattle.cc_scope.specs.Promises.{ReadsBack, TablesAreMade, AreCounted, IsExact, NoLoop, IsAnswered, IsWellMade, IsLimited, LastCounts, LastDeclarationCounts, AnnotatedAreDeclared, IsOfReading};
+ghost use Rattle.cc_scope.specs.Promises.{ReadsBack, TablesAreMade, AreCounted, IsExact, NoLoop, IsAnswered, IsWellMade, IsLimited, LastCounts, LastDeclarationCounts, AnnotatedAreDeclared, IsOfReading, ClassesAreMade, IsResolved};
 
 /// What is written with names and resolved again is alike to what was written.
 pub fn reads_back()
@@ -43,4 +43,16 @@ pub fn the_last_comment_counts()
     ensures of_places { LastCounts }
     ensures of_variables { LastDeclarationCounts }
     ensures of_declarations { AnnotatedAreDeclared }
+{}
+
+/// The classes of what resolution answers, with their methods and fields, and its docs are those of a
+/// well made program, whatever is annotated.
+pub fn resolved_classes_are_well_made()
+    ensures { ClassesAreMade }
+{}
+
+/// Resolution answers a program exactly where no function is one too many, nothing is refused and no
+/// class extends or implements itself.
+pub fn resolution_answers()
+    ensures { IsResolved }
 {}

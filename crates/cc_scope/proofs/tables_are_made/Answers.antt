@@ -3,4 +3,4 @@ use Rattle.cc_scope.proofs.Tables as t
 use Rattle.cc_scope.proofs.NothingAdded as n
 
 pub returns : goal.returns
-returns c = λ S R few e. t.made S R (n.nothing_is_added S few e)
+returns c = λ S R e. t.made S R (n.nothing_is_added S e)
