@@ -1,5 +1,4 @@
 pub mod StepLemmas
-pub mod OutputLemmas
 pub mod CompileLemmas
 pub mod CompletesLemmas
 pub mod Runs
@@ -13,13 +12,4 @@ pub mod Tables
 pub mod NameLaws
 pub mod Resolved
 pub mod SourceLaws
-pub mod SpellingLaws
-pub mod NumberLaws
-pub mod RankLaws
-pub mod FreshLaws
-pub mod GivenLaws
-pub mod NamingLaws
-pub mod SetLaws
-pub mod PassedLaws
-pub mod GivingLaws
 pub mod Promise

@@ -1,5 +1,5 @@
 -- What the program of a source of the form is like.
-use Rattle.std.proofs.Common.{◌≡◌, ℕ, ◌<◌, ◌≤◌, Bool, true, false, nat_lt, nat_le, nat_eq, List, [], ◌∷◌, ◌++◌, map, Some, refl, sym, ◌∙◌, ⊎_elim, arith, codes, All, Contains, leb-true, eqb-true, lt-ltb}
+use Rattle.std.proofs.Common.{◌≡◌, ℕ, ◌<◌, ◌≤◌, Bool, true, false, nat_lt, nat_le, nat_eq, List, [], ◌∷◌, ◌++◌, map, refl, sym, ◌∙◌, ⊎_elim, arith, codes, All, Contains, leb-true, eqb-true, lt-ltb}
 use Rattle.std.specs.List.{list_all, IsDistinct}
 use Rattle.std.specs.Str.{bytes_eq}
 use Rattle.std.proofs.lemmas.Bool.{and_parts, and_from, or_cases, not-true}
@@ -11,12 +11,9 @@ use Rattle.cc_driver.specs.Form as form
 use Rattle.cc_driver.specs.Form.{IsFunctions, IsExterns, IsSource, declared}
 use Rattle.cc_driver.specs.Source.{program_of, global_names, global_of_no_chunk, global_of_main}
 use Rattle.cc_driver.specs.Sound.{AreSound}
-use Rattle.cc_driver.specs.Spelling.{spell_chunk}
 use Rattle.cc_driver.specs.declared.form.Statement.{Statement}
-use Rattle.cc_driver.specs.declared.spelling.Piece.{Piece}
 use Rattle.cc_driver.proofs.NameLaws.{Distinct, or_none, missing, absent, distinct_append}
 use Rattle.cc_driver.proofs.Promise.Fit.{sound_source, declared_named}
-use Rattle.cc_driver.proofs.Promise.Text.{sound_spelled}
 
 -- a name in ASCII
 abbrev pub is_ascii_name : List ℕ → Bool
@@ -30,45 +27,18 @@ in_range low high c most e =
 alike : (c d : ℕ) → d < 128 → nat_eq c d ≡ true → nat_lt c 128 ≡ true
 alike c d most e = let same : c ≡ d = eqb-true c d e in lt-ltb c 128 (omega arith)
 
-part_ascii : (c : ℕ) → is_name_part c ≡ true → nat_lt c 128 ≡ true
+pub part_ascii : (c : ℕ) → is_name_part c ≡ true → nat_lt c 128 ≡ true
 part_ascii c e =
     ⊎_elim (λ s. ⊎_elim (λ t. ⊎_elim (λ u. ⊎_elim (in_range 97 122 c (omega arith)) (in_range 65 90 c (omega arith)) (or_cases _ _ u)) (alike c 36 (omega arith)) (or_cases _ _ t)) (alike c 95 (omega arith)) (or_cases _ _ s))
     (in_range 48 57 c (omega arith)) (or_cases _ _ e)
 
-parts_ascii : (n : List ℕ) → list_all is_name_part n ≡ true → is_ascii_name n ≡ true
+pub parts_ascii : (n : List ℕ) → list_all is_name_part n ≡ true → is_ascii_name n ≡ true
 parts_ascii [] e = refl
 parts_ascii (c ∷ cs) e = let w = and_parts (is_name_part c) (list_all is_name_part cs) e in and_from _ _ (part_ascii c w.0) (parts_ascii cs w.1)
 
 pub functions_named : (x : List ℕ) (names : List (List ℕ)) → IsFunctions x names → All IsName names
 functions_named _ _ form.no_functions = All-nil _
 functions_named _ _ (form.more_functions {n = n} {p = p} {x = x} {ns = ns} hn hp hs) = All-cons IsName n ns hn (functions_named x ns hs)
-
-abbrev IsAscii : List ℕ → Type 0
-IsAscii n = is_ascii_name n ≡ true
-
-named_ascii : (names : List (List ℕ)) → All IsName names → All IsAscii names
-named_ascii names h = All-weaker IsName IsAscii (λ n k. parts_ascii n k.parts) names h
-
-built_in_ascii : All IsAscii built_in_names
-built_in_ascii = All-cons IsAscii (codes "Object") (codes "Math" ∷ codes "String" ∷ []) refl (All-cons IsAscii (codes "Math") (codes "String" ∷ []) refl (All-cons IsAscii (codes "String") [] refl (All-nil IsAscii)))
-
--- every global's name is ASCII
-pub sound_ascii : (file : List ℕ) (externs : List (List ℕ)) (size : ℕ) (ss : List Statement) → IsExterns file externs → AreSound externs ss
-    → All (λ g. is_ascii_name g.name ≡ true) (program_of externs size ss).globals
-sound_ascii file externs size ss h s =
-    let outside = All-append IsAscii externs built_in_names (named_ascii externs (functions_named file externs h.form)) built_in_ascii in
-    let P : GlobalInfo → Type 0 = λ g. is_ascii_name g.name ≡ true in
-    All-append P (map global_of_no_chunk (externs ++ built_in_names)) (map global_of_main (declared ss))
-    (All-map P global_of_no_chunk (externs ++ built_in_names) outside)
-    (All-map P global_of_main (declared ss) (named_ascii (declared ss) (declared_named ss s.writable)))
-
-pub globals_ascii : (file : List ℕ) (externs : List (List ℕ)) (text : List ℕ) (size : ℕ) (ss : List Statement) → IsExterns file externs → IsSource externs text ss
-    → All (λ g. is_ascii_name g.name ≡ true) (program_of externs size ss).globals
-globals_ascii file externs text size ss h s = sound_ascii file externs size ss h (sound_source externs text ss s)
-
--- the program of a source has a text
-pub source_spelled : (externs : List (List ℕ)) (text : List ℕ) (size : ℕ) (ss : List Statement) → IsSource externs text ss → (pieces : List Piece) × (spell_chunk (program_of externs size ss) 0 ≡ Some pieces)
-source_spelled externs text size ss h = sound_spelled externs size ss (sound_source externs text ss h)
 
 -- a name of the form is no built-in one
 not_built_in : (n : List ℕ) → IsName n → Contains built_in_names n → ⊥

@@ -2,15 +2,14 @@
 use Rattle.std.specs.Prelude.{◌≡◌, ℕ, ◌+◌, ◌⊎◌, Bool, true, false, cond, nat_eq, IsTrue, List, [], ◌∷◌, ◌++◌, codes, length, Some}
 use Rattle.cc_host.specs.Host.{View, Contents, file_of, IfShown, KeepsOtherFiles}
 use Rattle.cc_host.specs.Count.{Rose}
+use Rattle.cc_ast.specs.Syntax.{Program}
 use Rattle.cc_passes.specs.Phases.{optimised}
+use Rattle.cc_written.specs.Laws.{text_of}
 use Rattle.cc_driver.specs.declared.outcome.Outcome.{Outcome}
 use Rattle.cc_driver.specs.declared.outcome.Outcome.TheVariants.{Done, Read, Write, Unbuilt, Memory}
-use Rattle.cc_driver.specs.declared.spelling.Piece.{Piece}
 use Rattle.cc_driver.specs.declared.form.Statement.{Statement}
 use Rattle.cc_driver.specs.Form.{IsExterns, IsSource}
 use Rattle.cc_driver.specs.Source.{program_of}
-use Rattle.cc_driver.specs.Spelling.{spell_chunk, text_of}
-use Rattle.cc_driver.specs.Naming.{IsNaming}
 
 -- the words of a command line, with the names of the files that they give
 pub record IsJob (words : List (List ℕ)) (externs source output : List ℕ) : Type 0 where
@@ -20,13 +19,11 @@ pub record IsJob (words : List (List ℕ)) (externs source output : List ℕ) : 
 pub record WasRead (before : View) (file text : List ℕ) : Type 0 where
   pub held : (contents : Contents) → before.shown ≡ Some contents → file_of contents file ≡ Some text
 
--- the one text that is written for a source of so many bytes: of what the phases make of its program
+-- the one text that is written for a source of so many bytes: that of the one chunk of what the phases make of its program
 pub record IsOutput (externs : List (List ℕ)) (size : ℕ) (statements : List Statement) (output : List ℕ) : Type 0 where
-  pub pieces : List Piece
-  pub names : List (List ℕ)
-  pub spelled : spell_chunk (optimised (program_of externs size statements)) 0 ≡ Some pieces
-  pub named : IsNaming (optimised (program_of externs size statements)) pieces names
-  pub text : output ≡ text_of names pieces
+  pub program : Program
+  pub made : program ≡ optimised (program_of externs size statements)
+  pub text : output ≡ text_of program 0
 
 -- externs and a source of the form, with the text that is written for them
 pub record IsCompiled (externs source text : List ℕ) : Type 0 where

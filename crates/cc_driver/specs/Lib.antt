@@ -5,15 +5,7 @@ pub mod FormChecks
 pub mod Source
 pub mod Reach
 pub mod Sound
-pub mod Spelling
-pub mod Shapes
-pub mod Naming
-pub mod NamingSteps
 pub mod Compile
-pub mod Output
 pub mod Steps
 pub mod Status
-pub mod Again
-pub mod NamingLaw
-pub mod ReadsBack
 pub mod Headline

@@ -17,7 +17,7 @@ is_name_part c = is_name_start c || between 48 57 c
 abbrev pub is_in : List ℕ → List (List ℕ) → Bool
 is_in name = list_any (bytes_eq name)
 
--- ECMA-262 5.1, 7.6.1.1, 7.6.1.2 (with the words of strict code apart) and 7.8.1, 7.8.2
+-- ECMA-262 5.1, 7.6.1.1, 7.6.1.2 and 7.8.1, 7.8.2
 abbrev pub reserved_words : List (List ℕ)
 reserved_words =
     codes "break" ∷ codes "case" ∷ codes "catch" ∷ codes "continue" ∷ codes "debugger" ∷ codes "default" ∷ codes "delete" ∷ codes "do"
@@ -32,16 +32,6 @@ built_in_names = codes "Object" ∷ codes "Math" ∷ codes "String" ∷ []
 
 abbrev pub special_names : List (List ℕ)
 special_names = codes "eval" ∷ codes "arguments" ∷ codes "undefined" ∷ codes "NaN" ∷ codes "Infinity" ∷ []
-
--- the words of strict code (ECMA-262 5.1, 7.6.1.2), which a new name passes over
-abbrev pub strict_words : List (List ℕ)
-strict_words =
-    codes "let" ∷ codes "static" ∷ codes "yield" ∷ codes "implements" ∷ codes "interface" ∷ codes "package" ∷ codes "private"
-    ∷ codes "protected" ∷ codes "public" ∷ []
-
-abbrev pub starts_name : List ℕ → Bool
-starts_name [] = Bool.false
-starts_name (c ∷ cs) = is_name_start c
 
 -- a name of the form
 pub record IsName (name : List ℕ) : Type 0 where

@@ -1,19 +1,18 @@
 // The text that is written for externs and a source.
-ghost use Rattle.std.specs.Prelude.{◌≡◌, ◌≢◌, ℕ, List, None, IfOk, IfErr, All, length};
-ghost use Rattle.std.specs.Str.{IsAscii};
+ghost use Rattle.std.specs.Prelude.{◌≡◌, ℕ, List, IfOk, IfErr, length};
 ghost use Rattle.cc_driver.specs.Compile.{IsCompiled, IsOutput, IsRefused};
 ghost use Rattle.cc_driver.specs.Form.{IsExterns, IsSource};
-ghost use Rattle.cc_driver.specs.Output.{IsTextOf};
-ghost use Rattle.cc_driver.specs.Spelling.{spell_chunk};
+ghost use Rattle.cc_meaning.specs.WellMade.{WellMade};
+ghost use Rattle.cc_written.specs.Laws.{text_of};
 
 use crate::form::{Statement, read_externs, read_source};
-use crate::naming::name;
 use crate::outcome::Outcome;
 use crate::resolve::resolve;
-use crate::spelling::{spell, text};
 use cc_ast::program::Program;
 use cc_ast::units::Units;
 use cc_passes::optimise::optimise;
+use cc_printer::chunk::spell;
+use cc_rename::name_vars;
 use sqlite_items::Items;
 use std::alloc::{AllocError, Global};
 
@@ -47,15 +46,11 @@ fn made(
     Ok(written(alloc, &program)?)
 }
 
-/// The text of a program.
+/// The text of a program's first chunk, under the names of the program's variables.
 fn written(alloc: Global, program: &Program) -> Result<Vec<u8>, AllocError>
-    requires spelled { spell_chunk program.now 0 ≢ None }
-    requires ascii { All (λ info. IsAscii info.name) program.now.globals }
-    ensures { IfOk result (λ text. IsTextOf program.now text.items) }
+    requires { WellMade program.now }
+    ensures { IfOk result (λ text. text.items ≡ text_of program.now 0) }
 {
-    let Some(pieces) = spell(alloc, program)? else {
-        unreachable!()
-    };
-    let names = name(alloc, program, &pieces)?;
-    Ok(text(alloc, &names, &pieces)?)
+    let names = name_vars(alloc, program)?;
+    Ok(spell(alloc, program, 0, &names)?)
 }

@@ -115,6 +115,12 @@ pub distinct_tail : (x : List ℕ) (xs : List (List ℕ)) → Distinct (x ∷ xs
 unfolding IsDistinct
 distinct_tail x xs d = d.1
 
+-- what stands in one part stands in no other
+pub two_parts : (xs ys : List (List ℕ)) → Distinct (xs ++ ys) → (x : List ℕ) → In x xs → In x ys → ⊥
+two_parts [] ys d x h k = elim h [ ]
+two_parts (x ∷ xs) ys d _ here k = distinct_head x (xs ++ ys) d (in_right xs k)
+two_parts (x ∷ xs) ys d y (there h) k = two_parts xs ys (distinct_tail x (xs ++ ys) d) y h k
+
 -- names stay different under a map that keeps them apart
 pub distinct_map : (f : List ℕ → List ℕ) (xs : List (List ℕ)) → ((x y : List ℕ) → In x xs → In y xs → f x ≡ f y → x ≡ y) → Distinct xs → Distinct (map f xs)
 unfolding IsDistinct

@@ -10,9 +10,8 @@ use Rattle.cc_driver.specs.Names.{built_in_names}
 use Rattle.cc_driver.specs.Form.{declared}
 use Rattle.cc_driver.specs.Source.{number_of, program_of, global_names, global_of_no_chunk, global_of_main}
 use Rattle.cc_driver.specs.declared.form.Statement.{Statement}
-use Rattle.cc_driver.proofs.Promise.Lists.{Distinct, in_left}
+use Rattle.cc_driver.proofs.Promise.Lists.{Distinct, in_left, two_parts}
 use Rattle.cc_driver.proofs.Promise.Numbers.{left_at, right_at, number_head, number_tail, behind}
-use Rattle.cc_driver.proofs.Promise.SourceNames.{two_parts}
 
 inner_none : (ys : List (List ℕ)) → without_chunk (map global_of_main ys) ≡ 0
 unfolding without_chunk

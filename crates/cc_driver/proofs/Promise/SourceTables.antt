@@ -10,7 +10,7 @@ use Rattle.cc_driver.specs.Names as names
 use Rattle.cc_driver.specs.Names.{built_in_names, reserved_words, special_names, IsName}
 use Rattle.cc_driver.specs.Source.{global_of_no_chunk, global_of_main}
 use Rattle.cc_driver.proofs.Promise.Lists.{in_mapped, in_either, in_got}
-use Rattle.cc_driver.proofs.Promise.Naming.{neither_from, not_in}
+use Rattle.cc_driver.proofs.Promise.NameTests.{neither_from, not_in}
 
 same_some : {X : Type 0} {x y : X} → Some x ≡ Some y → x ≡ y
 same_some e = cc
