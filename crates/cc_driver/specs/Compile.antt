@@ -3,7 +3,8 @@ use Rattle.std.specs.Prelude.{◌≡◌, ℕ, ◌+◌, ◌⊎◌, Bool, true, fa
 use Rattle.cc_host.specs.Host.{View, Contents, file_of, IfShown, KeepsOtherFiles}
 use Rattle.cc_host.specs.Count.{Rose}
 use Rattle.cc_ast.specs.Syntax.{Program}
-use Rattle.cc_passes.specs.Phases.{optimised}
+use Rattle.cc_core.specs.Events.{IsOneWorkers}
+use Rattle.cc_passes.specs.Phases.{folding}
 use Rattle.cc_written.specs.Laws.{text_of}
 use Rattle.cc_driver.specs.declared.outcome.Outcome.{Outcome}
 use Rattle.cc_driver.specs.declared.outcome.Outcome.TheVariants.{Done, Read, Write, Unbuilt, Memory}
@@ -19,10 +20,10 @@ pub record IsJob (words : List (List ℕ)) (externs source output : List ℕ) : 
 pub record WasRead (before : View) (file text : List ℕ) : Type 0 where
   pub held : (contents : Contents) → before.shown ≡ Some contents → file_of contents file ≡ Some text
 
--- the one text that is written for a source of so many bytes: that of the one chunk of what the phases make of its program
+-- the one text that is written for a source of so many bytes: that of the one chunk of what one worker makes of its program
 pub record IsOutput (externs : List (List ℕ)) (size : ℕ) (statements : List Statement) (output : List ℕ) : Type 0 where
   pub program : Program
-  pub made : program ≡ optimised (program_of externs size statements)
+  pub made : IsOneWorkers folding (program_of externs size statements) program
   pub text : output ≡ text_of program 0
 
 -- externs and a source of the form, with the text that is written for them

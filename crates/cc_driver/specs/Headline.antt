@@ -30,7 +30,7 @@ pub record IsFaithful (externs : List (List ℕ)) (source : List ℕ) (statement
   pub only : (file : ℕ) (other : RawStmts) → IsReading (chars text) file other → other ≡ tree file
   -- With the same externs it resolves, nothing refused,
   pub resolved : (file : ℕ) (read : resolution.Source) → IsMain externs (tree file) read → resolve read ≡ answered (resolution.program_of read)
-  -- to a program that is alike to the one that the phases made,
+  -- to a program that is alike to the one that was made of the source's,
   pub alike : (file : ℕ) (read : resolution.Source) → IsMain externs (tree file) read → Alike made (resolution.program_of read)
   -- and that agrees with the source's: for every load order, every turn and reply of the outside
   -- and every bound, while the source's run breaks no rule, the written program makes the same calls with
@@ -49,7 +49,7 @@ pub record Headline (words : List (List ℕ)) (before after : View) : Type 0 whe
   pub externs_read : WasRead before externs_file externs
   pub source_read : WasRead before source_file source
   -- both files were of the form, and the text is the one that the definitions of naming and spelling give
-  -- for what the phases make of the source's program;
+  -- for what one worker makes of the source's program;
   pub compiled : IsCompiled externs source text
   -- the output file holds this text,
   pub written : IfShown before.shown after.shown (λ old new. file_of new output_file ≡ Some text)

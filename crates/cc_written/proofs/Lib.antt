@@ -6,4 +6,4 @@ mod Seen
 mod Scopes
 mod NoPlaces
 mod Outer
-mod Whole
+pub mod Whole

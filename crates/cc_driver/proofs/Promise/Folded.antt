@@ -1,5 +1,5 @@
--- What the phases make of the program of sound statements is the program of what folding makes of them.
-use Rattle.std.proofs.Common.{◌≡◌, refl, sym, ap, ◌∙◌, ℕ, zero, suc, ◌+◌, length, Bool, true, false, List, [], ◌∷◌, ◌++◌, map, Option, Some, None, arith, le-leb}
+-- What a round makes of the program of sound statements is the program of what folding makes of them.
+use Rattle.std.proofs.Common.{◌≡◌, refl, sym, ap, ◌∙◌, ℕ, ◌+◌, length, Bool, true, false, List, [], ◌∷◌, ◌++◌, map, Option, Some, None, arith, le-leb}
 use Rattle.std.specs.Prelude.{ℤ, ◌+ℤ◌, unwrap_or}
 use Rattle.cc_ast.specs.declared.operator.BinOp.TheVariants.{Add}
 use Rattle.cc_ast.specs.declared.tree.Ref.{Ref}
@@ -15,7 +15,7 @@ use Rattle.cc_tied.specs.Placed.{a_value, a_callee, keeps, guard}
 use Rattle.cc_tied.specs.Rewrites.{put, put_call, re, re_all, re_value, re_option, re_declarator, re_declarators, re_stmt, re_stmts}
 use Rattle.cc_fold.specs.Built.{built_globals, built_in}
 use Rattle.cc_fold.specs.Fold.{price_of, unmarked, marked, charged, Literal, literal_at, literal, computed, computed_of_two, fold_binary, fold, same_call, same_declarator, same_name, same_stmt, fold_scope}
-use Rattle.cc_passes.specs.Phases.{folded, rounds, optimised}
+use Rattle.cc_passes.specs.Phases.{folded}
 use Rattle.cc_driver.specs.Source.{global_of_no_chunk, global_of_main, number_of, operand_tree, chain_tree, value_tree, statement_tree, global_names, main_scope, program_of}
 use Rattle.cc_driver.specs.Sound.{IsSmall, small, OperandFit, MoreFit, ValueFit, ValuesFit, StatementFit, StatementsFit, AreSound}
 use Rattle.cc_driver.specs.Names.{IsName, built_in_names}
@@ -25,7 +25,7 @@ use Rattle.cc_driver.specs.declared.form.Added.{Added}
 use Rattle.cc_driver.specs.declared.form.Value.{Value}
 use Rattle.cc_driver.specs.declared.form.Statement.{Statement}
 use Rattle.cc_driver.specs.declared.form.Statement.TheVariants.{Declares, Calls}
-use Rattle.cc_driver.proofs.Promise.Folding.{prim_of, sum_of, chain_by, fold_chain, fold_value, fold_statement, fold_all, fold_times, IsSum, sum_is, sum_fit, same_declared, folded_sound, times_sound}
+use Rattle.cc_driver.proofs.Promise.Folding.{prim_of, sum_of, chain_by, fold_chain, fold_value, fold_statement, fold_all, IsSum, sum_is, sum_fit, same_declared}
 
 picked_same : {A : Type 0} (b : Bool) (x : A) → pick b x x ≡ x
 picked_same true x = refl
@@ -174,21 +174,8 @@ with_names externs size ds ss = record (program_of externs size ds) { scopes = m
 names_same : (externs : List (List ℕ)) (size : ℕ) (ss : List Statement) → with_names externs size ss (fold_all ss) ≡ program_of externs size (fold_all ss)
 names_same externs size ss = ap (λ ns. let p : S.Program = record (program_of externs size ss) { scopes = main_scope (externs ++ built_in_names ++ ns) (fold_all ss) ∷ []; globals = map global_of_no_chunk (externs ++ built_in_names) ++ map global_of_main ns } in p) (sym (same_declared ss))
 
-round_folds : (externs : List (List ℕ)) (size : ℕ) (ss : List Statement) → AreSound externs ss → folded (program_of externs size ss) ≡ program_of externs size (fold_all ss)
+-- a round folds the statements
+pub round_folds : (externs : List (List ℕ)) (size : ℕ) (ss : List Statement) → AreSound externs ss → folded (program_of externs size ss) ≡ program_of externs size (fold_all ss)
 round_folds externs size ss s =
     let P : S.Program = program_of externs size ss in
     ap (λ z. let p : S.Program = record P { scopes = z ∷ [] } in p) (scope_folds (built_in (built_globals P)) (global_names externs ss) ss s.writable) ∙ names_same externs size ss
-
-pub rounds_fold : (n : ℕ) (externs : List (List ℕ)) (size : ℕ) (ss : List Statement) → AreSound externs ss → rounds n (program_of externs size ss) ≡ program_of externs size (fold_times n ss)
-rounds_fold zero externs size ss s = refl
-rounds_fold (suc n) externs size ss s = ap (rounds n) (round_folds externs size ss s) ∙ rounds_fold n externs size (fold_all ss) (folded_sound externs ss s)
-
--- what folding makes of the statements of a source, once and for all
-abbrev pub made_of : List Statement → List Statement
-made_of ss = fold_times 12 ss
-
-pub source_folds : (externs : List (List ℕ)) (size : ℕ) (ss : List Statement) → AreSound externs ss → optimised (program_of externs size ss) ≡ program_of externs size (made_of ss)
-source_folds externs size ss s = rounds_fold 12 externs size ss s
-
-pub made_sound : (externs : List (List ℕ)) (ss : List Statement) → AreSound externs ss → AreSound externs (made_of ss)
-made_sound externs ss s = times_sound 12 externs ss s

@@ -57,10 +57,6 @@ fold_statement (Calls at n vs) = Calls at n (map fold_value vs)
 abbrev pub fold_all : List Statement → List Statement
 fold_all ss = map fold_statement ss
 
-abbrev pub fold_times : ℕ → List Statement → List Statement
-fold_times zero ss = ss
-fold_times (suc n) ss = fold_times n (fold_all ss)
-
 -- ---- what a sum is
 
 -- a sum of two operands: of texts, of a text and a number, or of numbers with an exact sum
@@ -189,7 +185,3 @@ folded_sound externs ss s = record {
   declared_once = subst (λ z. IsDistinct bytes_eq z) (sym (same_declared ss)) s.declared_once;
   declared_are_new = subst (λ z. All (λ name. Contains externs name → ⊥) z) (sym (same_declared ss)) s.declared_are_new;
 }
-
-pub times_sound : (n : ℕ) (externs : List (List ℕ)) (ss : List Statement) → AreSound externs ss → AreSound externs (fold_times n ss)
-times_sound zero externs ss s = s
-times_sound (suc n) externs ss s = times_sound n externs (fold_all ss) (folded_sound externs ss s)

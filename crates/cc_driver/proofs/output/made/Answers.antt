@@ -1,11 +1,10 @@
-use Rattle.std.proofs.Common.{◌≡◌, sym, ap, ◌∙◌, subst}
+use Rattle.std.proofs.Common.{sym, subst}
 use Rattle.cc_ast.specs.Syntax.{Program}
+use Rattle.cc_core.specs.Events.{IsOneWorkers}
 use Rattle.cc_meaning.specs.WellMade.{WellMade}
 use Rattle.cc_tied.specs.Promises.{HasNoPaths}
-use Rattle.cc_passes.specs.Phases.{optimised}
+use Rattle.cc_passes.specs.Phases.{folding}
 use Rattle.cc_driver.specs.Source.{program_of}
-use Rattle.cc_driver.proofs.Promise.Fit.{sound_source}
-use Rattle.cc_driver.proofs.Promise.Made.{made_by}
 use Rattle.cc_driver.proofs.Promise.SourceWellMade.{source_well}
 use Rattle.cc_driver.proofs.Promise.SourcePaths.{source_has_no_paths}
 use Rattle.cc_driver.proofs.output.made.Goals as goal
@@ -23,13 +22,11 @@ optimise-requires-clause-no_paths c =
     subst (λ (p : Program). HasNoPaths p) (sym c.in_ok-program.ensures) (source_has_no_paths c.args.externs.now c.args.size c.args.statements.now)
 
 pub written-requires : goal.written-requires
-written-requires c =
-    let externs = c.args.externs.now in
-    let ss = c.args.statements.now in
-    let source = c.requires.of_source in
-    let at_size = subst (λ n. WellMade (program_of externs n ss)) source.1 (source_well c.requires.of_externs.0 externs source.0 ss c.requires.of_externs.1 source.2) in
-    let made : c.in_ok-program-2.program ≡ optimised (program_of externs c.args.size ss) = c.in_ok-program-2.ensures ∙ ap optimised c.in_ok-program.ensures in
-    (made_by externs c.args.size ss c.in_ok-program-2.program (sound_source externs source.0 ss source.2) at_size made).well
+written-requires c = c.in_ok-program-2.ensures.well
 
 pub returns : goal.returns
-returns c = record { program = c.in_ok-program-2.program; made = c.in_ok-program-2.ensures ∙ ap optimised c.in_ok-program.ensures; text = c.in_ok-written.ensures }
+returns c = record {
+  program = c.in_ok-program-2.program;
+  made = subst (λ (p : Program). IsOneWorkers folding p c.in_ok-program-2.program) c.in_ok-program.ensures c.in_ok-program-2.ensures.one_worker;
+  text = c.in_ok-written.ensures;
+}
