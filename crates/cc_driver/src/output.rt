@@ -11,7 +11,7 @@ use crate::resolve::resolve;
 use cc_ast::program::Program;
 use cc_ast::units::Units;
 use cc_passes::optimise::optimise;
-use cc_printer::chunk::spell;
+use cc_printer::spell;
 use cc_rename::name_vars;
 use sqlite_items::Items;
 use std::alloc::{AllocError, Global};
