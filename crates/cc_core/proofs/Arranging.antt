@@ -1,5 +1,5 @@
 -- What writing one slot, or the beginning of a phase, leaves of the order in which slots are kept.
-use Rattle.std.proofs.Common.{◌≡◌, ℕ, zero, suc, ◌+◌, ◌-◌, ◌<◌, ◌≤◌, ◌==◌, ◌^◌, List, All, [], ◌∷◌, length, map, Bool, true, false, not, Option, Some, None, cond, leb, slice_get, slice_set, slice_index_or, refl, sym, ap, ◌∙◌, subst, arith, position, eq-eqb, Result, Ok, Err, IfOk}
+use Rattle.std.proofs.Common.{◌≡◌, ℕ, zero, suc, ◌+◌, ◌<◌, ◌≤◌, ◌==◌, ◌^◌, List, [], ◌∷◌, length, map, Bool, true, false, not, Some, None, cond, leb, slice_get, slice_set, slice_index_or, refl, sym, ap, ◌∙◌, subst, arith, position, eq-eqb, Result, Ok, Err, IfOk}
 use Rattle.std.proofs.lemmas.Bool.{eqb-true}
 use Rattle.cc_ast.specs.Syntax.{Scope}
 use Rattle.cc_core.specs.State as core
@@ -8,7 +8,7 @@ use Rattle.cc_core.specs.Events.{at_place}
 use Rattle.cc_core.specs.declared.slots.Mark.TheVariants.{Pending, Claimed, Kept, Changed, Aside}
 use Rattle.cc_core.specs.declared.slots.Slot.{Slot}
 use Rattle.cc_core.specs.SlotState.{NoneBefore, NoneLater, Rising, Arranged, idle, open_at, seen, all_seen, all_idle, due, set_all, slot_of, slots_of, is_pending_inside, is_claimed_inside, is_open_inside, is_changed_inside, is_listed, changes, test_at, picked, counted}
-use Rattle.cc_core.proofs.Listed.{Within, places_picked, get_here, get_seen, test_seen, found_listed, none_listed, none_kept, none_later, length_set, length_set_all, counted_set, places_set, less_before, places_rise}
+use Rattle.cc_core.proofs.Listed.{Within, places_picked, get_here, get_seen, test_seen, found_listed, none_listed, none_kept, none_later, length_set, counted_set, places_set, less_before, places_rise}
 use Rattle.cc_core.proofs.SlotLemmas.{slots_of_set, changes_same, changes_set, done_at_place, position_within, found_here}
 use Rattle.cc_core.proofs.Cursor.{before_first, none_anywhere}
 

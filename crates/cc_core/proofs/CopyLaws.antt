@@ -1,5 +1,5 @@
 -- Scopes that are put into their slots.
-use Rattle.std.proofs.Common.{◌≡◌, ℕ, zero, suc, ◌+◌, ◌<◌, ◌≤◌, List, [], ◌∷◌, ◌++◌, length, map, take, Bool, true, false, not, Option, Some, None, cond, slice_get, slice_set, slice_index_or, refl, sym, ap, ◌∙◌, subst, arith, add-one}
+use Rattle.std.proofs.Common.{◌≡◌, ℕ, zero, suc, ◌+◌, ◌<◌, ◌≤◌, List, [], ◌∷◌, ◌++◌, length, map, take, Bool, true, false, not, Some, slice_get, slice_set, slice_index_or, refl, sym, ap, ◌∙◌, subst, arith, add-one}
 use Rattle.std.proofs.lemmas.List.{take_all}
 use Rattle.cc_ast.specs.Syntax.{Scope}
 use Rattle.cc_ast.specs.Codes.{coded_scope}

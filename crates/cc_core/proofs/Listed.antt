@@ -1,12 +1,12 @@
 -- The slots that a phase visits, and the places at which a test is met among them.
-use Rattle.std.proofs.Common.{◌≡◌, ℕ, zero, suc, ◌+◌, ◌<◌, ◌≤◌, ◌==◌, List, All, [], ◌∷◌, ◌++◌, length, take, Bool, true, false, not, Some, None, cond, slice_get, slice_set, slice_index_or, refl, sym, ap, ◌∙◌, subst, arith, position, add-one, leb, eq-eqb, one-add}
+use Rattle.std.proofs.Common.{◌≡◌, ℕ, zero, suc, ◌+◌, ◌<◌, ◌≤◌, List, All, [], ◌∷◌, ◌++◌, length, take, Bool, true, false, Some, None, cond, slice_get, slice_set, slice_index_or, refl, sym, ap, ◌∙◌, arith, position, add-one, leb}
 use Rattle.std.proofs.lemmas.Bool.{leb-false, lt-leb}
 use Rattle.std.proofs.lemmas.List.{take_all, append-nil}
 use Rattle.std.proofs.lemmas.List.Elements.{All-head, All-tail}
 use Rattle.cc_core.specs.State.{places, with_if, chosen}
 use Rattle.cc_core.specs.declared.slots.Mark.TheVariants.{Pending, Claimed, Kept, Changed, Aside}
 use Rattle.cc_core.specs.declared.slots.Slot.{Slot}
-use Rattle.cc_core.specs.SlotState.{NoneBefore, Rising, idle, seen, all_seen, all_idle, set_all, is_pending_inside, is_claimed_inside, is_open_inside, is_changed_inside, is_listed, test_at, picked, counted}
+use Rattle.cc_core.specs.SlotState.{NoneBefore, Rising, idle, seen, all_seen, all_idle, set_all, is_pending_inside, is_claimed_inside, is_changed_inside, is_listed, test_at, picked, counted}
 use Rattle.cc_core.proofs.Cursor.{first_found, none_found, none_more}
 
 -- a test that is met by listed slots alone

@@ -1,8 +1,8 @@
 -- The program of one worker is one, and where the phases have a bound it exists.
-use Rattle.std.proofs.Common.{◌≡◌, ℕ, zero, suc, ◌+◌, ◌<◌, Bool, true, false, Option, Some, None, refl, sym, ap, ◌∙◌, subst, arith}
+use Rattle.std.proofs.Common.{◌≡◌, ℕ, zero, suc, ◌+◌, ◌<◌, Option, Some, None, refl, sym, ap, ◌∙◌, subst, arith}
 use Rattle.cc_ast.specs.Syntax.{Program}
 use Rattle.cc_core.specs.Work.{Work, phase, after_phases}
-use Rattle.cc_core.specs.Events.{ends, IsOneWorkers, EndsWithin, Bounded}
+use Rattle.cc_core.specs.Events.{ends, IsOneWorkers, Bounded}
 
 data Order : ℕ → ℕ → Type 0 where
   less : {m n : ℕ} → m < n → Order m n

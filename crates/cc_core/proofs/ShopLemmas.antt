@@ -1,11 +1,11 @@
 -- What a shop keeps at each call.
-use Rattle.std.proofs.Common.{◌≡◌, ℕ, zero, suc, ◌+◌, ◌<◌, List, [], ◌∷◌, length, Bool, true, false, Option, Some, None, cond, slice_get, slice_set, refl, sym, ap, ◌∙◌, subst, arith, position, ◌^◌, ◌==◌, not, eq-eqb, eqb-true, is_some, add-one, slice_index_or}
+use Rattle.std.proofs.Common.{◌≡◌, ℕ, zero, suc, ◌+◌, ◌<◌, List, [], ◌∷◌, length, Bool, true, false, Option, Some, None, cond, slice_get, slice_set, refl, sym, ap, ◌∙◌, subst, arith, position, ◌^◌, ◌==◌, not, eq-eqb, eqb-true, add-one, slice_index_or}
 use Rattle.cc_ast.specs.Syntax.{Program, Scope, Heads}
 use Rattle.cc_core.specs.Work.{Work, Lawful, with_scopes, with_heads, heads_of, heads_after, rewrites, phase, step_after, mixed, after_phases, history, visited}
 use Rattle.cc_core.specs.State as core
 use Rattle.cc_core.specs.State.{undone, started, all_fresh, laid, fresh, Shown, Done, State, is_pending, is_claimed, is_done, is_done_at, with_slots, scope_in, in_place, reading, Sound, chosen, places}
 use Rattle.cc_core.specs.Events.{Closes, event, after_close, entered, claimed, one_more, put_in, given_back, at_place, at_found, after_put, IsRewrite, follows, is_due}
-use Rattle.cc_core.specs.Makes.{made_of, made_of_some, made_at, TellsChange, IsMade}
+use Rattle.cc_core.specs.Makes.{made_of_some, made_at, IsMade}
 use Rattle.cc_core.specs.Changed.{differing}
 use Rattle.cc_core.specs.Copies.{copies, Inside, written}
 use Rattle.cc_core.specs.declared.made.Made.{Made}
@@ -366,7 +366,7 @@ module _ {P Q : Type 0} (W : Work P) (law : Lawful W) (stands : Q → List (ℕ 
   turned_due none goes step' changed scopes heads plan' heads' all on some some_is =
       let past : List (ℕ × Program) = (step, base) ∷ history W source closed in
       let visits : W.visits past step' made ≡ W.visits past (step_after W step base) (phase W step base) =
-          ap (λ (n : ℕ). W.visits past n made) on.step_is ∙ ap (W.visits past (step_after W step base)) (made_phase none) in
+      ap (λ (n : ℕ). W.visits past n made) on.step_is ∙ ap (W.visits past (step_after W step base)) (made_phase none) in
       due_slots (length slots) goes some all on.follows_is
       (some_is ∙ (ap (λ (v : ℕ → Bool). chosen v 0 (length made.scopes)) visits ∙ ap (chosen (W.visits past (step_after W step base) (phase W step base)) 0) (sym slots_made)))
       (λ e. on.all_are e ∙ ap (chosen (λ _. true) 0) (length_slots_of made.scopes slots))

@@ -1,8 +1,7 @@
 -- What a change of one slot is to the state.
-use Rattle.std.proofs.Common.{◌≡◌, ℕ, zero, suc, ◌+◌, ◌<◌, ◌≤◌, List, [], ◌∷◌, length, Bool, true, false, not, Option, Some, None, cond, slice_get, slice_set, refl, sym, ap, ◌∙◌, subst, arith, position, ltb, one-add, slice_index_or, ◌^◌, take, ◌++◌, length-append}
+use Rattle.std.proofs.Common.{◌≡◌, ℕ, zero, suc, ◌+◌, ◌<◌, List, [], ◌∷◌, length, Bool, true, false, not, Option, Some, None, cond, slice_get, slice_set, refl, sym, ap, ◌∙◌, arith, position, ltb, one-add, slice_index_or, ◌^◌}
 use Rattle.std.proofs.lemmas.Bool.{ltb-true, not-false}
 use Rattle.std.proofs.lemmas.Option.{slice_get_within}
-use Rattle.std.proofs.lemmas.List.{take_all}
 use Rattle.std.specs.List.{prefix_len, position_or_len}
 use Rattle.cc_core.specs.State as core
 use Rattle.cc_core.specs.Events as act

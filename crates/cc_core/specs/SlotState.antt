@@ -1,6 +1,6 @@
 -- What the slots of a shop are to a contract.
 use Rattle.std.specs.Prelude.{◌≡◌, ℕ, ◌+◌, ◌<◌, ◌≤◌, ◌^◌, ◌==◌, List, [], ◌∷◌, length, Bool, true, false, cond, refl, slice_set}
-use Rattle.std.specs.Coded.{Coded, code_by, coded_list, coded×, coded_ℕ}
+use Rattle.std.specs.Coded.{Coded, code_by, coded×, coded_ℕ}
 use Rattle.std.proofs.Common.{zero, suc}
 use Rattle.cc_ast.specs.Syntax.{Scope}
 use Rattle.cc_core.specs.Makes.{no_scope}

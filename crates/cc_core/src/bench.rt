@@ -65,6 +65,12 @@ impl<R: Rules> Bench<R> {
         requires slot { claim.now.slot < length self.now.base.scopes }
         ensures { IfOk result (λ made. IsMade (R.work self.now.rules) self.now.closed self.now.step self.now.base claim.now.phase claim.now.slot made) }
     {
-        make(self.alloc, &*self.rules, &*self.plan, &self.base, claim.slot)
+        make(
+            self.alloc,
+            &*self.rules,
+            &*self.plan,
+            &self.base,
+            claim.slot,
+        )
     }
 }

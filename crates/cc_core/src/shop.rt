@@ -342,14 +342,7 @@ impl<R: Rules> Shop<R> {
         let Ok(base) = copy_program(alloc, &self.base) else {
             return Err(AllocError);
         };
-        Ok(lay_out(
-            alloc,
-            rules,
-            base,
-            plan,
-            self.slots.phase(),
-            self.step,
-        ))
+        Ok(lay_out(alloc, rules, base, plan, self.slots.phase(), self.step))
     }
 
     /// The step after this phase, laid out for the program that it made.
@@ -467,7 +460,8 @@ impl<R: Rules> Shop<R> {
             &self.made,
             &changed,
             step,
-        ) else {
+        )
+        else {
             return Err(AllocError);
         };
         let Laid { plan, heads: after } = laid;

@@ -1,5 +1,4 @@
-use Rattle.std.proofs.Common.{ℕ, ◌≡◌, List, [], ◌∷◌, ◌++◌, length, slice_set, sym, ap, ◌∙◌, subst}
-use Rattle.cc_ast.specs.Syntax.{Program}
+use Rattle.std.proofs.Common.{ℕ, ◌≡◌, List, length, slice_set, sym, ap, ◌∙◌, subst}
 use Rattle.cc_core.specs.Work.{with_scopes}
 use Rattle.cc_core.specs.declared.programs.Change.{Change}
 use Rattle.cc_core.specs.Copies.{Inside, written}

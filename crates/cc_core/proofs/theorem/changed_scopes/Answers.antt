@@ -1,4 +1,4 @@
-use Rattle.std.proofs.Common.{◌+◌, ℕ, Bool, true, length, cond, ap, ◌∙◌}
+use Rattle.std.proofs.Common.{◌+◌, Bool, true, length, cond, ap, ◌∙◌}
 use Rattle.cc_core.specs.Work.{Lawful, phase, visited}
 use Rattle.cc_core.specs.State.{chosen}
 use Rattle.cc_core.proofs.Machine.{step_visited, pending_after}

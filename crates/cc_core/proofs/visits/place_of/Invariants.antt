@@ -1,4 +1,4 @@
-use Rattle.std.proofs.Common.{ℕ, ◌≤◌, ◌-◌, length, leb}
+use Rattle.std.proofs.Common.{◌≤◌, ◌-◌, length, leb}
 use Rattle.cc_core.specs.SlotState.{NoneBefore}
 use Rattle.cc_core.proofs.visits.place_of.Given as goal
 

@@ -1,4 +1,4 @@
-use Rattle.std.proofs.Common.{◌≡◌, List, ℕ, cond, sym, ap, ◌∙◌, length}
+use Rattle.std.proofs.Common.{◌≡◌, ap, ◌∙◌, length}
 use Rattle.cc_core.specs.Work.{Lawful, with_heads, history}
 use Rattle.cc_ast.specs.Syntax.{Program}
 use Rattle.cc_core.specs.State.{chosen}

@@ -1,5 +1,4 @@
-use Rattle.std.proofs.Common.{ℕ, ◌≡◌, ◌<◌, length, subst, sym, ◌∙◌}
-use Rattle.cc_core.specs.Work.{Lawful}
+use Rattle.std.proofs.Common.{ℕ, ◌<◌, length, subst}
 use Rattle.cc_core.specs.SlotState.{slots_of}
 use Rattle.cc_core.proofs.ShopLemmas.{kept_length}
 use Rattle.cc_core.proofs.Arranging.{if_ok}

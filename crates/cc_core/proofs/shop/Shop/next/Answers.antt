@@ -1,4 +1,4 @@
-use Rattle.std.proofs.Common.{◌≡◌, sym, ap, ◌∙◌, is_some, subst}
+use Rattle.std.proofs.Common.{◌≡◌, sym, ap, ◌∙◌, is_some}
 use Rattle.cc_core.specs.Work.{Lawful, phase, or_stay, step_after}
 use Rattle.cc_core.proofs.ShopLemmas.{made_phase}
 use Rattle.cc_core.proofs.shop.Shop.next.Goals as goal

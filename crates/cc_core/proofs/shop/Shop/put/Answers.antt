@@ -1,4 +1,4 @@
-use Rattle.std.proofs.Common.{◌≡◌, ℕ, ◌<◌, length, sym, subst, true, false, not, ap, ◌∙◌, cond}
+use Rattle.std.proofs.Common.{◌≡◌, ℕ, ◌<◌, length, subst, ◌∙◌}
 use Rattle.cc_core.specs.Work.{Lawful}
 use Rattle.cc_core.specs.Makes.{made_at}
 use Rattle.cc_core.specs.SlotState.{slots_of}

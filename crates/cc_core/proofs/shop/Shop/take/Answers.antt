@@ -1,4 +1,4 @@
-use Rattle.std.proofs.Common.{◌≡◌, true, false, ap, sym, ◌∙◌}
+use Rattle.std.proofs.Common.{◌≡◌, true, ap, sym, ◌∙◌}
 use Rattle.cc_core.specs.Work.{Lawful}
 use Rattle.cc_core.proofs.ShopLemmas.{made_reads}
 use Rattle.cc_core.proofs.shop.Shop.take.Goals as goal

@@ -1,12 +1,7 @@
-use Rattle.std.proofs.Common.{ℕ, ◌≡◌, ◌+◌, ◌-◌, ◌<◌, List, Some, None, true, false, length, position, cond, not, slice_get, slice_set, slice_index_or, refl, sym, ap, ◌∙◌, subst, arith}
-use Rattle.cc_ast.specs.Syntax.{Scope}
-use Rattle.cc_core.specs.State.{is_pending, is_claimed, places, chosen}
-use Rattle.cc_core.specs.Events.{at_found, at_place, claimed, one_more, put_in, given_back, entered}
-use Rattle.cc_core.specs.SlotState.{NoneBefore, NoneLater, picked, Arranged, all_seen, seen, test_at, slot_of, slots_of, due, all_idle, open_at, is_pending_inside, is_claimed_inside, is_open_inside, is_changed_inside, is_listed, changes}
-use Rattle.cc_core.proofs.Cursor.{none_less}
-use Rattle.cc_core.proofs.Listed.{pending_within, claimed_within, changed_within, places_picked, test_get}
-use Rattle.cc_core.proofs.SlotLemmas.{found_pending, found_claimed, done_at_place, undone_counted, slots_of_put_at, places_pending}
-use Rattle.cc_core.proofs.Arranging.{below_visited, below_chosen, rising_visited, found_by, found_nowhere, met_here, never, open_of_pending, open_counts, get, written, slots_written, changes_written, changes_put, none_stays, none_set_later, arranged_set, arranged_due, due_is, idle_next, later_more, later_idle, seen_idle, length_seen, length_idle, length_chosen, counted_all, stamp_of, seen_set, done_at_index, places_changes, if_ok, picked_places}
+use Rattle.std.proofs.Common.{◌≡◌, true, length, sym, ap, ◌∙◌, subst, arith}
+use Rattle.cc_core.specs.State.{chosen}
+use Rattle.cc_core.specs.SlotState.{NoneLater, all_seen}
+use Rattle.cc_core.proofs.Arranging.{below_chosen, arranged_due, due_is, later_idle, seen_idle, length_idle, counted_all}
 use Rattle.cc_core.proofs.slots.Slots.begin.Goals as goal
 
 pub open_all-requires : goal.open_all-requires
